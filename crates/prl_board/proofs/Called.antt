@@ -1,5 +1,5 @@
 -- What a call of a seat leaves to the one thread that has lent it the view that has all parts.
-use Rattle.std.proofs.Common.{◌≡◌, ◌<◌, ℕ, sym, ap, ◌∙◌, subst, set, get_or, length, length-set, arith, List, Some, None}
+use Rattle.std.proofs.Common.{◌≡◌, ◌<◌, ℕ, sym, ap, ◌∙◌, subst, set, get_or, length, length-set, arith, List, [], Some, None}
 use Rattle.std.proofs.lemmas.Option.{slice_get_within}
 use Rattle.std.specs.Prelude.{slice_get}
 use lib.ListN.{get_elem?}
@@ -78,6 +78,21 @@ look_is_exact k i r u v n s told follows = told.own (part_of i u) follows.at.par
 -- the seat as it stood with the view that it has given back
 pub seen_again : (table other : TableId) (id n : ℕ) (v u : View) (s t : JobSeatView) → table ≡ s.table → id ≡ s.id → v ≡ s.view → t ≡ reseated other n u s → reseated table id v t ≡ s
 seen_again table other id n v u s t a b c d = λ h. reseated (a h) (b h) (c h) (d h)
+
+-- A seat is lent the view as `s`, answers as `t`, and stands as `after` when it has given the view back.
+pub same_after : {X : Type 0} {table bare_table other : TableId} {id bare_id n : ℕ} {u spare : View} {me : View × List X} {s after : JobSeatView} (seat t : JobSeatView) →
+    s ≡ reseated table id u seat → after ≡ reseated bare_table bare_id spare t → (other ≡ t.table) × (n ≡ t.id) × (me ≡ (t.view, [])) → t.table ≡ s.table → t.task ≡ s.task →
+    (other ≡ table) × (me.1 ≡ []) × (after.task ≡ seat.task)
+same_after seat t lent back given tables tasks =
+    (given.0 ∙ tables ∙ ap (λ (x : JobSeatView). x.table) lent, ap (λ m. m.1) given.2, ap (λ (x : JobSeatView). x.task) back ∙ tasks ∙ ap (λ (x : JobSeatView). x.task) lent)
+
+pub answer_after : {X : Type 0} {table bare_table other : TableId} {id bare_id n : ℕ} {u spare : View} {me : View × List X} {s after : JobSeatView} (seat t : JobSeatView)
+    (P : JobSeatView → JobSeatView → Type 0) → s ≡ reseated table id u seat → after ≡ reseated bare_table bare_id spare t → (other ≡ t.table) × (n ≡ t.id) × (me ≡ (t.view, [])) →
+    P s t → P (reseated table id u seat) (reseated other n me.0 after)
+answer_after {table = table} {bare_table = bare_table} {other = other} {id = id} {bare_id = bare_id} {n = n} {u = u} {spare = spare} {me = me} {after = after} seat t P lent back given holds =
+    let Q : JobSeatView × JobSeatView → Type 0 = λ z. P z.0 z.1 in
+    let seen = seen_again other bare_table n bare_id me.0 spare t after given.0 given.1 (ap (λ m. m.0) given.2) back in
+    subst Q (λ h. (lent h, sym seen h)) holds
 
 -- a step changes the part of its task at most
 pub elsewhere_with : (i : ℕ) (q : TaskPart) (u v : View) → v ≡ with_part i q u → IsElsewhere i u v
@@ -229,8 +244,5 @@ pub release_is_exact : (k : Constants) (s t : JobSeatView) (r : ClockPart) (answ
 release_is_exact k s t r releases.Over answer has = answer.0
 release_is_exact k s t r (releases.Early now at) answer has = let own = answer.3.own r has in (answer.0, own, answer.1, subst (λ (n : ℕ). n < at) own answer.2)
 release_is_exact k s t r (releases.Open job) answer has =
-    let own = answer.2.2.own r has in
-    let due = answer.2.1 in
     let same = answer.0 in
-    let more = answer.1 in
-    (omega (arith, same, more), same, omega (arith, own, due))
+    (omega (arith, same, answer.1), same, omega (arith, answer.2.2.own r has, answer.2.1))

@@ -29,21 +29,16 @@ pub closed_from : (k : Constants) → PlanLaws → (view : View) (words : List �
     length seats ≡ (run_of k).tasks → ((i : ℕ) (s : JobSeatView) → slice_get seats i ≡ Some s → IsLent k view i s) →
     ((i : ℕ) (s : JobSeatView) → slice_get seats i ≡ Some s → IsSettled view i s) → IsClosed k words seats
 closed_from k laws view words seats closing tasks lent settled =
-    let w = closing.0 in
     let es = closing.1 in
     let a = closing.4 in
     let mine = a.each_view closing.3 view closing.5 in
-    let tagged = laws.tagged (run_of k) a.facts es a.free in
     record {
       wide = a.shows.wide;
       tasks = tasks;
       each = λ i s has.
           let its = lent i s has in
           let at = (mine.task i (part_of i view) its.stands.at.part).2.stand in
-          let ended = at.ended in
-          let same = (settled i s has).0 in
-          let count = tagged.counted i its.stands.task in
-          (its.task, omega (arith, ended, same, count), (_, its.stands.shown));
+          (its.task, omega (arith, at.ended, (settled i s has).0, (laws.tagged (run_of k) a.facts es a.free).counted i its.stands.task), (_, its.stands.shown));
       last = (
         reached (run_of k) es,
         record {
@@ -55,8 +50,7 @@ closed_from k laws view words seats closing tasks lent settled =
           done = a.shows.done;
           half = a.shows.slot;
           each = λ i s has.
-              let its = lent i s has in
-              let at = (mine.task i (part_of i view) its.stands.at.part).2.stand in
+              let at = (mine.task i (part_of i view) (lent i s has).stands.at.part).2.stand in
               (sym (settled i s has).0 ∙ at.ended, sym (settled i s has).1 ∙ at.place);
         },
       );
@@ -76,9 +70,7 @@ all_over k words seats closed over s last j n task job =
     let seat = seat_there seats j (omega (arith, tasks, task)) in
     let its = (closed.each j seat.0 seat.1).2 in
     let shown : IsStage (run_of k) j seat.0.job seat.0.place its.0 stages.Over = subst (IsStage (run_of k) j seat.0.job seat.0.place its.0) (over j seat.0 (omega (arith, tasks, task)) seat.1) its.1 in
-    let all = shown.1 in
-    let count = (last.each j seat.0 seat.1).0 in
-    omega (arith, all, count, job)
+    omega (arith, shown.1, (last.each j seat.0 seat.1).0, job)
 
 stage_left : (c : RunConstants) (i n place : ℕ) (is_open : Bool) (stage : Stage) → IsStage c i n place is_open stage → (stage ≡ stages.Over → ⊥) → n < c.jobs i
 stage_left c i n place is_open stages.Over is left = absurd (left refl)
@@ -91,11 +83,8 @@ pub not_over : (k : Constants) (words : List ℕ) (seats : List JobSeatView) (i 
 not_over k words seats i t closed has left s last complete =
     let its = (closed.each i t has).2 in
     let more = stage_left (run_of k) i t.job t.place its.0 t.stage its.1 left in
-    let tasks = closed.tasks in
-    let inside = slice_get_within seats i t has in
-    let done = complete i t.job (omega (arith, tasks, inside)) more in
-    let count = (last.each i t has).0 in
-    omega (arith, done, count)
+    let done = complete i t.job (omega (arith, closed.tasks, slice_get_within seats i t has)) more in
+    omega (arith, done, (last.each i t has).0)
 
 -- the word of `now` is the clock's
 pub closing_clock : (k : Constants) (view : View) (words : List ℕ) → IsClosing k view words → (r : ClockPart) → view.clock ≡ Some r → get_or words 0 0 ≡ r.now

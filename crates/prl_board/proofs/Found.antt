@@ -63,8 +63,7 @@ pub lag_leaves : (k : Constants) (u : View) (i job place slot : ℕ) {stage : _}
 lag_leaves k u i job place slot follows =
     let c : RunConstants = run_of k in
     let at : Standing = (part_of i u).stand in
-    let past = follows.at.past in
-    let all : place ≡ at.place + (place - at.place) = omega (arith, past) in
+    let all : place ≡ at.place + (place - at.place) = omega (arith, follows.at.past) in
     let ended : at.ended ≡ job = ended_is k i place u ∙ follows.ended in
     sym (list_leaves slot (tag_of_jobs c i slot at.ended) (c.actions i at.ended) at.place (place - at.place) follows.at.read.constants)
     ∙ (λ h. last_tag c i slot (ended h) (sym all h))

@@ -154,9 +154,6 @@ stands_set seats i before after there same stays = record {
   each = stand_more seats seats i before after (λ j s has. (s, has, refl, stays_same s)) there same stays;
 }
 
-pub stands_as : (seats : List JobSeatView) → StandAs seats seats
-stands_as seats = record { tasks = refl; each = λ j s has. (s, has, refl, stays_same s) }
-
 pub stands_then : (first second third : List JobSeatView) → StandAs first second → StandAs second third → StandAs first third
 stands_then first second third a b = record {
   tasks = b.tasks ∙ a.tasks;
@@ -184,9 +181,7 @@ pub settled_stays : (k : Constants) (before after : LoneView) (j : ℕ) (s : Job
     ((p : TaskPart) → get_elem? before.view.tasks j ≡ some (Some p) → get_elem? after.view.tasks j ≡ some (Some p)) →
     ((t : JobSeatView) → slice_get before.seats j ≡ Some t → IsSettled before.view j t) → slice_get after.seats j ≡ Some s → IsSettled after.view j s
 settled_stays k before after j s whole stand other settled has =
-    let inside = slice_get_within after.seats j s has in
-    let wide = stand.tasks in
-    let was = seat_there before.seats j (omega (arith, inside, wide)) in
+    let was = seat_there before.seats j (omega (arith, slice_get_within after.seats j s has, stand.tasks)) in
     let now = stand.each j was.0 was.1 in
     let one : now.0 ≡ s = (let e : Some now.0 ≡ Some s = sym now.1 ∙ has in cc e) in
     let at = (whole.each j was.0 was.1).1.at.part in
@@ -207,9 +202,6 @@ stop_keeps_halves k u v i place n mine is j p has =
       caught_kept (run_of k) (values_of k) i (place - (part_of i u).stand.place) (part_of i u) ∙ ap (λ (r : TaskPart). r.kept) one,
     ))
     (λ ne. (p, ap (λ (w : View). get_elem? w.tasks j) is ∙ part_else u.tasks i j (Some q) ne ∙ has, refl))
-
-pub keep_halves : (u : View) → KeepHalves u u
-keep_halves u j p has = (p, has, refl)
 
 pub keep_then : (u v w : View) → KeepHalves u v → KeepHalves v w → KeepHalves u w
 keep_then u v w first second j p has =

@@ -57,11 +57,9 @@ copies_wide (suc n) a = ap suc (copies_wide n a)
 pub first_given : (k : Constants) (i : ℕ) (view : View) → AreLeft k i view → i < (run_of k).tasks → HasFirstPart k i (only_part i view)
 first_given k i view left below =
     let here = left.tasks i (omega arith) below in
-    let wide = left.wide in
-    let copies = copies_wide {A = Option TaskPart} (length view.tasks) None in
     record {
       known = here.known;
-      part = set_here (replicate (length view.tasks) None) i (get_or view.tasks i None) (omega (arith, copies, wide, below))
+      part = set_here (replicate (length view.tasks) None) i (get_or view.tasks i None) (omega (arith, copies_wide {A = Option TaskPart} (length view.tasks) None, left.wide, below))
           ∙ ap some (part_there view.tasks i (first_part ((values_of k).registers i 0)) here.part);
     }
 

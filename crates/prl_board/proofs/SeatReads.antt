@@ -88,7 +88,6 @@ pub may_raise : (k : Constants) (before after : JobSeatView) (port : ℕ) (e : E
     Follows k before.view before.task.0 before.job before.place (stages.At (actions.Read port e m slot)) → HalfTold k before.task.0 before.place e.0 m slot.0 before.view word after.view →
     m + 1 < word / 2 ^ 32 → after.task ≡ before.task → after.place ≡ before.place → MayRaise k after
 may_raise k before after port e m slot word follows told later task place =
-    let q : TaskPart = half_missed slot.0 word (part_at k before.task.0 before.place before.view) in
     let missed : half_loaded (run_of k) (values_of k) before.task.0 slot.0 (m + 1) word (part_at k before.task.0 before.place before.view)
     ≡ half_missed slot.0 word (part_at k before.task.0 before.place before.view) =
     ap (λ (b : Bool). cond b (half_taken (run_of k) (values_of k) before.task.0 slot.0 word (part_at k before.task.0 before.place before.view)) (half_missed slot.0 word (part_at k before.task.0 before.place before.view)))
@@ -123,18 +122,15 @@ pub misses_answer : (k : Constants) (m : ℕ) (slot : SlotNo) (before after : Jo
 misses_answer k m slot before after word cell wanted found gots.Half misses at wants finds stays none raise = absurd misses
 misses_answer k m slot before after word cell wanted found (gots.Value value) misses at wants finds stays none raise = absurd misses
 misses_answer k m slot before after word cell wanted found (gots.NotYet c w f) misses at wants finds stays none raise =
-    let less = misses.3 in
-    let w_is = misses.1 in
     let f_is = misses.2 in (
       record { at = ap (λ (x : CellNo). x.0) misses.0 ∙ at; wants = misses.1 ∙ wants; finds = misses.2 ∙ finds; stays = stays },
-      omega (arith, less, w_is, f_is),
+      omega (arith, misses.3, misses.1, f_is),
     )
 misses_answer k m slot before after word cell wanted found (gots.Overrun c w f) misses at wants finds stays none raise =
     let less = misses.3 in
-    let w_is = misses.1 in
     let f_is = misses.2 in (
       record { at = ap (λ (x : CellNo). x.0) misses.0 ∙ at; wants = misses.1 ∙ wants; finds = misses.2 ∙ finds; stays = stays },
-      omega (arith, less, w_is, f_is),
+      omega (arith, less, misses.1, f_is),
       (λ gated. let most = none gated in omega (arith, most, less, wants, finds)),
       raise (omega (arith, less, wants, finds)),
     )

@@ -121,8 +121,7 @@ module _ (k : Constants) (work : HaveWorkLaws k.plan k.horizon k.bodies k.sensor
 
       pub out_there : (task : TaskNo) (out : ℕ) → (edge_at k.plan.graph e.0).from ≡ producers.Port task out → out < length begun.outputs.items
       out_there task out from =
-          let inside = output_there k.plan k.horizon k.bodies k.sensors work i n job p worker fit e m slot is begun begins in
-          let same = same_out task out from in omega (arith, inside, same)
+          let same = same_out task out from in omega (arith, output_there k.plan k.horizon k.bodies k.sensors work i n job p worker fit e m slot is begun begins, same)
 
       cell_is_of : edge_in k.plan.counts (cell_of k.plan e.0 n) ≡ e.0
       cell_is_of =
@@ -130,9 +129,7 @@ module _ (k : Constants) (work : HaveWorkLaws k.plan k.horizon k.bodies k.sensor
           (get_or k.plan.used e.0 no_used) edge_port.2 (work.whole.cells.cells e.0 (edge_at k.plan.graph e.0) (slice_get-get_or k.plan.graph.edges e.0 no_edge write_fits.0)) in
           let base = some.0 in
           let less : unwrap_or (place_on k.plan e.0 n) 0 % get_or k.plan.counts e.0 0 < get_or k.plan.counts e.0 0 = mod-lt (unwrap_or (place_on k.plan e.0 n) 0) some.1 in
-          let counts = work.whole.cells.lengths.1 in
-          let inside = write_fits.0 in
-          edge_in_range k.plan.counts e.0 (cell_of k.plan e.0 n) (omega (arith, counts, inside)) (omega (arith, base)) (omega (arith, base, less))
+          edge_in_range k.plan.counts e.0 (cell_of k.plan e.0 n) (omega (arith, work.whole.cells.lengths.1, write_fits.0)) (omega (arith, base)) (omega (arith, base, less))
 
       cell_of_half : (cell slot : ℕ) → IsHalfOf cell slot → slot / 2 ≡ cell
       cell_of_half cell slot (inl low_) = omega (arith, low_)

@@ -69,8 +69,7 @@ module _ (p : FlatProgram) where
   one_label a b (named i x cx nx lx) (unnamed j y cy ly) = absurd (true_false (is_made x.label) (ly i x cx).1 nx)
   one_label a b (unnamed i x cx lx) (named j y cy ny ly) = absurd (true_false (is_made y.label) (lx j y cy).1 ny)
   one_label a b (unnamed i x cx lx) (unnamed j y cy ly) =
-      let below = (lx j y cy).0 in
-      let above = (ly i x cx).0 in ap (λ (f : Flow). f.label) (one_flow i j x y cx cy (omega (arith, below, above)))
+      let above = (ly i x cx).0 in ap (λ (f : Flow). f.label) (one_flow i j x y cx cy (omega (arith, (lx j y cy).0, above)))
 
   -- where there is a label there is a cycle
   pub no_label : (label : List ℕ) → HasNoCycle p → IsCycleLabel p label → ⊥

@@ -2,9 +2,8 @@
 use Rattle.std.proofs.Common.{◌≡◌, ℕ, true, List, slice_get, Some, sym, ◌∙◌, ap, subst}
 use Rattle.prl_flow.specs.declared.programs.Flow.{Flow}
 use Rattle.prl_flow.specs.Programs.{FlatProgram}
-use Rattle.prl_flow.specs.Uses.{IsCyclic, IsCycleLabel, IsOnCycle, named, unnamed, is_made}
+use Rattle.prl_flow.specs.Uses.{IsCyclic, IsCycleLabel, named, unnamed, is_made}
 use Rattle.prl_causal.specs.Cycles.{IsFirst, IsFirstNamed, IsLabelOf}
-use Rattle.prl_causal.proofs.Meanings.{cyclic_flow}
 
 same_label : (p : FlatProgram) (i : ℕ) (label : List ℕ) (flow : Flow) → slice_get p.flows i ≡ Some flow → IsLabelOf p i label → label ≡ flow.label
 same_label p i label flow found of = (let there = of.found in let same : of.flow ≡ flow = cc in of.is ∙ ap (λ f. f.label) same)
@@ -17,6 +16,3 @@ pub label_unnamed : (p : FlatProgram) (i : ℕ) (label : List ℕ) → ((j : ℕ
 label_unnamed p i label made first of =
     subst (λ l. IsCycleLabel p l) (sym (same_label p i label first.flow first.cyclic.found of))
     (unnamed i first.flow first.cyclic (λ j other cyclic. (first.lowest j other cyclic, made j other cyclic)))
-
-pub cycle_seen : (p : FlatProgram) → ((j : ℕ) (flow : Flow) → IsCyclic p j flow → ⊥) → (i : ℕ) × IsOnCycle p i → ⊥
-cycle_seen p none cycle = (let there = cyclic_flow p cycle.0 cycle.1 in none cycle.0 there.0 (record { found = there.1; cycle = cycle.1 }))

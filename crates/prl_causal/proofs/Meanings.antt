@@ -65,12 +65,12 @@ inside_names p (definitions.Const v) j names = names
 inside_names p (definitions.Apply app out) j names = names
 inside_names p (definitions.Op op of) j names = names
 
+-- a use of a flow is one by the list of what its definitions use
+used_by : (p : FlatProgram) (of : Def → Source) (i j : ℕ) (flow : Flow) → slice_get p.flows i ≡ Some flow → Names p (of flow.def) j → UsesBy p (map (λ f. of f.def) p.flows) i j
+used_by p of i j flow found names = record { source = of flow.def; found = to_map (λ f. of f.def) p.flows i flow found; names = names }
+
 by_now : (p : FlatProgram) (i j : ℕ) → UsesNow p i j → UsesBy p (all_undelayed p) i j
-by_now p i j u = record {
-  source = undelayed_of u.flow.def;
-  found = to_map (λ f. undelayed_of f.def) p.flows i u.flow u.found;
-  names = now_names p u.flow.def j u.names;
-}
+by_now p i j u = used_by p undelayed_of i j u.flow u.found (now_names p u.flow.def j u.names)
 
 now_by : (p : FlatProgram) (i j : ℕ) → UsesBy p (all_undelayed p) i j → UsesNow p i j
 now_by p i j u =
@@ -78,11 +78,7 @@ now_by p i j u =
     record { flow = at.0; found = at.1; names = names_now p at.0.def j (subst (λ s. Names p s j) (sym at.2) u.names) }
 
 by_inside : (p : FlatProgram) (i j : ℕ) → UsesInside p i j → UsesBy p (all_inside p) i j
-by_inside p i j u = record {
-  source = inside_of u.flow.def;
-  found = to_map (λ f. inside_of f.def) p.flows i u.flow u.found;
-  names = inside_names p u.flow.def j u.names;
-}
+by_inside p i j u = used_by p inside_of i j u.flow u.found (inside_names p u.flow.def j u.names)
 
 inside_by : (p : FlatProgram) (i j : ℕ) → UsesBy p (all_inside p) i j → UsesInside p i j
 inside_by p i j u =

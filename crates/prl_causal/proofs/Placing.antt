@@ -67,8 +67,7 @@ no_way_back U n order whole within i way =
     let low : i < n = starts U n within i i way in
     let at = whole.each i low in
     let again = falls U n order whole i i way at.0 at.1 in
-    let same = whole.once again.0 at.0 (record { 0 = i }) again.2 at.1 in
-    absurd (omega (arith, again.1, same))
+    absurd (omega (arith, again.1, whole.once again.0 at.0 (record { 0 = i }) again.2 at.1))
 
 all_marked : (marks : List Bool) (i : ℕ) → i < length marks → marked_count marks ≡ length marks → IsMarked marks i
 all_marked marks i below full =

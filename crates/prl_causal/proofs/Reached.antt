@@ -39,8 +39,7 @@ add_some args d (suc m) reached marks low list within =
     let below : m < length args = omega (arith, low) in
     let first = add_some args d m reached marks (omega (arith, low)) list within in
     let at : (arg : Arg) × (slice_get args m ≡ Some arg) = element_at args m below in
-    let is = get_or_from_slice_get args m at.0 d at.1 in
-    let there : (get_or args m d).flow.0 < length first.marks' = rw (is, first.adds.same) (within m at.0 at.1) in
+    let there : (get_or args m d).flow.0 < length first.marks' = rw ((get_or_from_slice_get args m at.0 d at.1), first.adds.same) (within m at.0 at.1) in
     let second = add_one (get_or args m d).flow.0 first.reached' first.marks' first.adds.list there in
     let both = adds_next args m d reached first.reached' second.reached' marks first.marks' second.marks' below first.adds second.adds in
     record {

@@ -44,8 +44,7 @@ module _ (p : FlatProgram) (all : List Source) (there : AreSources p all) (seen 
   taken_step : (order : List FlowNo) (placed opened : List Bool) (stack : List ℕ) (top : ℕ) → IsSorted p all order placed opened seen (stack ++ top ∷ []) → IsMarked placed top
       → GoesOn opened (left (length all) opened order (stack ++ top ∷ []))
   taken_step order placed opened stack top are marked =
-      let long = length_push stack top in
-      let less : left (length all) opened order stack < left (length all) opened order (stack ++ top ∷ []) = omega (arith, long) in
+      let less : left (length all) opened order stack < left (length all) opened order (stack ++ top ∷ []) = omega (arith, length_push stack top) in
       record { order = order; placed = placed; opened' = opened; stack = stack; sorted = taken_off p all order placed opened seen stack top are marked; less = less; kept = λ i h. h }
 
   placed_step : (order : List FlowNo) (placed opened : List Bool) (stack : List ℕ) (top : ℕ) → IsSorted p all order placed opened seen (stack ++ top ∷ [])

@@ -15,26 +15,15 @@ use Rattle.prl_causal.proofs.Lists.{push_cases, push_keeps, mark_set, mark_kept,
 use Rattle.prl_causal.proofs.Placing.{names_of_use}
 use Rattle.prl_causal.proofs.Ways.{onward}
 
--- where a flow is marked already, nothing is to do
+-- where all that is named is marked already, nothing is to do
+adds_nothing : (reached : List ℕ) (marks : List Bool) (Named : ℕ → Type 0) → IsList reached marks → ((j : ℕ) → Named j → IsMarked marks j) → Adds Named reached reached marks marks
+adds_nothing reached marks Named list all = record { list = list; same = refl; stays = λ k x h. h; kept = λ j h. h; only = λ j h. inl h; all = all }
+
 pub adds_marked : (i : ℕ) (reached : List ℕ) (marks : List Bool) → IsList reached marks → IsMarked marks i → Adds (λ j. i ≡ j) reached reached marks marks
-adds_marked i reached marks list is = record {
-  list = list;
-  same = refl;
-  stays = λ k x h. h;
-  kept = λ j h. h;
-  only = λ j h. inl h;
-  all = λ j e. subst (λ x. IsMarked marks x) e is;
-}
+adds_marked i reached marks list is = adds_nothing reached marks (λ j. i ≡ j) list (λ j e. subst (λ x. IsMarked marks x) e is)
 
 pub adds_none : (reached : List ℕ) (marks : List Bool) (Named : ℕ → Type 0) → IsList reached marks → ((i : ℕ) → Named i → ⊥) → Adds Named reached reached marks marks
-adds_none reached marks Named list none = record {
-  list = list;
-  same = refl;
-  stays = λ k x h. h;
-  kept = λ j h. h;
-  only = λ j h. inl h;
-  all = λ j e. absurd (none j e);
-}
+adds_none reached marks Named list none = adds_nothing reached marks Named list (λ j e. absurd (none j e))
 
 pub adds_one : (i : ℕ) (reached : List ℕ) (marks : List Bool) → IsList reached marks → i < length marks → get_or marks i false ≡ false
     → Adds (λ j. i ≡ j) reached (reached ++ i ∷ []) marks (set marks i true)
@@ -196,8 +185,6 @@ among_argument p k args of i a =
 
 argument_among : (p : FlatProgram) (k : ℕ) (args : List Arg) → AreArguments p k args → (i : ℕ) → IsArgument p k i → IsAmong args i
 argument_among p k args of i a =
-    let there = of.found in
-    let here = a.applied in
     let one : a.app ≡ of.app = cc in
     let list : a.app.args ≡ args = ap (λ x. x.args) one ∙ of.are in
     record { index = a.index; arg = a.arg; found = subst (λ l. slice_get l a.index ≡ Some a.arg) list a.found; is = a.is }

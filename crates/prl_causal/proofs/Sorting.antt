@@ -103,8 +103,7 @@ chain U stack way zero k m x y at g h =
     let next : m ≡ k + 1 = omega (arith, at) in
     once x y (way k x y g (subst (λ n. slice_get stack n ≡ Some y) next h))
 chain U stack way (suc d) k m x y at g h =
-    let within = slice_get_within stack m y h in
-    let below : k + 1 < length stack = omega (arith, at, within) in
+    let below : k + 1 < length stack = omega (arith, at, slice_get_within stack m y h) in
     let z = element_at stack (k + 1) below in
     let rest : m ≡ ((k + 1) + 1) + d = omega (arith, at) in
     then x z.0 y (way k x z.0 g z.1) (chain U stack way d (k + 1) m z.0 y rest z.1 h)
@@ -116,14 +115,13 @@ module _ (p : FlatProgram) (all : List Source) (order : List FlowNo) (placed ope
   way_back d seen stack top used are low names clear marked =
       let U = UsesBy p all in
       let old : List ℕ = stack ++ top ∷ [] in
-      let last = slice_get_push stack top in
       let used_by : U top used = use_of_names p all d top used low names in
       ⊎_elim
       (λ a. absurd (false≢true (sym clear ∙ a)))
       (λ b. ⊎_elim
       (λ lower.
       (let far : length stack ≡ (b.index + 1) + (length stack - (b.index + 1)) = omega (arith, lower) in
-      (top, then top used top used_by (chain U old are.way (length stack - (b.index + 1)) b.index (length stack) used top far b.found last))))
+      (top, then top used top used_by (chain U old are.way (length stack - (b.index + 1)) b.index (length stack) used top far b.found (slice_get_push stack top)))))
       (λ not_lower. ⊎_elim
       (λ c. absurd (let within = slice_get_within stack b.index used c in omega (arith, within, not_lower)))
       (λ c. (top, subst (λ z. Leads U top z) (sym c.1) (once top used used_by)))

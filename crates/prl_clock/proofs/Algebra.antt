@@ -82,8 +82,7 @@ ratio_in f x y e = same_in (f.num *ℤ pos y) (x *ℤ pos f.den) (omega (arith, 
 pub numerator : (f : Fraction) (x y : ℕ) → 1 ≤ f.den → 1 ≤ x → IsRatio f (pos x) y → (f.num ≡ pos (up f.num)) × (1 ≤ up f.num)
 numerator f x y d p e =
     let q : 1 ≤ x * f.den = positive x f.den p d in
-    let r = ratio_out f (pos x) y e in
-    signed f.num y (x * f.den) q (omega (arith, r))
+    signed f.num y (x * f.den) q (omega (arith, ratio_out f (pos x) y e))
   where
     signed : (z : ℤ) (y k : ℕ) → 1 ≤ k → up z * y ≡ down z * y + k → (z ≡ pos (up z)) × (1 ≤ up z)
     signed (pos zero) y k p e = absurd (omega arith)
@@ -91,28 +90,24 @@ numerator f x y d p e =
     signed (negsuc n) y k p e = absurd (omega arith)
 
 -- a sum of whole numbers as one of natural numbers
-linear : (h e f : ℤ) (n E F G H : ℕ) → h *ℤ pos (E * F * G) ≡ (e *ℤ pos (F * G) +ℤ f *ℤ pos n *ℤ pos E) *ℤ pos H
-    → Sum (up e) (down e) E (up f) (down f) F n G (up h) (down h) H
-linear h e f n E F G H s =
+sides : (e f : ℤ) (n E F G : ℕ) → up (e *ℤ pos (F * G) +ℤ f *ℤ pos n *ℤ pos E) + (down e * (F * G) + down f * n * E)
+    ≡ down (e *ℤ pos (F * G) +ℤ f *ℤ pos n *ℤ pos E) + (up e * (F * G) + up f * n * E)
+sides e f n E F G =
     let v : (up (f *ℤ pos n) ≡ up f * n) × (down (f *ℤ pos n) ≡ down f * n) = (omega (arith, product_is f (pos n)), omega (arith, product_is f (pos n))) in
     let w : (up (f *ℤ pos n *ℤ pos E) ≡ up f * n * E) × (down (f *ℤ pos n *ℤ pos E) ≡ down f * n * E) =
     (omega (arith, product_is (f *ℤ pos n) (pos E), times E _ _ v.0), omega (arith, product_is (f *ℤ pos n) (pos E), times E _ _ v.1)) in
-    let t : up (e *ℤ pos (F * G) +ℤ f *ℤ pos n *ℤ pos E) + (down e * (F * G) + down f * n * E)
-    ≡ down (e *ℤ pos (F * G) +ℤ f *ℤ pos n *ℤ pos E) + (up e * (F * G) + up f * n * E) =
-    omega (arith, sum_is_lem (e *ℤ pos (F * G)) (f *ℤ pos n *ℤ pos E), product_is e (pos (F * G)), w.0, w.1) in
-    omega (arith, times H _ _ t, ap up s, ap down s, product_is h (pos (E * F * G)), product_is (e *ℤ pos (F * G) +ℤ f *ℤ pos n *ℤ pos E) (pos H))
+    omega (arith, sum_is_lem (e *ℤ pos (F * G)) (f *ℤ pos n *ℤ pos E), product_is e (pos (F * G)), w.0, w.1)
+
+linear : (h e f : ℤ) (n E F G H : ℕ) → h *ℤ pos (E * F * G) ≡ (e *ℤ pos (F * G) +ℤ f *ℤ pos n *ℤ pos E) *ℤ pos H
+    → Sum (up e) (down e) E (up f) (down f) F n G (up h) (down h) H
+linear h e f n E F G H s =
+    omega (arith, times H _ _ (sides e f n E F G), ap up s, ap down s, product_is h (pos (E * F * G)), product_is (e *ℤ pos (F * G) +ℤ f *ℤ pos n *ℤ pos E) (pos H))
 
 linear' : (h e f : ℤ) (n E F G H : ℕ) → Sum (up e) (down e) E (up f) (down f) F n G (up h) (down h) H
     → h *ℤ pos (E * F * G) ≡ (e *ℤ pos (F * G) +ℤ f *ℤ pos n *ℤ pos E) *ℤ pos H
 linear' h e f n E F G H s =
-    let v : (up (f *ℤ pos n) ≡ up f * n) × (down (f *ℤ pos n) ≡ down f * n) = (omega (arith, product_is f (pos n)), omega (arith, product_is f (pos n))) in
-    let w : (up (f *ℤ pos n *ℤ pos E) ≡ up f * n * E) × (down (f *ℤ pos n *ℤ pos E) ≡ down f * n * E) =
-    (omega (arith, product_is (f *ℤ pos n) (pos E), times E _ _ v.0), omega (arith, product_is (f *ℤ pos n) (pos E), times E _ _ v.1)) in
-    let t : up (e *ℤ pos (F * G) +ℤ f *ℤ pos n *ℤ pos E) + (down e * (F * G) + down f * n * E)
-    ≡ down (e *ℤ pos (F * G) +ℤ f *ℤ pos n *ℤ pos E) + (up e * (F * G) + up f * n * E) =
-    omega (arith, sum_is_lem (e *ℤ pos (F * G)) (f *ℤ pos n *ℤ pos E), product_is e (pos (F * G)), w.0, w.1) in
     same_in (h *ℤ pos (E * F * G)) ((e *ℤ pos (F * G) +ℤ f *ℤ pos n *ℤ pos E) *ℤ pos H)
-    (omega (arith, times H _ _ t, s, product_is h (pos (E * F * G)), product_is (e *ℤ pos (F * G) +ℤ f *ℤ pos n *ℤ pos E) (pos H)))
+    (omega (arith, times H _ _ (sides e f n E F G), s, product_is h (pos (E * F * G)), product_is (e *ℤ pos (F * G) +ℤ f *ℤ pos n *ℤ pos E) (pos H)))
 
 product_out : (f g h : ℤ) (a n c F G H : ℕ) → f ≡ pos a → g ≡ pos n → h ≡ pos c → h *ℤ pos (F * G) ≡ f *ℤ g *ℤ pos H → c * (F * G) ≡ a * n * H
 product_out f g h a n c F G H fa gn hc e =

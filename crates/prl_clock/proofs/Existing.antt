@@ -67,8 +67,7 @@ module _ (p : FlatProgram) (flat : IsFlat p) where
   good_output : (i at out k : ℕ) (app : App) → i < length p.flows → IsApplication p k app → AreGood (length p.flows) (output_constraints i at out (Some app))
   good_output i at zero k app h is = good_arguments i app.args h is.args
   good_output i at (suc out) k app h is =
-      let some = is.has_output in
-      let o = is.outs 0 (get_or app.outs 0 (record { 0 = 0 })) (slice_get-get_or app.outs 0 (record { 0 = 0 }) (omega (arith, some))) in
+      let o = is.outs 0 (get_or app.outs 0 (record { 0 = 0 })) (slice_get-get_or app.outs 0 (record { 0 = 0 }) (omega (arith, is.has_output))) in
       (good_link i (first_output app) same_clock h (slice_get_within p.flows (first_output app) o.0 o.1) same_good, tt)
 
   good_definition : (i at : ℕ) (ty : Ty) (def : Def) → i < length p.flows → IsWellDefined p i ty def → AreGood (length p.flows) (definition_constraints p i at def)

@@ -87,9 +87,7 @@ module _ (cs : List Placed) (st : List Standing) (solved : IsSolved cs st) where
 
       later : (f : Fraction) (s : ℤ) (u : ℕ) → 1 ≤ f.den → IsRatio f (s -ℤ pos 0) u → IsRatio f ((pos 1 *ℤ s +ℤ pos 1) -ℤ pos 0) (1 * u) → ⊥
       later f s u d a b =
-          let m = ratio_out f (s -ℤ pos 0) u a in
-          let n = ratio_out f ((pos 1 *ℤ s +ℤ pos 1) -ℤ pos 0) (1 * u) b in
-          let k = times f.den _ _ (shift s) in omega (arith, k, m, n)
+          let k = times f.den _ _ (shift s) in omega (arith, k, ratio_out f (s -ℤ pos 0) u a, ratio_out f ((pos 1 *ℤ s +ℤ pos 1) -ℤ pos 0) (1 * u) b)
 
       of : (o : Option Timing) → (standing_at st x).clock ≡ o → HasClock st x
       of (Some t) e = (t, e)

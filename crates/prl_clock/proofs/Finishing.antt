@@ -22,7 +22,7 @@ use Rattle.prl_clock.specs.Timings.{Point, IsRatio}
 use Rattle.prl_clock.specs.code.Finishing.{IsFirstFree, IsLabelOf, IsWholeClock}
 use Rattle.prl_clock.specs.code.Progress.{IsReached, IsStopped, IsStop, told}
 use Rattle.prl_clock.specs.code.Standings.{IsSolved, IsRefused, HasClock, standing_at}
-use Rattle.prl_clock.proofs.Algebra.{Ratio, cancel_nat, times, positive, ratio_out}
+use Rattle.prl_clock.proofs.Algebra.{cancel_nat, times, positive, ratio_out}
 use Rattle.prl_clock.proofs.Fine.{one, one_meets, changed, changed_meets, changed_flow}
 use Rattle.prl_clock.proofs.Reading.{are_clocks}
 use Rattle.prl_clock.proofs.Terms.{small_form, only}
@@ -85,9 +85,6 @@ module _ (ds : List Placed) (e : ClockFault) (s : IsStopped [] ds e) where
       refused refusals.Mismatch h f = absurd (cc h)
       refused refusals.Limit h f = (cc, f)
 
-  pub stopped_else : (told s.refusal s.placed.at ≡ e → ⊥) → ⊥
-  stopped_else never = never (sym s.is)
-
 other_fault : (r : Refusal) (at : ℕ) (label : List ℕ) → told r at ≡ faults.Free label → ⊥
 other_fault refusals.Mismatch at label h = cc
 other_fault refusals.Limit at label h = cc
@@ -106,10 +103,8 @@ fault_of_stop p (faults.NotWhole label t u) s = absurd (another_fault s.refusal 
 -- two numbers of one ratio, each over its unit
 one_ratio : (f : Fraction) (x y : ℤ) (u v : ℕ) → 1 ≤ f.den → IsRatio f x u → IsRatio f y v → x *ℤ pos v ≡ y *ℤ pos u
 one_ratio f x y u v some a b =
-    let A : Ratio (up f.num) (down f.num) f.den (up x) (down x) u = ratio_out f x u a in
-    let B : Ratio (up f.num) (down f.num) f.den (up y) (down y) v = ratio_out f y v b in
     let e : up x * v + down y * u ≡ down x * v + up y * u =
-    cancel_nat f.den (up x * v + down y * u) (down x * v + up y * u) some (omega (arith, times v _ _ A, times u _ _ B)) in
+    cancel_nat f.den (up x * v + down y * u) (down x * v + up y * u) some (omega (arith, times v _ _ (ratio_out f x u a), times u _ _ (ratio_out f y v b))) in
     same_in (x *ℤ pos v) (y *ℤ pos u) (omega (arith, e, product_is x (pos v), product_is y (pos u)))
 
 from_zero : (z : ℤ) → z -ℤ pos 0 ≡ z
@@ -124,7 +119,6 @@ module _ (cs : List Placed) (st : List Standing) (solved : IsSolved cs st) where
       record {
         period = ap up (one_ratio c.0.period (pos (s.flow x).period) (pos (t.flow x).period) s.unit t.unit small.period.positive a.period b.period);
         start =
-            let P : ℤ → ℤ → Type 0 = λ y z. y *ℤ pos t.unit ≡ z *ℤ pos s.unit in
             let e = one_ratio c.0.start ((s.flow x).start -ℤ pos 0) ((t.flow x).start -ℤ pos 0) s.unit t.unit small.start.positive a.start b.start in
             ap (λ y. y *ℤ pos t.unit) (sym (from_zero (s.flow x).start)) ∙ e ∙ ap (λ z. z *ℤ pos s.unit) (from_zero (t.flow x).start);
       }
@@ -172,9 +166,8 @@ module _ (cs : List Placed) (st : List Standing) (solved : IsSolved cs st) where
     where
       gives_period : (f : Fraction) (x u c : ℕ) → f.den ≡ 1 → c ≡ nat_abs f.num → 1 ≤ x → IsRatio f (pos x) u → x ≡ c * u
       gives_period f x u c d e some h =
-          let r = ratio_out f (pos x) u h in
           let k : x * f.den ≡ x * 1 = ap (λ n. x * n) d in
-          size f.num c u x e some (omega (arith, r, k))
+          size f.num c u x e some (omega (arith, ratio_out f (pos x) u h, k))
         where
           size : (z : ℤ) (c u x : ℕ) → c ≡ nat_abs z → 1 ≤ x → up z * u ≡ down z * u + x → x ≡ c * u
           size (pos n) c u x e some h = omega (arith, h, times u _ _ e)
@@ -183,10 +176,9 @@ module _ (cs : List Placed) (st : List Standing) (solved : IsSolved cs st) where
       gives_start : (f : Fraction) (x : ℤ) (u c : ℕ) → f.den ≡ 1 → pos 0 ≤ℤ f.num → c ≡ nat_abs f.num → IsRatio f (x -ℤ pos 0) u → x ≡ pos (c * u)
       gives_start f x u c d low e h =
           let P : ℤ → Type 0 = λ y. IsRatio f y u in
-          let r = ratio_out f x u (subst P (from_zero x) h) in
           let k = ap (λ n. up x * n) d in
           let l = ap (λ n. down x * n) d in
-          same_in x (pos (c * u)) (size f.num c u x e low (omega (arith, r, k, l)))
+          same_in x (pos (c * u)) (size f.num c u x e low (omega (arith, ratio_out f x u (subst P (from_zero x) h), k, l)))
         where
           size : (z : ℤ) (c u : ℕ) (x : ℤ) → c ≡ nat_abs z → pos 0 ≤ℤ z → up z * u + down x ≡ down z * u + up x → up x + 0 ≡ c * u + down x
           size (pos n) c u x e low h = omega (arith, h, times u _ _ e)

@@ -61,12 +61,6 @@ module _ (cs : List Placed) (root : ℕ → ℕ) (joined : (x y : ℕ) → Joins
   same_root x y (on u z v c (inl j)) = same_root u z c ∙ joined z v j
   same_root x y (on u z v c (inr j)) = same_root u z c ∙ sym (joined v z j)
 
-  pub root_lowest : (low : (x : ℕ) → root x ≤ x) (led : (x : ℕ) → Connected cs x (root x)) (x : ℕ) → IsLowest cs x (root x)
-  root_lowest low led x = record {
-    connected = led x;
-    lowest = λ z c. let e : root x ≡ root z = same_root x z c in let l : root z ≤ z = low z in omega arith;
-  }
-
   pub lowest_root : (low : (x : ℕ) → root x ≤ x) (led : (x : ℕ) → Connected cs x (root x)) (x y : ℕ) → IsLowest cs x y → y ≡ root x
   lowest_root low led x y l =
       let e : root x ≡ root y = same_root x y l.connected in

@@ -83,8 +83,7 @@ module _ (cs : List Placed) (st : List Standing) (high low : Standing) (m : IsJo
     lowest = λ z c.
         let e : end x ≡ end z = same_root cs end (λ a b j. agree a b (end a) (end b) (end_is a) (end_is b) j) x z c in
         let f : end x ≡ low.root = elim h [ inl k ↦ (end_is x).up k | inr k ↦ (end_is x).stay (λ l. high_low (sym l ∙ k)) ∙ k ] in
-        let g : end z ≤ z = end_low z in
-        omega (arith, e, f, g);
+        omega (arith, e, f, end_low z);
   }
 
   pub first_over : (s : Assignment) → MeetsAll s cs → IsOver high.over (s.flow m.first) (s.flow high.root)

@@ -1,7 +1,9 @@
 -- Standings changed one by one.
-use Rattle.std.proofs.Common.{◌≡◌, ◌≢◌, ◌<◌, ◌≤◌, ◌+◌, ℕ, zero, suc, List, [], ◌∷◌, length, get_or, set, refl, sym, ◌∙◌, subst, arith, get_or-set_other, get_or-set_same, below_more}
-use Rattle.prl_clock.specs.code.Standings.{standing_at, alone}
+use Rattle.std.proofs.Common.{◌≡◌, ◌≢◌, ◌<◌, ◌≤◌, ◌+◌, ℕ, zero, suc, List, [], ◌∷◌, length, get_or, set, refl, sym, ◌∙◌, ap, subst, arith, get_or-set_other, get_or-set_same, below_more}
+use Rattle.prl_clock.specs.code.Composition.{IsComposedPast}
+use Rattle.prl_clock.specs.code.Standings.{IsOnePast, standing_at, alone}
 use Rattle.prl_clock.specs.declared.standings.Standing.{Standing}
+use Rattle.prl_clock.specs.declared.timings.Timing.{Timing}
 
 pub same_within : (st : List Standing) (i : ℕ) (d e : Standing) → i < length st → get_or st i d ≡ get_or st i e
 same_within [] i d e h = absurd (omega arith)
@@ -31,3 +33,15 @@ one_more P old now i d new here done left next =
 pub one_less : (old now : List Standing) (i : ℕ) (new : Standing) → ((k : ℕ) → i ≤ k → standing_at now k ≡ standing_at old k)
     → ((k : ℕ) → i + 1 ≤ k → standing_at (set now i new) k ≡ standing_at old k)
 one_less old now i new left k h = set_other now i k new (omega arith) ∙ left k (omega arith)
+
+-- the item that is read, where the standings from it on are as they were
+pub item_was : (old now : List Standing) (i : ℕ) (d : Standing) → i < length now → ((k : ℕ) → i ≤ k → standing_at now k ≡ standing_at old k) → standing_at old i ≡ get_or now i d
+item_was old now i d here left = sym (left i (omega arith)) ∙ item_is now i d here
+
+pub one_past_at : (st : List Standing) (root i : ℕ) (q : Timing) (s : Standing) → i < length st → standing_at st i ≡ s → (s.root ≡ root) × IsComposedPast s.over q → IsOnePast root q st
+one_past_at st root i q s within e past = record {
+  flow = i;
+  within = within;
+  is = ap (λ (x : Standing). x.root) e ∙ past.0;
+  past = let P : Standing → Type 0 = λ x. IsComposedPast x.over q in subst P (sym e) past.1;
+}

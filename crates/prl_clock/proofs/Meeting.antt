@@ -40,10 +40,9 @@ descaled q y x u some o = record {
       ratio_in q.period (pos y.period) x.period
       (cancel_nat u (up q.period.num * x.period + 0 * q.period.den) (down q.period.num * x.period + y.period * q.period.den) some (omega (arith, e)));
   start =
-      let e = ratio_out q.start (pos (y.start * u) -ℤ pos (x.start * u)) (x.period * u) o.start in
       ratio_in q.start (pos y.start -ℤ pos x.start) x.period
       (cancel_nat u (up q.start.num * x.period + down (pos y.start -ℤ pos x.start) * q.start.den) (down q.start.num * x.period + up (pos y.start -ℤ pos x.start) * q.start.den) some
-      (omega (arith, e, times q.start.den _ _ (difference y.start x.start u))));
+      (omega (arith, ratio_out q.start (pos (y.start * u) -ℤ pos (x.start * u)) (x.period * u) o.start, times q.start.den _ _ (difference y.start x.start u))));
 }
 
 natural : (z : ℤ) → pos 0 ≤ℤ z → (up z ≡ nat_abs z) × (down z ≡ 0)
@@ -69,81 +68,52 @@ starts f s t x e = let r = ratio_out f (pos s -ℤ pos t) x e in omega (arith, r
 starts_in : (f : Fraction) (s t x : ℕ) → up f.num * x + t * f.den ≡ down f.num * x + s * f.den → IsRatio f (pos s -ℤ pos t) x
 starts_in f s t x e = ratio_in f (pos s -ℤ pos t) x (omega (arith, e, times f.den _ _ (apart s t)))
 
+-- both parts of what it says
+abbrev Told : Timing → Clock → Clock → Type 0
+Told q x y =
+    (up q.period.num * x.period ≡ down q.period.num * x.period + y.period * q.period.den) × (up q.start.num * x.period + x.start * q.start.den ≡ down q.start.num * x.period + y.start * q.start.den)
+
+told : (q : Timing) (x y : Clock) → IsOver q (plain y) (plain x) → Told q x y
+told q x y o = (periods q.period y.period x.period o.period, starts q.start y.start x.start x.period o.start)
+
+told_over : (q : Timing) (x y : Clock) → Told q x y → IsOver q (plain y) (plain x)
+told_over q x y t = record { period = periods_in q.period y.period x.period t.0; start = starts_in q.start y.start x.start x.period t.1 }
+
 pub same_clocks : (y x : Clock) → IsOver same_clock (plain y) (plain x) → y ≡ x
-same_clocks y x o =
-    let p = periods (same_clock).period y.period x.period o.period in
-    let s = starts (same_clock).start y.start x.start x.period o.start in
-    equal_clocks y x (omega (arith, p)) (omega (arith, s))
+same_clocks y x o = (let t = told same_clock x y o in equal_clocks y x (omega (arith, t.0)) (omega (arith, t.1)))
 
 pub result_clock : (op : Op) (x y : Clock) (ty : Ty) → IsOperatorFor ty op → IsOver (timing_of_operator op) (plain y) (plain x) → IsResultClock op x y
-result_clock (operators.Fby c) x y ty fits o =
-    let p = periods (timing_of_operator (operators.Fby c)).period y.period x.period o.period in
-    let s = starts (timing_of_operator (operators.Fby c)).start y.start x.start x.period o.start in (omega (arith, p), omega (arith, s))
-result_clock (operators.Cons c) x y ty fits o =
-    let p = periods (timing_of_operator (operators.Cons c)).period y.period x.period o.period in
-    let s = starts (timing_of_operator (operators.Cons c)).start y.start x.start x.period o.start in (omega (arith, p), omega (arith, s))
-result_clock operators.Tail x y ty fits o =
-    let p = periods (timing_of_operator operators.Tail).period y.period x.period o.period in
-    let s = starts (timing_of_operator operators.Tail).start y.start x.start x.period o.start in (omega (arith, p), omega (arith, s))
-result_clock (operators.Up k) x y ty fits o =
-    let p = periods (timing_of_operator (operators.Up k)).period y.period x.period o.period in
-    let s = starts (timing_of_operator (operators.Up k)).start y.start x.start x.period o.start in (omega (arith, p), omega (arith, s))
-result_clock (operators.Down k) x y ty fits o =
-    let p = periods (timing_of_operator (operators.Down k)).period y.period x.period o.period in
-    let s = starts (timing_of_operator (operators.Down k)).start y.start x.start x.period o.start in (omega (arith, p), omega (arith, s))
+result_clock (operators.Fby c) x y ty fits o = (let t = told (timing_of_operator (operators.Fby c)) x y o in (omega (arith, t.0), omega (arith, t.1)))
+result_clock (operators.Cons c) x y ty fits o = (let t = told (timing_of_operator (operators.Cons c)) x y o in (omega (arith, t.0), omega (arith, t.1)))
+result_clock operators.Tail x y ty fits o = (let t = told (timing_of_operator operators.Tail) x y o in (omega (arith, t.0), omega (arith, t.1)))
+result_clock (operators.Up k) x y ty fits o = (let t = told (timing_of_operator (operators.Up k)) x y o in (omega (arith, t.0), omega (arith, t.1)))
+result_clock (operators.Down k) x y ty fits o = (let t = told (timing_of_operator (operators.Down k)) x y o in (omega (arith, t.0), omega (arith, t.1)))
 result_clock (operators.Shift q) x y ty fits o =
     let n = natural q.num fits.1 in
-    let p = periods (timing_of_operator (operators.Shift q)).period y.period x.period o.period in
-    let s = starts q y.start x.start x.period o.start in
-    (omega (arith, p), omega (arith, s, times x.period _ _ n.0, times x.period _ _ n.1))
+    let t = told (timing_of_operator (operators.Shift q)) x y o in
+    (omega (arith, t.0), omega (arith, t.1, times x.period _ _ n.0, times x.period _ _ n.1))
 
 pub over_same : (y x : Clock) → y ≡ x → IsOver same_clock (plain y) (plain x)
-over_same y x e = record {
-  period = periods_in (same_clock).period y.period x.period (let f = ap (λ (c : Clock). c.period) e in omega (arith, f));
-  start = starts_in (same_clock).start y.start x.start x.period (let f = ap (λ (c : Clock). c.start) e in omega (arith, f));
-}
+over_same y x e = told_over same_clock x y (omega (arith, ap (λ (c : Clock). c.period) e), omega (arith, ap (λ (c : Clock). c.start) e))
 
 pub over_result : (op : Op) (x y : Clock) (ty : Ty) → IsOperatorFor ty op → IsResultClock op x y → IsOver (timing_of_operator op) (plain y) (plain x)
-over_result (operators.Fby c) x y ty fits r = record {
-  period = periods_in (timing_of_operator (operators.Fby c)).period y.period x.period (omega (arith, r.0));
-  start = starts_in (timing_of_operator (operators.Fby c)).start y.start x.start x.period (omega (arith, r.1));
-}
-over_result (operators.Cons c) x y ty fits r = record {
-  period = periods_in (timing_of_operator (operators.Cons c)).period y.period x.period (omega (arith, r.0));
-  start = starts_in (timing_of_operator (operators.Cons c)).start y.start x.start x.period (omega (arith, r.1));
-}
-over_result operators.Tail x y ty fits r = record {
-  period = periods_in (timing_of_operator operators.Tail).period y.period x.period (omega (arith, r.0));
-  start = starts_in (timing_of_operator operators.Tail).start y.start x.start x.period (omega (arith, r.1));
-}
-over_result (operators.Up k) x y ty fits r = record {
-  period = periods_in (timing_of_operator (operators.Up k)).period y.period x.period (omega (arith, r.0));
-  start = starts_in (timing_of_operator (operators.Up k)).start y.start x.start x.period (omega (arith, r.1));
-}
-over_result (operators.Down k) x y ty fits r = record {
-  period = periods_in (timing_of_operator (operators.Down k)).period y.period x.period (omega (arith, r.0));
-  start = starts_in (timing_of_operator (operators.Down k)).start y.start x.start x.period (omega (arith, r.1));
-}
+over_result (operators.Fby c) x y ty fits r = told_over (timing_of_operator (operators.Fby c)) x y (omega (arith, r.0), omega (arith, r.1))
+over_result (operators.Cons c) x y ty fits r = told_over (timing_of_operator (operators.Cons c)) x y (omega (arith, r.0), omega (arith, r.1))
+over_result operators.Tail x y ty fits r = told_over (timing_of_operator operators.Tail) x y (omega (arith, r.0), omega (arith, r.1))
+over_result (operators.Up k) x y ty fits r = told_over (timing_of_operator (operators.Up k)) x y (omega (arith, r.0), omega (arith, r.1))
+over_result (operators.Down k) x y ty fits r = told_over (timing_of_operator (operators.Down k)) x y (omega (arith, r.0), omega (arith, r.1))
 over_result (operators.Shift q) x y ty fits r =
     let n = natural q.num fits.1 in
-    record {
-      period = periods_in (timing_of_operator (operators.Shift q)).period y.period x.period (omega (arith, r.0));
-      start = starts_in q y.start x.start x.period (omega (arith, r.1, times x.period _ _ n.0, times x.period _ _ n.1));
-    }
+    told_over (timing_of_operator (operators.Shift q)) x y (omega (arith, r.0), omega (arith, r.1, times x.period _ _ n.0, times x.period _ _ n.1))
 
 pub clock_of_rate : (r : Rate) (c : Clock) → IsRate r → IsOver (timing_of_rate r) (plain c) (plain ticks) → IsClockOf r c
 clock_of_rate r c is o =
     let n = natural r.phase.num is.1.1 in
     let m = product_is (pos r.period) r.phase.num in
-    let p = periods (timing_of_rate r).period c.period 1 o.period in
-    let s = starts (timing_of_rate r).start c.start 0 1 o.start in
-    (omega (arith, p), omega (arith, s, m.0, m.1, times r.period _ _ n.0, times r.period _ _ n.1))
+    (omega (arith, periods (timing_of_rate r).period c.period 1 o.period), omega (arith, starts (timing_of_rate r).start c.start 0 1 o.start, m.0, m.1, times r.period _ _ n.0, times r.period _ _ n.1))
 
 pub over_rate : (r : Rate) (c : Clock) → IsRate r → IsClockOf r c → IsOver (timing_of_rate r) (plain c) (plain ticks)
 over_rate r c is k =
     let n = natural r.phase.num is.1.1 in
     let m = product_is (pos r.period) r.phase.num in
-    record {
-      period = periods_in (timing_of_rate r).period c.period 1 (omega (arith, k.0));
-      start = starts_in (timing_of_rate r).start c.start 0 1 (omega (arith, k.1, m.0, m.1, times r.period _ _ n.0, times r.period _ _ n.1));
-    }
+    told_over (timing_of_rate r) ticks c (omega (arith, k.0), omega (arith, k.1, m.0, m.1, times r.period _ _ n.0, times r.period _ _ n.1))

@@ -22,6 +22,14 @@ decide m n = elim (cases_lt m n) [
   | inr above ↦ elim (cases_lt n m) [ inl less ↦ inr (λ e. omega (arith, less, e)) | inr other ↦ inl (omega (arith, above, other)) ]
 ]
 
+-- past the lists, where nothing is a root that lies within, all stays
+past_lists : (root x : ℕ) (old new : List Standing) → length new ≡ length old → root < length old → length old ≤ x →
+    (root_at old x ≢ root) × (standing_at new x ≡ standing_at old x)
+past_lists root x old new len within above =
+    let a : standing_at old x ≡ alone x = beyond old x above in
+    let r : root_at old x ≡ x = ap (λ (s : Standing). s.root) a in
+    ((λ e. omega (arith, r, e, above, within)), beyond new x (omega arith) ∙ sym a)
+
 -- what changes for each flow of a list changes so for all
 pub moved_everywhere : (high low : ℕ) (shift : Timing) (old new : List Standing) → length new ≡ length old → high < length old
     → AreMoved high low shift old new → (x : ℕ) → IsMoved high low shift (standing_at old x) (standing_at new x)
@@ -29,10 +37,8 @@ moved_everywhere high low shift old new len within moved x =
     elim (cases_lt x (length old)) [
       | inl below ↦ moved x below
       | inr above ↦
-          let a : standing_at old x ≡ alone x = beyond old x above in
-          let b : standing_at new x ≡ alone x = beyond new x (omega arith) in
-          let r : root_at old x ≡ x = ap (λ (s : Standing). s.root) a in
-          record { moved = λ e. absurd (omega (arith, r, e, above, within)); kept = λ _. b ∙ sym a }
+          let past = past_lists high x old new len within above in
+          record { moved = λ e. absurd (past.0 e); kept = λ _. past.1 }
     ]
 
 pub timed_everywhere : (root : ℕ) (clock : Timing) (old new : List Standing) → length new ≡ length old → root < length old
@@ -41,10 +47,8 @@ timed_everywhere root clock old new len within timed x =
     elim (cases_lt x (length old)) [
       | inl below ↦ timed x below
       | inr above ↦
-          let a : standing_at old x ≡ alone x = beyond old x above in
-          let b : standing_at new x ≡ alone x = beyond new x (omega arith) in
-          let r : root_at old x ≡ x = ap (λ (s : Standing). s.root) a in
-          record { timed = λ e _. absurd (omega (arith, r, e, above, within)); had = λ _ _. b ∙ sym a; kept = λ _. b ∙ sym a }
+          let past = past_lists root x old new len within above in
+          record { timed = λ e _. absurd (past.0 e); had = λ _ _. past.1; kept = λ _. past.1 }
     ]
 
 -- there is a clock or none

@@ -108,7 +108,6 @@ Answer cs st = ((new : List Standing) × (length new ≡ length st) × IsSolved 
 module _ (cs : List Placed) (st : List Standing) (solved : IsSolved cs st) where
   relate_total : (x y : ℕ) (link : Timing) → IsLink link → (at : ℕ) → x < length st → y < length st → Answer (cs ++ (record { constraint = related x y link; at = at }) ∷ []) st
   relate_total x y link is at hx hy =
-      let px = small_parts _ (solved.standings.small x) in
       let py = small_parts _ (solved.standings.small y) in
       elim (decide (root_at st x) (root_at st y)) [
         | inl e ↦ elim (fits_total link (standing_at st y).over (standing_at st x).over is.parts py (solved.standings.small x)) [
@@ -126,7 +125,7 @@ module _ (cs : List Placed) (st : List Standing) (solved : IsSolved cs st) where
                 ]
                 | inr above ↦
                     let lower : root_at st x < root_at st y = less (root_at st x) (root_at st y) above two in
-                    elim (over_total (standing_at st x).over link px is.parts is.num is.is is.some) [
+                    elim (over_total (standing_at st x).over link (small_parts _ (solved.standings.small x)) is.parts is.num is.is is.some) [
                       | inr past ↦ inr (refusals.Limit, (consistent, up_passes cs st solved x y link is at two agree lower hy past))
                       | inl w ↦ ended consistent (join_total _ st _ _ w.0 (merging_up cs st solved x y link is at two agree lower hy w.0 w.2 w.1))
                     ]

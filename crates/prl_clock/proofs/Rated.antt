@@ -18,9 +18,6 @@ use Rattle.prl_clock.proofs.Terms.{only, past_form, past_small}
 pub whole_small : (n : ℕ) → n ≤ MAX_PART → IsSmallFraction (over_one n)
 whole_small n h = record { positive = omega arith; reduced = (one-dvd n, one-dvd 1, λ d p q. q); num = h; den = omega arith }
 
-pub part_small : (k : ℕ) → 1 ≤ k → k ≤ MAX_PART → IsSmallFraction (record { num = pos 1; den = k })
-part_small k some h = record { positive = some; reduced = (one-dvd 1, one-dvd k, λ d p q. p); num = omega arith; den = h }
-
 pub rate_link : (r : Rate) → IsRate r → IsLink (timing_of_rate r)
 rate_link r is = record { num = r.period; is = refl; some = is.0.0; parts = record { period = omega arith; start = is.1.0.positive } }
 

@@ -84,9 +84,8 @@ module _ (cs : List Placed) (st : List Standing) (solved : IsSolved cs st) (x : 
 
     pub known_refused : (IsReducedTiming q known → ⊥) → IsConsistent (cs ++ last) → ⊥
     known_refused never (s, m) =
-        let k = meets_before s cs last m in
         let o = its s m in
-        let c = solved.standings.clock s k x known is in
+        let c = solved.standings.clock s (meets_before s cs last m) x known is in
         let small = solved.standings.small_clock x known is in
         never (record {
           period = only (pos (s.flow x).period) s.unit known.period q.period s.some (small_form (pos (s.flow x).period) s.unit known.period small.period c.period) (small_form (pos (s.flow x).period) s.unit q.period lowest o.period);

@@ -104,10 +104,9 @@ module _ (p : FlatProgram) (flat : IsFlat p) (clocks : List Clock) (count : leng
       out_meets : (out : ℕ) (flow : FlowNo) → slice_get app.outs out ≡ Some flow → (at : ℕ) × MeetsAll s (output_constraints flow.0 at out (Some app))
       out_meets out flow h =
           let o = its.outs out flow h in
-          let m = (parts flow.0 o.0 o.1).1 in
           let P : Def → Type 0 = λ d. MeetsAll s (definition_constraints p flow.0 o.0.at.at d) in
           let Q : Option App → Type 0 = λ a. MeetsAll s (output_constraints flow.0 o.0.at.at out a) in
-          (o.0.at.at, subst Q found (subst P o.2 m))
+          (o.0.at.at, subst Q found (subst P o.2 ((parts flow.0 o.0 o.1).1)))
 
       out_below : (out : ℕ) (flow : FlowNo) → slice_get app.outs out ≡ Some flow → flow.0 < length p.flows
       out_below out flow h = let o = its.outs out flow h in slice_get_within p.flows flow.0 o.0 o.1

@@ -176,27 +176,29 @@ module _ (cs : List Placed) (st : List Standing) (solved : IsSolved cs st) (x y 
     are' : AreStandings (cs ++ last) st
     are' = more_standings cs last st solved.standings across_consistent
 
+    -- one of the two goes over what the other stands over
+    joint_of : (u v : ℕ) → root_at st v < root_at st u → u < length st → Connected (cs ++ last) u v
+        → ((a b : ℕ) → (x ≡ a) × (y ≡ b) → ((root_at st a ≡ root_at st u) × (root_at st b ≡ root_at st v)) ⊎ ((root_at st a ≡ root_at st v) × (root_at st b ≡ root_at st u)))
+        → IsJoint (cs ++ last) st (standing_at st u) (standing_at st v)
+    joint_of u v lower within link ends = record {
+      standings = are';
+      first = u;
+      second = v;
+      first_is = refl;
+      second_is = refl;
+      within = within;
+      lower = lower;
+      link = link;
+      fixed = root_fixed cs st solved;
+      joined = λ a b j. elim (newest a b j) [ inl k ↦ inl (solved.joined a b k) | inr e ↦ inr (ends a b e) ];
+      rated = rates;
+      shared = solved.shared;
+    }
+
     -- the first goes over what the second stands over
     module _ (lower : root_at st y < root_at st x) (within : x < length st) where
       pub joint_down : IsJoint (cs ++ last) st (standing_at st x) (standing_at st y)
-      joint_down = record {
-        standings = are';
-        first = x;
-        second = y;
-        first_is = refl;
-        second_is = refl;
-        within = within;
-        lower = lower;
-        link = link_of;
-        fixed = root_fixed cs st solved;
-        joined = λ a b j.
-            elim (newest a b j) [
-              | inl k ↦ inl (solved.joined a b k)
-              | inr e ↦ inr (inl (ap (root_at st) (sym e.0), ap (root_at st) (sym e.1)))
-            ];
-        rated = rates;
-        shared = solved.shared;
-      }
+      joint_down = joint_of x y lower within link_of (λ a b e. inl (ap (root_at st) (sym e.0), ap (root_at st) (sym e.1)))
 
       pub down_passes : IsComposedPast link (standing_at st y).over → Passes (cs ++ last)
       down_passes past =
@@ -206,7 +208,7 @@ module _ (cs : List Placed) (st : List Standing) (solved : IsSolved cs st) (x y 
           link (standing_at st y).over is_link.parts (small_parts _ small_y) its (λ s m. y_over s (meets_before s cs last m)) past
 
       pub merging_down : (w : Timing) → IsSmallTiming w → IsComposed link (standing_at st y).over w → IsMerging (cs ++ last) st (standing_at st x) (standing_at st y) w
-      unfolding joint_down
+      unfolding joint_down joint_of
       merging_down w small c = record {
         joint = joint_down;
         small = small;
@@ -218,24 +220,7 @@ module _ (cs : List Placed) (st : List Standing) (solved : IsSolved cs st) (x y 
     -- the second goes over what the first stands over
     module _ (lower : root_at st x < root_at st y) (within : y < length st) where
       pub joint_up : IsJoint (cs ++ last) st (standing_at st y) (standing_at st x)
-      joint_up = record {
-        standings = are';
-        first = y;
-        second = x;
-        first_is = refl;
-        second_is = refl;
-        within = within;
-        lower = lower;
-        link = link_back;
-        fixed = root_fixed cs st solved;
-        joined = λ a b j.
-            elim (newest a b j) [
-              | inl k ↦ inl (solved.joined a b k)
-              | inr e ↦ inr (inr (ap (root_at st) (sym e.0), ap (root_at st) (sym e.1)))
-            ];
-        rated = rates;
-        shared = solved.shared;
-      }
+      joint_up = joint_of y x lower within link_back (λ a b e. inr (ap (root_at st) (sym e.0), ap (root_at st) (sym e.1)))
 
       pub up_passes : IsOverPast link (standing_at st x).over → Passes (cs ++ last)
       up_passes past =
@@ -245,7 +230,7 @@ module _ (cs : List Placed) (st : List Standing) (solved : IsSolved cs st) (x y 
           link (standing_at st x).over is_link.parts (small_parts _ small_x) its (λ s m. x_over s (meets_before s cs last m)) past
 
       pub merging_up : (w : Timing) → IsSmallTiming w → IsComposed link w (standing_at st x).over → IsMerging (cs ++ last) st (standing_at st y) (standing_at st x) w
-      unfolding joint_up
+      unfolding joint_up joint_of
       merging_up w small c = record {
         joint = joint_up;
         small = small;

@@ -89,25 +89,20 @@ decide_whole (negsuc m) (negsuc n) = elim (decide m n) [ inl e ↦ inl (ap negsu
 decide_whole (pos m) (negsuc n) = inr (λ e. absurd (cc e))
 decide_whole (negsuc m) (pos n) = inr (λ e. absurd (cc e))
 
+-- two parts of a whole are both equal, or the wholes differ
+decide_both : {A B C : Type 0} (first : C → A) (second : C → B) (f g : C) → (first f ≡ first g) ⊎ (first f ≢ first g) → (second f ≡ second g) ⊎ (second f ≢ second g) →
+    (first f ≡ first g → second f ≡ second g → f ≡ g) → (f ≡ g) ⊎ (f ≢ g)
+decide_both first second f g (inl a) (inl b) whole = inl (whole a b)
+decide_both first second f g (inl a) (inr d) whole = inr (λ e. d (ap second e))
+decide_both first second f g (inr d) other whole = inr (λ e. d (ap first e))
+
 decide_fraction : (f g : Fraction) → (f ≡ g) ⊎ (f ≢ g)
 decide_fraction f g =
-    elim (decide_whole f.num g.num) [
-      | inl a ↦ elim (decide f.den g.den) [
-        | inl b ↦ inl (λ i. record { num = a i; den = b i })
-        | inr d ↦ inr (λ e. d (ap (λ (x : Fraction). x.den) e))
-      ]
-      | inr d ↦ inr (λ e. d (ap (λ (x : Fraction). x.num) e))
-    ]
+    decide_both (λ (x : Fraction). x.num) (λ (x : Fraction). x.den) f g (decide_whole f.num g.num) (decide f.den g.den) (λ a b i. record { num = a i; den = b i })
 
 pub decide_timing : (t u : Timing) → (t ≡ u) ⊎ (t ≢ u)
 decide_timing t u =
-    elim (decide_fraction t.period u.period) [
-      | inl a ↦ elim (decide_fraction t.start u.start) [
-        | inl b ↦ inl (λ i. record { period = a i; start = b i })
-        | inr d ↦ inr (λ e. d (ap (λ (x : Timing). x.start) e))
-      ]
-      | inr d ↦ inr (λ e. d (ap (λ (x : Timing). x.period) e))
-    ]
+    decide_both (λ (x : Timing). x.period) (λ (x : Timing). x.start) t u (decide_fraction t.period u.period) (decide_fraction t.start u.start) (λ a b i. record { period = a i; start = b i })
 
 pub fits_total : (link second whole : Timing) → HasParts link → HasParts second → IsSmallTiming whole → IsComposed link second whole ⊎ (IsComposed link second whole → ⊥)
 fits_total link second whole dl ds small =

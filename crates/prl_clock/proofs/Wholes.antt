@@ -208,14 +208,12 @@ same_clocks_all (x ∷ xs) (y ∷ ys) e f =
 pub only_these : (p : FlatProgram) → IsFlat p → (clocks others : List Clock) → AreOnlyClocks p clocks → AreClocks p others → others ≡ clocks
 only_these p flat clocks others only are =
     let periods = all_periods others are.clock in
-    let m = clocks_meet p flat others periods are in
     let count : length others ≡ length clocks = are.count ∙ sym only.are.count in
     same_clocks_all others clocks count
     (λ i h.
-    let g = only.only (whole_assignment others periods) m i (omega (arith, h, count)) in
-    let q = g.period in
+    let g = only.only (whole_assignment others periods) (clocks_meet p flat others periods are) i (omega (arith, h, count)) in
     let t = start_is (clock_of others i).start (clock_of clocks i).start g.start in
-    equal_clocks (clock_of others i) (clock_of clocks i) (omega (arith, q)) t)
+    equal_clocks (clock_of others i) (clock_of clocks i) (omega (arith, g.period)) t)
   where
     start_is : (a b : ℕ) → pos a ≡ pos (b * 1) → a ≡ b
     start_is a b e = let h : a ≡ b * 1 = cc in omega (arith, h)

@@ -40,10 +40,8 @@ module _ (graph : TaskGraph) (good : IsWellFormed graph) where
     none_above : (job : Job) → job.task < length graph.tasks → (first : Job) (rest : List Job) → EndsIn graph (rounds + 1 + 1) job first rest →
         needs_of graph first rest ≤ℤ new job.task job.number
     none_above job inside first [] ends =
-        let up = round.up job.task job.number inside in
         let few : 0 + 1 ≤ rounds + 1 = omega arith in
-        let b = (bests.bests job inside).none_above first [] (record { chain = ends.chain; few = few; last = ends.last }) in
-        omega (arith, ints, up, b)
+        omega (arith, ints, round.up job.task job.number inside, (bests.bests job inside).none_above first [] (record { chain = ends.chain; few = few; last = ends.last }))
     none_above job inside first (next ∷ rest) ends =
         let e : Ending graph first (next ∷ rest) (last_of next rest) = before_last graph first next rest ends.chain in
         let last : last_of next rest ≡ job = ends.last in
@@ -52,18 +50,13 @@ module _ (graph : TaskGraph) (good : IsWellFormed graph) where
         let some : before.task < length graph.tasks = ends_inside graph first e.front e.chain in
         let b = (bests.bests before some).none_above first e.front (record { chain = e.chain; few = omega (arith, f, g); last = refl }) in
         let p : Precedes graph before job = subst (λ (j : Job). Precedes graph before j) last e.precedes in
-        let o = round.order before job p in
-        let w = e.wcets in
         let s : (task_at graph (last_of next rest).task).wcet ≡ (task_at graph job.task).wcet = ap (λ (j : Job). (task_at graph j.task).wcet) last in
-        omega (arith, ints, b, o, w, s)
+        omega (arith, ints, b, round.order before job p, e.wcets, s)
 
     rises : (i : ℕ) (a b : ℤ) → i < length graph.tasks → a ≤ℤ b → new i a ≤ℤ new i b
     rises i a b inside order =
         elim (round.only (record { task = i; number = a }) inside) [
-          | inl same ↦
-              (let r = bests.rises i a b inside order in
-              let u = round.up i b inside in
-              omega (arith, ints, same, r, u))
+          | inl same ↦ omega (arith, ints, same, bests.rises i a b inside order, round.up i b inside)
           | inr by ↦
               (let first : Job = by.0 in
               let h : Precedes graph first (record { task = i; number = a }) = by.1 in
@@ -71,13 +64,10 @@ module _ (graph : TaskGraph) (good : IsWellFormed graph) where
               let along : PrecedesAlong graph edge first (record { task = i; number = a }) = h.3 in
               let later : Job = record { task = first.task; number = preceding edge.ops b } in
               let q : Precedes graph later (record { task = i; number = b }) = (h.0, edge, h.2, record { from = along.from; to = along.to; number = refl }) in
-              let o = round.order later (record { task = i; number = b }) q in
-              let up = preceding_rises edge.ty edge.ops (good.edges h.0 edge h.2).operators a b order in
               let n : first.number ≡ preceding edge.ops a = along.number in
               let both = both_inside graph good first (record { task = i; number = a }) h in
-              let r = bests.rises first.task first.number (preceding edge.ops b) both.0 (omega (arith, ints, up, n)) in
-              let s = by.2 in
-              omega (arith, ints, o, r, s))
+              let r = bests.rises first.task first.number (preceding edge.ops b) both.0 (omega (arith, ints, preceding_rises edge.ty edge.ops (good.edges h.0 edge h.2).operators a b order, n)) in
+              omega (arith, ints, round.order later (record { task = i; number = b }) q, r, by.2))
         ]
 
     pub next_bests : AreBests graph (rounds + 1) new
@@ -106,9 +96,7 @@ module _ (graph : TaskGraph) (good : IsWellFormed graph) where
         ≤ℤ (other (last_of first rest).task (last_of first rest).number +ℤ pos (task_at graph (last_of first rest).task).wcet)
     within_other other are first [] chain = omega (arith, ints)
     within_other other are first (next ∷ rest) chain =
-        let step = are.along first next chain.1 in
-        let up = within_other other are next rest chain.2 in
-        omega (arith, ints, step, up)
+        omega (arith, ints, are.along first next chain.1, within_other other are next rest chain.2)
 
     pub least_releases : AreLeastReleases graph (λ i m. best i m -ℤ pos (task_at graph i).wcet)
     least_releases = record {
@@ -120,11 +108,9 @@ module _ (graph : TaskGraph) (good : IsWellFormed graph) where
           (let job : Job = record { task = i; number = m } in
           let b = (bests.bests job inside).attained in
           let e : EndsIn graph (rounds + 1) job b.0 b.1 = b.2 in
-          let start = are.above b.0.task b.0.number (begins_inside graph b.0 b.1 e.chain) in
           let whole = within_other other are b.0 b.1 e.chain in
           let last : last_of b.0 b.1 ≡ job = e.last in
           let at : (other b.0.task b.0.number +ℤ pos (wcets_of graph b.0 b.1)) ≤ℤ (other i m +ℤ pos (task_at graph i).wcet) =
           subst (λ (j : Job). (other b.0.task b.0.number +ℤ pos (wcets_of graph b.0 b.1)) ≤ℤ (other j.task j.number +ℤ pos (task_at graph j.task).wcet)) last whole in
-          let n = b.3 in
-          omega (arith, ints, start, at, n));
+          omega (arith, ints, are.above b.0.task b.0.number (begins_inside graph b.0 b.1 e.chain), at, b.3));
     }

@@ -1,7 +1,7 @@
 -- A chain of one job more than a hyperperiod has meets two jobs of one index: round and round from the one to the other, chains
 -- become narrow.
-use Rattle.std.proofs.Common.{◌≡◌, ◌+◌, ◌-◌, ◌*◌, ◌/◌, ◌%◌, ◌<◌, ◌≤◌, ◌⊎◌, ◌++◌, ℕ, zero, suc, Bool, true, false, List, [], ◌∷◌, length, map, inl, inr, refl, sym, ◌∙◌, ap, subst, arith, eqb, ◌||◌}
-use Rattle.std.specs.Prelude.{ℤ, pos, negsuc, ◌+ℤ◌, ◌-ℤ◌, ◌*ℤ◌, ◌≤ℤ◌, ◌<ℤ◌}
+use Rattle.std.proofs.Common.{◌≡◌, ◌+◌, ◌-◌, ◌*◌, ◌/◌, ◌<◌, ◌≤◌, ◌⊎◌, ◌++◌, ℕ, zero, suc, Bool, true, false, List, [], ◌∷◌, length, map, inl, inr, refl, sym, ◌∙◌, ap, subst, arith, eqb, ◌||◌}
+use Rattle.std.specs.Prelude.{ℤ, pos, negsuc, ◌+ℤ◌, ◌-ℤ◌, ◌≤ℤ◌, ◌<ℤ◌}
 use Rattle.std.specs.List.{list_any, IsDistinct, AllByRecursion}
 use Rattle.std.proofs.Math.Nat.{mod-add-div', mod-eq_of_lt, mul-le-mul_left}
 use Rattle.std.proofs.lemmas.Bool.Decides.{nat_tests}
@@ -32,10 +32,7 @@ same_place : (len : ℕ) → 1 ≤ len → (x : ℤ) (k : ℕ) → place_in (x +
 same_place len some =
     everywhere (λ (x : ℤ). (k : ℕ) → place_in (x +ℤ pos k) len ≡ place_in x len → (h : ℕ) × (k ≡ h * len)) len some
     (λ n below k same.
-    (let whole = mod-add-div' (n + k) len in
-    let low : n % len ≡ n = mod-eq_of_lt below in
-    let s : (n + k) % len ≡ n % len = same in
-    ((n + k) / len, omega (arith, whole, low, s))))
+    ((n + k) / len, omega (arith, mod-add-div' (n + k) len, mod-eq_of_lt below, same)))
     (λ x h k same. h k (sym (shifted x k) ∙ same ∙ place_again len some x))
     (λ x h k same. h k (shifted x k ∙ same ∙ sym (place_again len some x)))
   where
@@ -202,11 +199,8 @@ module _ (graph : TaskGraph) (good : IsWellFormed graph) where
         | inl distinct ↦ absurd
             (let few = length-le_from_distinct_below (indices first rest) (jobs_in_hyperperiod graph) distinct
             (λ q any. (let f = found q first rest chain any in
-            let b = index_inside f.0 (split_inside first rest f.0 f.2) in
-            let e = f.1 in
-            omega (arith, b, e))) in
-            let l = indices_long first rest in
-            omega (arith, few, l, long))
+            omega (arith, index_inside f.0 (split_inside first rest f.0 f.2), f.1))) in
+            omega (arith, few, indices_long first rest, long))
         | inr t ↦ t
       ]
 
@@ -238,13 +232,10 @@ module _ (graph : TaskGraph) (good : IsWellFormed graph) where
 
   later_release : (h : ℕ) (job : Job) → job.task < length graph.tasks → release (later h job) ≡ release job +ℤ pos (h * graph.hyper)
   later_release h job inside =
-      let e = plus_mul job.number (h * jobs_of graph job.task) (task_at graph job.task).clock.period in
-      let j = jobs_are graph good job.task inside in
-      let r : release (later h job) ≡ pos (task_at graph job.task).clock.start +ℤ ((job.number +ℤ pos (h * jobs_of graph job.task)) *ℤ pos (task_at graph job.task).clock.period) = refl in
       let f : h * jobs_of graph job.task * (task_at graph job.task).clock.period ≡ h * graph.hyper =
       (let g : h * jobs_of graph job.task * (task_at graph job.task).clock.period ≡ h * (jobs_of graph job.task * (task_at graph job.task).clock.period) = omega arith in
-      g ∙ ap (λ (n : ℕ). h * n) (sym j)) in
-      omega (arith, ints, e, f)
+      g ∙ ap (λ (n : ℕ). h * n) (sym (jobs_are graph good job.task inside))) in
+      omega (arith, ints, plus_mul job.number (h * jobs_of graph job.task) (task_at graph job.task).clock.period, f)
 
   later_number : (h i j : ℕ) (edge : Edge) → Joins graph i j edge → (n : ℤ) →
       preceding edge.ops (n +ℤ pos (h * jobs_of graph j)) ≡ preceding edge.ops n +ℤ pos (h * jobs_of graph i)
@@ -317,9 +308,7 @@ module _ (graph : TaskGraph) (good : IsWellFormed graph) where
           ))
       go (negsuc k) is task places released =
           absurd (let r = release_rises graph early.task (late.number +ℤ pos 1) early.number (omega (arith, ints, is)) in
-          let e = plus_mul late.number 1 (task_at graph early.task).clock.period in
-          let p = (task_is graph good early.task inside).period.0 in
-          omega (arith, ints, r, e, p, released))
+          omega (arith, ints, r, plus_mul late.number 1 (task_at graph early.task).clock.period, (task_is graph good early.task inside).period.0, released))
 
   -- round and round, so often
   record IsRoundTrip (early : Job) (h gain turns : ℕ) : Type 0 where
@@ -347,16 +336,14 @@ module _ (graph : TaskGraph) (good : IsWellFormed graph) where
         let j = join early around (later h early) (map (later h) r.rest) turn turned (later_chain h early r.rest r.chain) in
         let last : last_of early (around ++ map (later h) r.rest) ≡ later h (last_of early r.rest) = j.1 ∙ later_last h early r.rest in
         let inside : (last_of early r.rest).task < length graph.tasks = ends_inside graph early r.rest r.chain in
-        let l = later_release h (last_of early r.rest) inside in
         record {
           rest = around ++ map (later h) r.rest;
           chain = j.0;
           task = ap (λ (x : Job). x.task) last ∙ r.task;
           release_last =
               (let e : release (last_of early (around ++ map (later h) r.rest)) ≡ release (later h (last_of early r.rest)) = ap (λ (x : Job). release x) last in
-              let s = r.release_last in
               let t : suc turns * (h * graph.hyper) ≡ turns * (h * graph.hyper) + h * graph.hyper = omega arith in
-              omega (arith, ints, e, l, s, t));
+              omega (arith, ints, e, later_release h (last_of early r.rest) inside, r.release_last, t));
           wcets =
               (let w = j.2 in let v = later_wcets h early r.rest in let u = r.wcets in
               let t : suc turns * gain ≡ turns * gain + gain = omega arith in
@@ -366,15 +353,13 @@ module _ (graph : TaskGraph) (good : IsWellFormed graph) where
     -- a turn that gains more than the time that it takes
     pub narrow_turns : h * graph.hyper < gain → HasNarrowChain graph
     narrow_turns more =
-        let due : ℕ = (task_at graph early.task).due in
         let r = round_trip (task_at graph early.task).due in
         let up : (task_at graph early.task).due * (h * graph.hyper + 1) ≤ (task_at graph early.task).due * gain =
         mul-le-mul_left (task_at graph early.task).due (let e : h * graph.hyper + 1 ≤ gain = omega (arith, more) in e) in
         let spread : (task_at graph early.task).due * (h * graph.hyper + 1) ≡ (task_at graph early.task).due * (h * graph.hyper) + (task_at graph early.task).due = omega arith in
-        let some = (task_is graph good early.task early_inside).wcet.0 in
         let w = r.wcets in let l = r.release_last in
         let d : (task_at graph (last_of early r.rest).task).due ≡ (task_at graph early.task).due = ap (λ (i : ℕ). (task_at graph i).due) r.task in
-        (early, r.rest, record { chain = r.chain; late = omega (arith, ints, up, spread, some, w, l, d) })
+        (early, r.rest, record { chain = r.chain; late = omega (arith, ints, up, spread, (task_is graph good early.task early_inside).wcet.0, w, l, d) })
 
   pub loop_is_narrow : (job : Job) → EndsLoop graph job → HasNarrowChain graph
   loop_is_narrow job loop =
@@ -384,7 +369,6 @@ module _ (graph : TaskGraph) (good : IsWellFormed graph) where
       let order : release t.early ≤ℤ release t.late =
       subst (λ (j : Job). release t.early ≤ℤ release j) t.turned (first_early t.early t.around t.turn) in
       let between = hyperperiods_between t.early t.late early_in late_in t.indices_same order in
-      let h : ℕ = between.0 in
       let first_in : loop.first.task < length graph.tasks = begins_inside graph loop.first t.front t.before in
       let shorter = join (later between.0 loop.first) (map (later between.0) t.front) t.late t.back (later_chain between.0 loop.first t.front t.before)
       (later_last between.0 loop.first t.front ∙ ap (λ (j : Job). later between.0 j) t.ends ∙ sym between.1) t.after in
@@ -393,15 +377,10 @@ module _ (graph : TaskGraph) (good : IsWellFormed graph) where
       (let l = shorter.3 in let m = later_long between.0 t.front in omega (arith, l, m, some, long, whole)) in
       let bound = loop.is_best.none_above (later between.0 loop.first) (map (later between.0) t.front ++ t.back)
       (record { chain = shorter.0; few = few; last = shorter.1 ∙ t.same ∙ loop.last }) in
-      let r = later_release between.0 loop.first first_in in
-      let v = later_wcets between.0 loop.first t.front in
-      let u = shorter.2 in
-      let w = t.wcets in
-      let x = loop.longer in
       let least : wcet t.early ≤ wcets_of graph t.early t.around = at_least t.early t.around in
       let gain : wcets_of graph t.early t.around ≡ wcet t.early + (wcets_of graph t.early t.around - wcet t.early) = omega (arith, least) in
       narrow_turns t.early t.around t.turn between.0 (t.turned ∙ between.1) (wcets_of graph t.early t.around - wcet t.early) gain
-      (omega (arith, ints, bound, r, v, u, w, x, least))
+      (omega (arith, ints, bound, later_release between.0 loop.first first_in, later_wcets between.0 loop.first t.front, shorter.2, t.wcets, loop.longer, least))
     where
       at_least : (first : Job) (rest : List Job) → wcet first ≤ wcets_of graph first rest
       at_least first [] = omega arith

@@ -44,9 +44,7 @@ module _ (graph : TaskGraph) (good : IsWellFormed graph) (lanes : List Lane) (ar
   -- each best is at least the WCET
   pub best_room : (i p : ℕ) → i < length graph.tasks → p < jobs_of graph i → (task_at graph i).wcet ≤ slice_index bests (jobs_before graph i + p)
   best_room i p inside below =
-      let a = above i (pos p) inside in
-      let v = date_here graph bests i p below in
-      omega (arith, ints, a, v)
+      omega (arith, ints, above i (pos p) inside, date_here graph bests i p below)
 
   -- the deadlines begin with the dues
   pub first_dates : (dues : List ℕ) → IsFirstTable graph firsts.Due (length graph.tasks) dues → length dues ≡ jobs_in_hyperperiod graph → AreUpperDates graph bests dues
@@ -55,9 +53,7 @@ module _ (graph : TaskGraph) (good : IsWellFormed graph) (lanes : List Lane) (ar
     floors = λ i p inside below. (let d = spread.each i p inside below in let b = final.due i p inside below in omega (arith, d, b));
     due = λ i p inside below. (let d = spread.each i p inside below in omega (arith, d));
     above = λ other of i m inside.
-        (let b = of.below i m inside in
-        let d = spread.each i (place_in m (jobs_of graph i)) inside (place_below (jobs_of graph i) (some_jobs graph good i inside) m) in
-        omega (arith, ints, b, d));
+        omega (arith, ints, of.below i m inside, spread.each i (place_in m (jobs_of graph i)) inside (place_below (jobs_of graph i) (some_jobs graph good i inside) m));
   }
 
   pub floors_leave : LeaveAll graph lanes (length lanes) bests
@@ -97,8 +93,7 @@ module _ (graph : TaskGraph) (good : IsWellFormed graph) (lanes : List Lane) (ar
       release_is : (i : ℕ) (m : ℤ) → i < length graph.tasks → encoded_release graph windows i m ≡ dates_of graph bests i m -ℤ pos (task_at graph i).wcet
       release_is i m inside =
           let w : (window_at windows i m).lead ≡ slice_index bests (index_of graph i m) - (task_at graph i).wcet = ap (λ (x : Window). x.lead) (window_is graph good bests tails windows lists i inside m) in
-          let r = best_room i (place_in m (jobs_of graph i)) inside (place_below (jobs_of graph i) (some_jobs graph good i inside) m) in
-          omega (arith, ints, w, r)
+          omega (arith, ints, w, best_room i (place_in m (jobs_of graph i)) inside (place_below (jobs_of graph i) (some_jobs graph good i inside) m))
 
       deadline_is : (i : ℕ) (m : ℤ) → i < length graph.tasks → encoded_deadline graph windows i m ≡ dates_of graph tails i m
       deadline_is i m inside =
@@ -110,10 +105,7 @@ module _ (graph : TaskGraph) (good : IsWellFormed graph) (lanes : List Lane) (ar
         above = λ i m inside. (let a = least.releases.above i m inside in let e = release_is i m inside in omega (arith, ints, a, e));
         along = λ before after h.
             (let both = both_inside graph good before after h in
-            let a = least.releases.along before after h in
-            let x = release_is before.task before.number both.0 in
-            let y = release_is after.task after.number both.1 in
-            omega (arith, ints, a, x, y));
+            omega (arith, ints, least.releases.along before after h, release_is before.task before.number both.0, release_is after.task after.number both.1));
       }
 
       deadlines : AreDeadlines graph (encoded_deadline graph windows)
@@ -121,10 +113,7 @@ module _ (graph : TaskGraph) (good : IsWellFormed graph) (lanes : List Lane) (ar
         below = λ i m inside. (let a = greatest.deadlines.below i m inside in let e = deadline_is i m inside in omega (arith, ints, a, e));
         along = λ before after h.
             (let both = both_inside graph good before after h in
-            let a = greatest.deadlines.along before after h in
-            let x = deadline_is before.task before.number both.0 in
-            let y = deadline_is after.task after.number both.1 in
-            omega (arith, ints, a, x, y));
+            omega (arith, ints, greatest.deadlines.along before after h, deadline_is before.task before.number both.0, deadline_is after.task after.number both.1));
       }
 
       pub dates_made : AreEncodedDates graph windows

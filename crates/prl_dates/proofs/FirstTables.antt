@@ -79,8 +79,7 @@ module _ (graph : TaskGraph) where
         | inl inside ↦
             (let s = index_found (length graph.tasks) q (let l = is.long in omega (arith, l, inside)) in
             let v : slice_index table q ≡ first_of graph first s.0 = ap (λ (x : ℕ). slice_index table x) s.4 ∙ is.each s.0 s.1 s.2 s.3 in
-            let b = each s.0 s.2 in
-            omega (arith, v, b))
+            omega (arith, v, each s.0 s.2))
         | inr past ↦ (let z = get_past table q 0 past in omega (arith, z))
       ]
 

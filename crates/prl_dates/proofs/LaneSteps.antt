@@ -67,13 +67,9 @@ fits_high (negsuc n) fits = omega (arith, ints)
 -- a factor of what fits
 number_fits : (m : ℤ) (t : ℕ) → 1 ≤ t → Fits64 (m *ℤ pos t) → Fits64 m
 number_fits (pos n) t some fits =
-    (let h = fits_high (pos n *ℤ pos t) fits in
-    let up : n * 1 ≤ n * t = mul-le-mul_left n some in
-    fits_between (pos n) (omega (arith, ints)) (omega (arith, ints, h, up)))
+    fits_between (pos n) (omega (arith, ints)) (omega (arith, ints, fits_high (pos n *ℤ pos t) fits, mul-le-mul_left n some))
 number_fits (negsuc n) t some fits =
-    (let l = fits_low (negsuc n *ℤ pos t) fits in
-    let up : suc n * 1 ≤ suc n * t = mul-le-mul_left (suc n) some in
-    fits_between (negsuc n) (omega (arith, ints, l, up)) (omega (arith, ints)))
+    fits_between (negsuc n) (omega (arith, ints, fits_low (negsuc n *ℤ pos t) fits, mul-le-mul_left (suc n) some)) (omega (arith, ints))
 
 -- the clock of an edge's producer, as one of each tick so often taken
 takes_unit : (hyper : ℕ) (ops : List Op) (producer consumer : Clock) → TakeClock hyper ops producer consumer →
@@ -97,18 +93,14 @@ more_ops (x ∷ ops) op = (let r = more_ops ops op in omega (arith, r))
 module _ (graph : TaskGraph) (good : IsWellFormed graph) where
   ops_small : (edge : Edge) → IsEdge graph edge → (length edge.ops + 1) * graph.hyper ≤ 2 ^ 32 * 10000000
   ops_small edge is =
-      let few = is.few in
-      let a : (length edge.ops + 1) * graph.hyper ≤ 2 ^ 32 * graph.hyper = mul-le-mul_right graph.hyper (omega (arith, few)) in
-      let b : 2 ^ 32 * graph.hyper ≤ 2 ^ 32 * 10000000 = mul-le-mul_left (2 ^ 32) good.few_ticks in
-      omega (arith, a, b)
+      let a : (length edge.ops + 1) * graph.hyper ≤ 2 ^ 32 * graph.hyper = mul-le-mul_right graph.hyper (omega (arith, is.few)) in
+      omega (arith, a, mul-le-mul_left (2 ^ 32) good.few_ticks)
 
   -- the date of a job in a hyperperiod
   pub date_small : (j n : ℕ) → j < length graph.tasks → n < jobs_of graph j → n * (task_at graph j).clock.period ≤ 10000000
   date_small j n inside below =
       let a : n * (task_at graph j).clock.period ≤ jobs_of graph j * (task_at graph j).clock.period = mul-le-mul_right (task_at graph j).clock.period (omega (arith, below)) in
-      let e = jobs_are graph good j inside in
-      let h = good.few_ticks in
-      omega (arith, a, e, h)
+      omega (arith, a, jobs_are graph good j inside, good.few_ticks)
 
   pub few_jobs : (j n : ℕ) → j < length graph.tasks → n < jobs_of graph j → n ≤ 10000000
   few_jobs j n inside below = number_within n (task_at graph j).clock.period 10000000 (task_is graph good j inside).period.0 (date_small j n inside below)
@@ -126,22 +118,20 @@ module _ (graph : TaskGraph) (good : IsWellFormed graph) where
 
     pub joined_fits : PrecedingFits edge.ops (pos n)
     joined_fits =
-        let s = ops_small edge (good.edges joins.stands.0 edge joins.stands.1) in
         let e : (length edge.ops + 1) * graph.hyper ≡ length edge.ops * graph.hyper + graph.hyper = omega arith in
         preceding_fits graph.hyper edge.ops (task_at graph i).clock (task_at graph edge.to.0).clock good.hyper takes (pos n) 10000000 at_consumer
-        (omega (arith, s, e))
+        (omega (arith, ops_small edge (good.edges joins.stands.0 edge joins.stands.1), e))
 
     pub joined_product : Fits64 (preceding edge.ops (pos n) *ℤ pos (task_at graph i).clock.period)
     joined_product =
         let period : ℕ = (task_at graph i).clock.period in
-        let s = ops_small edge (good.edges joins.stands.0 edge joins.stands.1) in
         let l = more_ops edge.ops (operators.Down (task_at graph i).clock.period) in
         let longer : length (edge.ops ++ operators.Down (task_at graph i).clock.period ∷ []) * graph.hyper ≡ (length edge.ops + 1) * graph.hyper =
         ap (λ (x : ℕ). x * graph.hyper) l in
         let whole = preceding_fits graph.hyper (edge.ops ++ operators.Down (task_at graph i).clock.period ∷ [])
         (record { period = 1; start = (task_at graph i).clock.start }) (task_at graph edge.to.0).clock good.hyper
         (takes_unit graph.hyper edge.ops (task_at graph i).clock (task_at graph edge.to.0).clock takes) (pos n) 10000000 at_consumer
-        (omega (arith, s, longer)) in
+        (omega (arith, ops_small edge (good.edges joins.stands.0 edge joins.stands.1), longer)) in
         subst (λ (z : ℤ). Fits64 z) (*ℤ_comm (pos (task_at graph i).clock.period) (preceding edge.ops (pos n)))
         (fits_last edge.ops (task_at graph i).clock.period (pos n) whole)
 
@@ -153,7 +143,6 @@ module _ (graph : TaskGraph) (good : IsWellFormed graph) where
 
   pub joins_inside : (i j e : ℕ) → JoinsAt graph i j e → (i < length graph.tasks) × (j < length graph.tasks)
   joins_inside i j e at =
-      let edge : Edge = get_or graph.edges e no_edge in
       let stands : slice_get graph.edges e ≡ Some (get_or graph.edges e no_edge) = slice_get-get_or graph.edges e no_edge at.inside in
       let both = at.joins (get_or graph.edges e no_edge) stands in
       let is : IsEdge graph (get_or graph.edges e no_edge) = good.edges e (get_or graph.edges e no_edge) stands in
@@ -178,8 +167,7 @@ module _ (graph : TaskGraph) (good : IsWellFormed graph) where
       let order = released_first graph good (record { task = i; number = m }) (record { task = j; number = pos n })
       (joins.stands.0, edge, joins.stands.1, record { from = joins.from; to = joins.to; number = sym same }) in
       let d = date_small j n second below in
-      let s = (task_is graph good j second).start in
-      let later : release_of (task_at graph j) (pos n) ≤ℤ pos (2 ^ 31 + 10000000) = omega (arith, ints, d, s) in
+      let later : release_of (task_at graph j) (pos n) ≤ℤ pos (2 ^ 31 + 10000000) = omega (arith, ints, d, (task_is graph good j second).start) in
       let some : pos 0 ≤ℤ release_of (task_at graph j) (pos n) = omega (arith, ints) in
       let low = fits_low (m *ℤ pos (task_at graph i).clock.period) product in
       record {
@@ -206,8 +194,7 @@ module _ (graph : TaskGraph) (good : IsWellFormed graph) where
       link.gap ≡ unsigned_abs (release_of (task_at graph j) (pos n) -ℤ release_of (task_at graph i) m) → IsLinkOf graph i j (pos n) m link
   link_made i j n m near link from gap =
       let a = apart (release_of (task_at graph j) (pos n)) (release_of (task_at graph i) m) link.gap near.order gap in
-      let c = near.close in
-      record { index = sym from; gap = a; small = omega (arith, ints, a, c) }
+      record { index = sym from; gap = a; small = omega (arith, ints, a, near.close) }
 
   -- the first edge's numbers
   pub greatest_first : (i j e : ℕ) (edge : Edge) → slice_get graph.edges e ≡ Some edge → ComesFrom edge.from i → edge.to.0 ≡ j → (numbers : List ℤ) →

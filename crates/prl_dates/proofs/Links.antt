@@ -27,10 +27,9 @@ module _ (graph : TaskGraph) (good : IsWellFormed graph) where
   joins_shift i j edge joins n =
       let is : IsEdge graph edge = joined_edge i j edge joins in
       let inside : i < length graph.tasks = source_inside graph edge is edge.from refl i joins.from in
-      let from = jobs_are graph good i inside in
       let to : graph.hyper ≡ jobs_of graph edge.to.0 * (task_at graph edge.to.0).clock.period = jobs_are graph good edge.to.0 is.to in
       subst (λ (k : ℕ). preceding edge.ops (n +ℤ pos (jobs_of graph k)) ≡ preceding edge.ops n +ℤ pos (jobs_of graph i)) joins.to
-      (edge_precedes graph good edge is i (jobs_of graph edge.to.0) (jobs_of graph i) joins.from to from n)
+      (edge_precedes graph good edge is i (jobs_of graph edge.to.0) (jobs_of graph i) joins.from to (jobs_are graph good i inside) n)
 
   module _ (lane : Lane) (lanes : IsLane graph lane) (k : ℕ) where
     c : ℤ
@@ -55,8 +54,7 @@ module _ (graph : TaskGraph) (good : IsWellFormed graph) where
       index = index_again graph good lane.from.0 lanes.from m ∙ link.index;
       gap =
           (let a = release_again graph good lane.to.0 lanes.to n in let b = release_again graph good lane.from.0 lanes.from m in
-          let g = link.gap in
-          omega (arith, ints, a, b, g));
+          omega (arith, ints, a, b, link.gap));
     }
 
     pub link_down : (n m : ℤ) → IsLink graph lane k (n +ℤ pos (jobs_of graph lane.to.0)) (m +ℤ pos (jobs_of graph lane.from.0)) → IsLink graph lane k n m
@@ -67,8 +65,7 @@ module _ (graph : TaskGraph) (good : IsWellFormed graph) where
           link.greatest.attained.0,
           link.greatest.attained.1,
           (let s = joins_shift lane.from.0 lane.to.0 link.greatest.attained.0 link.greatest.attained.1 n in
-              let e = link.greatest.attained.2 in
-              let g : preceding link.greatest.attained.0.ops n ≡ m = omega (arith, ints, s, e) in g),
+              let g : preceding link.greatest.attained.0.ops n ≡ m = omega (arith, ints, s, link.greatest.attained.2) in g),
         );
         above = λ edge joins.
             (let s = joins_shift lane.from.0 lane.to.0 edge joins n in let a = link.greatest.above edge joins in omega (arith, ints, s, a));
@@ -76,8 +73,7 @@ module _ (graph : TaskGraph) (good : IsWellFormed graph) where
       index = sym (index_again graph good lane.from.0 lanes.from m) ∙ link.index;
       gap =
           (let a = release_again graph good lane.to.0 lanes.to n in let b = release_again graph good lane.from.0 lanes.from m in
-          let g = link.gap in
-          omega (arith, ints, a, b, g));
+          omega (arith, ints, a, b, link.gap));
     }
 
     back_again : (m : ℤ) (len : ℕ) → (m -ℤ pos len) +ℤ pos len ≡ m

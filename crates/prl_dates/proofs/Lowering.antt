@@ -59,12 +59,6 @@ module _ (graph : TaskGraph) (good : IsWellFormed graph) (floor table : List ℕ
   pub to_inside : lane.first + k < length table
   to_inside = (let t = links_to graph good lane is in let l = are.long in omega (arith, t, l, inside))
 
-  from_floor : slice_index floor (link_at lane k).from ≤ slice_index table (link_at lane k).from
-  from_floor =
-      let f = are.floors lane.from.0 (place_in (is.links k (let l = is.long in omega (arith, l, inside))).0 (jobs_of graph lane.from.0)) is.from place_inside in
-      let s = first_link.index in
-      subst (λ (q : ℕ). slice_index floor q ≤ slice_index table q) s f
-
   pub to_floor : slice_index floor (lane.first + k) ≤ slice_index table (lane.first + k)
   to_floor =
       subst (λ (q : ℕ). slice_index floor (q + k) ≤ slice_index table (q + k)) (sym is.first) (are.floors lane.to.0 k is.to below)
@@ -91,17 +85,14 @@ module _ (graph : TaskGraph) (good : IsWellFormed graph) (floor table : List ℕ
               let found = link_from graph good lane is k below m at in
               let link : IsLink graph lane k found.0 m = found.1 in
               let p = link_precedes graph good lane k found.0 m link in
-              let along = of.along (record { task = lane.from.0; number = m }) (record { task = lane.to.0; number = found.0 }) p in
               let up = are.above other of lane.to.0 found.0 is.to in
               let q : index_of graph lane.to.0 found.0 ≡ lane.first + k =
               ap (λ (x : ℕ). jobs_before graph lane.to.0 + x) link.place ∙ ap (λ (x : ℕ). x + k) (sym is.first) in
               let v : slice_index table (index_of graph lane.to.0 found.0) ≡ slice_index table (lane.first + k) = ap (λ (x : ℕ). slice_index table x) q in
-              let g = link.gap in
-              let r = room in
               let w : slice_index (set table (link_at lane k).from value) (index_of graph i m) ≡ value = here.1 in
               let o : other i m ≡ other lane.from.0 m = ap (λ (x : ℕ). other x m) one.0 in
               let t : release_of (task_at graph i) m ≡ release_of (task_at graph lane.from.0) m = ap (λ (x : ℕ). release_of (task_at graph x) m) one.0 in
-              omega (arith, ints, along, up, v, g, r, w, o, t, asked))
+              omega (arith, ints, of.along (record { task = lane.from.0; number = m }) (record { task = lane.to.0; number = found.0 }) p, up, v, link.gap, room, w, o, t, asked))
           | inr there ↦ (let a = are.above other of i m task in let e = there.1 in omega (arith, ints, a, e))
         ]
 
@@ -119,10 +110,8 @@ module _ (graph : TaskGraph) (good : IsWellFormed graph) (floor table : List ℕ
       due = λ i p task job.
           elim (set_index table (link_at lane k).from (jobs_before graph i + p) value from_inside) [
             | inl here ↦
-                (let d = are.due i p task job in
-                let e : slice_index table (jobs_before graph i + p) ≡ slice_index table (link_at lane k).from = ap (λ (x : ℕ). slice_index table x) here.0 in
-                let v = here.1 in
-                omega (arith, d, e, v, less))
+                (let e : slice_index table (jobs_before graph i + p) ≡ slice_index table (link_at lane k).from = ap (λ (x : ℕ). slice_index table x) here.0 in
+                omega (arith, are.due i p task job, e, here.1, less))
             | inr there ↦ (let d = are.due i p task job in let v = there.1 in omega (arith, d, v))
           ];
       above = lowered_above;
@@ -131,8 +120,7 @@ module _ (graph : TaskGraph) (good : IsWellFormed graph) (floor table : List ℕ
     pub sum_less : sum (set table (link_at lane k).from value) < sum table
     sum_less =
         (let s = sum_by-set (λ (x : ℕ). x) table (link_at lane k).from value 0 from_inside in
-        let t : sum (set table (link_at lane k).from value) + slice_index table (link_at lane k).from ≡ sum table + value = s in
-        omega (arith, t, less))
+        omega (arith, s, less))
 
 -- one link more, of the lane's links under another name
 module _ (graph : TaskGraph) (good : IsWellFormed graph) (floor : List ℕ) (lane : Lane) (is : IsLane graph lane)
@@ -159,19 +147,14 @@ module _ (graph : TaskGraph) (good : IsWellFormed graph) (floor : List ℕ) (lan
 
   pub sum_fits : get_or table (lane.first + k) 0 + (get_or links k no_link).gap < 2 ^ 64
   sum_fits =
-      (let d = to_small graph good floor table so_far.dates lane is k at (floors k at) in
-      let t = task_is graph good lane.to.0 is.to in
-      let u = t.due.1 in
-      let p = t.period.1 in
-      let g = is.small k in
+      (let t = task_is graph good lane.to.0 is.to in
       let e : (get_or links k no_link).gap ≡ (link_at lane k).gap = ap (λ (x : Link). x.gap) link_is in
-      omega (arith, d, u, p, g, e))
+      omega (arith, to_small graph good floor table so_far.dates lane is k at (floors k at), t.due.1, t.period.1, is.small k, e))
 
   pub room_is : wcet ≤ get_or table (lane.first + k) 0 + (get_or links k no_link).gap
   room_is =
-      (let r = room graph good floor table so_far.dates lane is k at (floors k at) in
-      let e : (get_or links k no_link).gap ≡ (link_at lane k).gap = ap (λ (x : Link). x.gap) link_is in
-      omega (arith, r, e, own))
+      (let e : (get_or links k no_link).gap ≡ (link_at lane k).gap = ap (λ (x : Link). x.gap) link_is in
+      omega (arith, room graph good floor table so_far.dates lane is k at (floors k at), e, own))
 
   pub lowered_more : get_or table (lane.first + k) 0 + (get_or links k no_link).gap - wcet < get_or table (get_or links k no_link).from 0 →
       IsLowering graph floor lane (k + 1) old
@@ -207,10 +190,9 @@ module _ (graph : TaskGraph) (good : IsWellFormed graph) (floor : List ℕ) (lan
           | inr above ↦
               (let e : k ≡ j = omega (arith, above, below) in
               let here : Leaves lane (task_at graph lane.to.0).wcet table table k =
-              (let r = room_is in
-              let g : (get_or links k no_link).gap ≡ (link_at lane k).gap = ap (λ (x : Link). x.gap) link_is in
+              (let g : (get_or links k no_link).gap ≡ (link_at lane k).gap = ap (λ (x : Link). x.gap) link_is in
               let f : get_or table (get_or links k no_link).from 0 ≡ slice_index table (link_at lane k).from = ap (λ (x : Link). get_or table x.from 0) link_is in
-              omega (arith, r, g, f, low, own)) in
+              omega (arith, room_is, g, f, low, own)) in
               subst (λ (x : ℕ). Leaves lane (task_at graph lane.to.0).wcet table table x) e here)
         ];
   }

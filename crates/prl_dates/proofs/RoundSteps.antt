@@ -27,6 +27,11 @@ lane_more P lanes l lane stands before here j other below at =
       | inr above ↦ (let e : j ≡ l = omega (arith, above, below) in subst P (same_lane lanes l lane other stands (subst (λ (x : ℕ). slice_get lanes x ≡ Some other) e at)) here)
     ]
 
+-- what is met stays so where a later table has the same date
+pub still_meets : (lane : Lane) (wcet : ℕ) (now next later : List ℕ) (k q : ℕ) → q ≡ lane.first + k → slice_index later q ≡ slice_index next q → Meets lane wcet now next k →
+    Meets lane wcet now later k
+still_meets lane wcet now next later k q at same meets = ap (λ (x : ℕ). x + (link_at lane k).gap) (subst (λ (x : ℕ). slice_index later x ≡ slice_index next x) at same) ∙ meets
+
 module _ (graph : TaskGraph) (lanes : List Lane) (l : ℕ) (lane : Lane) (stands : slice_get lanes l ≡ Some lane) (now next : List ℕ)
     (round : AreRound graph lanes l now next) where
   pub round_more : (later : List ℕ) → AreRaised lane (task_at graph lane.to.0).wcet (length lane.links) now next later → AreRound graph lanes (l + 1) now later
@@ -41,19 +46,7 @@ module _ (graph : TaskGraph) (lanes : List Lane) (l : ℕ) (lane : Lane) (stands
           | inl same ↦
               elim (round.only q) [
                 | inl still ↦ inl (same ∙ still)
-                | inr by ↦
-                    inr (
-                      by.0,
-                      by.1,
-                      by.2,
-                      by.3,
-                      by.4,
-                      by.5,
-                      (let m : Meets by.1 (task_at graph by.1.to.0).wcet now next by.3 = by.6 in
-                          let e : slice_index later (by.1.first + by.3) ≡ slice_index next (by.1.first + by.3) =
-                          subst (λ (x : ℕ). slice_index later x ≡ slice_index next x) by.5 same in
-                          ap (λ (x : ℕ). x + (link_at by.1 by.3).gap) e ∙ m),
-                    )
+                | inr by ↦ inr (by.0, by.1, by.2, by.3, by.4, by.5, still_meets by.1 (task_at graph by.1.to.0).wcet now next later by.3 q by.5 same by.6)
               ]
           | inr by ↦ inr (l, lane, stands, by.0, by.1, by.2, by.3)
         ];
@@ -84,16 +77,11 @@ module _ (graph : TaskGraph) (good : IsWellFormed graph) where
       let link = is.links k (let l = is.long in omega (arith, l, inside)) in
       let below = index_below graph lane.from.0 (place_in link.0 (jobs_of graph lane.from.0)) is.from
       (place_below (jobs_of graph lane.from.0) (some_jobs graph good lane.from.0 is.from) link.0) in
-      let s = link.1.index in
-      omega (arith, below, s)
+      omega (arith, below, link.1.index)
 
   pub links_to : (lane : Lane) → IsLane graph lane → lane.first + length lane.links ≤ jobs_in_hyperperiod graph
   links_to lane is =
-      let r = before_rises graph lane.to.0 (length graph.tasks) is.to in
-      let a = before_all graph in
-      let f = is.first in
-      let l = is.long in
-      omega (arith, r, a, f, l)
+      omega (arith, before_rises graph lane.to.0 (length graph.tasks) is.to, before_all graph, is.first, is.long)
 
   module _ (lanes : List Lane) (are : AreEachLane graph lanes) (now next : List ℕ) (round : AreRound graph lanes (length lanes) now next) where
     pub next_within : (bound : ℕ) → AreWithin now bound → AreWithin next (bound + 2 ^ 31)
@@ -101,12 +89,8 @@ module _ (graph : TaskGraph) (good : IsWellFormed graph) where
         elim (round.only q) [
           | inl same ↦ (let w = within q in omega (arith, same, w))
           | inr by ↦
-              (let w = within (link_at by.1 by.3).from in
-              let is = are by.0 by.1 by.2 in
-              let c = (task_is graph good by.1.to.0 is.to).wcet.1 in
-              let m : Meets by.1 (task_at graph by.1.to.0).wcet now next by.3 = by.6 in
-              let e : slice_index next q ≡ slice_index next (by.1.first + by.3) = ap (λ (x : ℕ). slice_index next x) by.5 in
-              omega (arith, w, c, m, e))
+              (let e : slice_index next q ≡ slice_index next (by.1.first + by.3) = ap (λ (x : ℕ). slice_index next x) by.5 in
+              omega (arith, within (link_at by.1 by.3).from, (task_is graph good by.1.to.0 (are by.0 by.1 by.2).to).wcet.1, by.6, e))
         ]
 
     -- what a task that did not rise asks for is done
@@ -115,10 +99,8 @@ module _ (graph : TaskGraph) (good : IsWellFormed graph) where
         let is = are l lane stands in
         let a : Leaves lane (task_at graph lane.to.0).wcet now next k = round.asks l lane (slice_get_within lanes l lane stands) stands k inside in
         let link = is.links k (let l = is.long in omega (arith, l, inside)) in
-        let p = place_in link.0 (jobs_of graph lane.from.0) in
         let below : place_in link.0 (jobs_of graph lane.from.0) < jobs_of graph lane.from.0 =
         place_below (jobs_of graph lane.from.0) (some_jobs graph good lane.from.0 is.from) link.0 in
-        let same = marked lane.from.0 (place_in link.0 (jobs_of graph lane.from.0)) is.from unmarked below in
         let x : slice_index next (index_of graph lane.from.0 link.0) ≡ slice_index next (link_at lane k).from = ap (λ (q : ℕ). slice_index next q) link.1.index in
         let y : slice_index now (index_of graph lane.from.0 link.0) ≡ slice_index now (link_at lane k).from = ap (λ (q : ℕ). slice_index now q) link.1.index in
-        omega (arith, a, same, x, y)
+        omega (arith, a, marked lane.from.0 (place_in link.0 (jobs_of graph lane.from.0)) is.from unmarked below, x, y)

@@ -21,7 +21,7 @@ use Rattle.prl_dates.specs.Faults.{jobs_of, IsOfPeriod, IsLate, EndsLoop, NoneOf
 use Rattle.prl_dates.specs.code.Families.{AreBests}
 use Rattle.prl_dates.specs.code.Lanes.{AreLanes, AreEachLane}
 use Rattle.prl_dates.specs.code.Indices.{jobs_before, dates_of}
-use Rattle.prl_dates.specs.code.Tables.{Leaves, AreRound, AreSettled, IsFirstTable, IsNowhereAbove, IsFirstAbove}
+use Rattle.prl_dates.specs.code.Tables.{AreRound, AreSettled, IsFirstTable, IsNowhereAbove, IsFirstAbove}
 use Rattle.prl_dates.proofs.BestRounds.{next_bests}
 use Rattle.prl_dates.proofs.Indices.{place_below, place_self, some_jobs, index_below}
 use Rattle.prl_dates.proofs.LaneSteps.{date_small}
@@ -32,10 +32,7 @@ use Rattle.prl_dates.proofs.TableRounds.{round_of_tables}
 -- releases rise along a task
 pub release_rises : (graph : TaskGraph) (i : ℕ) (a b : ℤ) → a ≤ℤ b → release_of (task_at graph i) a ≤ℤ release_of (task_at graph i) b
 release_rises graph i a b order =
-    let m = mono (task_at graph i).clock.period a b order in
-    let x : a *ℤ pos (task_at graph i).clock.period ≡ pos (task_at graph i).clock.period *ℤ a = *ℤ_comm a (pos (task_at graph i).clock.period) in
-    let y : b *ℤ pos (task_at graph i).clock.period ≡ pos (task_at graph i).clock.period *ℤ b = *ℤ_comm b (pos (task_at graph i).clock.period) in
-    omega (arith, ints, m, x, y)
+    omega (arith, ints, mono (task_at graph i).clock.period a b order, *ℤ_comm a (pos (task_at graph i).clock.period), *ℤ_comm b (pos (task_at graph i).clock.period))
 
 -- the date of a job of the first hyperperiod
 pub date_here : (graph : TaskGraph) (table : List ℕ) (i p : ℕ) → p < jobs_of graph i →
@@ -126,12 +123,9 @@ module _ (graph : TaskGraph) (good : IsWellFormed graph) where
           slice_index dues (jobs_before graph i + p) < slice_index now (jobs_before graph i + p)
       late_is_above i p of late =
           let l : IsLate graph (record { task = i; number = pos p }) late.0 late.1 = late.2 in
-          let same = one_best graph (jobs_in_hyperperiod graph) (record { task = i; number = pos p }) late.0 (dates_of graph now i (pos p)) l.best (best_here i p of) in
           let v = date_here graph now i p of.1 in
           let d = spread.each i p of.0 of.1 in
-          let u = l.due in
-          let x = l.late in
-          omega (arith, ints, same, v, d, u, x)
+          omega (arith, ints, one_best graph (jobs_in_hyperperiod graph) (record { task = i; number = pos p }) late.0 (dates_of graph now i (pos p)) l.best (best_here i p of), v, d, l.due, l.late)
 
       pub late_fault : (task : TaskNo) (n : ℕ) → IsFirstAbove graph now dues task.0 n →
           IsDateFault graph (faults.Narrow task (pos n) (dates_of graph now task.0 (pos n)) (deadline_of (task_at graph task.0) (pos n)))
@@ -140,10 +134,7 @@ module _ (graph : TaskGraph) (good : IsWellFormed graph) where
             best = best_here task.0 n at.of_period;
             due = refl;
             late =
-                (let v = date_here graph now task.0 n at.of_period.1 in
-                let d = spread.each task.0 n at.of_period.0 at.of_period.1 in
-                let a = at.above in
-                omega (arith, ints, v, d, a));
+                omega (arith, ints, date_here graph now task.0 n at.of_period.1, spread.each task.0 n at.of_period.0 at.of_period.1, at.above);
           } in (
             late,
             record {
@@ -159,16 +150,12 @@ module _ (graph : TaskGraph) (good : IsWellFormed graph) where
 
       pub none_late : IsNowhereAbove graph (length graph.tasks) now dues → NoneOfPeriod graph (IsSomehowLate graph)
       none_late below i p of late =
-          let a = late_is_above i p of late in
-          let b = below i p of.0 of.1 in
-          absurd (omega (arith, a, b))
+          absurd (omega (arith, late_is_above i p of late, below i p of.0 of.1))
 
       pub within_dues : IsNowhereAbove graph (length graph.tasks) now dues → (i p : ℕ) → i < length graph.tasks → p < jobs_of graph i →
           slice_index now (jobs_before graph i + p) ≤ (task_at graph i).due
       within_dues below i p inside less =
-          let b = below i p inside less in
-          let d = spread.each i p inside less in
-          omega (arith, b, d)
+          omega (arith, below i p inside less, spread.each i p inside less)
 
       module _ (lanes : List Lane) (are : AreLanes graph lanes) (next : List ℕ) (round : AreRound graph lanes (length lanes) now next) where
         next_here : AreBests graph (most + 1) (dates_of graph next)
@@ -177,26 +164,19 @@ module _ (graph : TaskGraph) (good : IsWellFormed graph) where
         loop_is_above : (i p : ℕ) → IsOfPeriod graph i p → EndsLoop graph (record { task = i; number = pos p }) →
             slice_index now (jobs_before graph i + p) < slice_index next (jobs_before graph i + p)
         loop_is_above i p of loop =
-            let same = one_best graph (jobs_in_hyperperiod graph) (record { task = i; number = pos p }) loop.best (dates_of graph now i (pos p)) loop.is_best (best_here i p of) in
-            let b = index_below graph i p of.0 of.1 in
-            let few : length loop.rest + 1 ≤ most + 1 + 1 = (let l = loop.long in omega (arith, l, b, is)) in
+            let few : length loop.rest + 1 ≤ most + 1 + 1 = (let l = loop.long in omega (arith, l, index_below graph i p of.0 of.1, is)) in
             let up = (next_here.bests (record { task = i; number = pos p }) of.0).none_above loop.first loop.rest (record { chain = loop.chain; few = few; last = loop.last }) in
             let x = loop.longer in
             let v = date_here graph now i p of.1 in
             let w = date_here graph next i p of.1 in
-            omega (arith, ints, same, up, x, v, w)
+            omega (arith, ints, one_best graph (jobs_in_hyperperiod graph) (record { task = i; number = pos p }) loop.best (dates_of graph now i (pos p)) loop.is_best (best_here i p of), up, x, v, w)
 
         loop_ends : (i n : ℕ) → IsFirstAbove graph next now i n → EndsLoop graph (record { task = i; number = pos n })
         loop_ends i n at =
-            let job : Job = record { task = i; number = pos n } in
             let of = at.of_period in
             let a = (next_here.bests (record { task = i; number = pos n }) of.0).attained in
             let e : EndsIn graph (most + 1 + 1) (record { task = i; number = pos n }) a.0 a.1 = a.2 in
-            let b = index_below graph i n of.0 of.1 in
-            let v = date_here graph now i n of.1 in
-            let w = date_here graph next i n of.1 in
-            let u = at.above in
-            let longer : dates_of graph now i (pos n) <ℤ needs_of graph a.0 a.1 = (let s = a.3 in omega (arith, ints, s, v, w, u)) in
+            let longer : dates_of graph now i (pos n) <ℤ needs_of graph a.0 a.1 = (let s = a.3 in omega (arith, ints, s, date_here graph now i n of.1, date_here graph next i n of.1, at.above)) in
             record {
               best = dates_of graph now i (pos n);
               is_best = best_here i n of;
@@ -207,9 +187,8 @@ module _ (graph : TaskGraph) (good : IsWellFormed graph) where
                   elim (cases_lt (length a.1) (jobs_in_hyperperiod graph)) [
                     | inl short ↦ absurd
                         (let few : length a.1 + 1 ≤ most + 1 = omega (arith, short, is) in
-                        let up = (bests.bests (record { task = i; number = pos n }) of.0).none_above a.0 a.1 (record { chain = e.chain; few = few; last = e.last }) in
-                        omega (arith, ints, up, longer))
-                    | inr above ↦ (let f = e.few in omega (arith, above, f, is, b))
+                        omega (arith, ints, (bests.bests (record { task = i; number = pos n }) of.0).none_above a.0 a.1 (record { chain = e.chain; few = few; last = e.last }), longer))
+                    | inr above ↦ (let f = e.few in omega (arith, above, f, is, index_below graph i n of.0 of.1))
                   ];
               last = e.last;
               longer = longer;
@@ -237,11 +216,10 @@ module _ (graph : TaskGraph) (good : IsWellFormed graph) where
           up = λ q. omega arith;
           asks = λ l lane less stands k inside.
               (let lane_is = are.each l lane stands in
-              let a : Leaves lane (task_at graph lane.to.0).wcet now next k = round.asks l lane less stands k inside in
               let b = below lane.to.0 k lane_is.to (let long = lane_is.long in omega (arith, long, inside)) in
               let f = lane_is.first in
               let v : slice_index next (lane.first + k) ≡ slice_index next (jobs_before graph lane.to.0 + k) = ap (λ (x : ℕ). slice_index next (x + k)) f in
               let w : slice_index now (lane.first + k) ≡ slice_index now (jobs_before graph lane.to.0 + k) = ap (λ (x : ℕ). slice_index now (x + k)) f in
-              omega (arith, a, b, v, w));
+              omega (arith, round.asks l lane less stands k inside, b, v, w));
           only = λ q. inl refl;
         }

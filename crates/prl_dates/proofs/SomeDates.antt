@@ -67,7 +67,6 @@ module _ (lane : Lane) (wcet : ℕ) (now old : List ℕ) (k : ℕ) (new : List �
   set_raised : slice_index new (lane.first + k) + (link_at lane k).gap < slice_index now (link_at lane k).from + wcet →
       AreRaised lane wcet (k + 1) now old (set new (lane.first + k) (slice_index now (link_at lane k).from + wcet - (link_at lane k).gap))
   set_raised more =
-      let value : ℕ = slice_index now (link_at lane k).from + wcet - (link_at lane k).gap in
       let later : List ℕ = set new (lane.first + k) (slice_index now (link_at lane k).from + wcet - (link_at lane k).gap) in
       let higher : (q : ℕ) → slice_index new q ≤ slice_index (set new (lane.first + k) (slice_index now (link_at lane k).from + wcet - (link_at lane k).gap)) q =
       λ q. elim (set_index new (lane.first + k) q (slice_index now (link_at lane k).from + wcet - (link_at lane k).gap) inside) [
@@ -227,7 +226,6 @@ module _ (graph : TaskGraph) (good : IsWellFormed graph) where
 
     final_or_fault : FinalOrFault
     final_or_fault =
-        let most : ℕ = jobs_in_hyperperiod graph - 1 in
         let now = some_bests (jobs_in_hyperperiod graph - 1) in
         let dues = some_first graph firsts.Due (length graph.tasks) in
         elim (first_above now.table dues.0) [
@@ -303,11 +301,9 @@ module _ (graph : TaskGraph) (good : IsWellFormed graph) where
             (let at : Asks table least.0 = least.1.is in
             let is = are.each least.0 at.lane at.stands in
             let leaves = floors least.0 at.lane (slice_get_within lanes least.0 at.lane at.stands) at.stands at.k at.inside in
-            let asks = at.asks in
-            let enough = room graph good floor table upper at.lane is at.k at.inside leaves in
             let value : ℕ = slice_index table (at.lane.first + at.k) + (link_at at.lane at.k).gap - (task_at graph at.lane.to.0).wcet in
             let less : slice_index table (at.lane.first + at.k) + (link_at at.lane at.k).gap - (task_at graph at.lane.to.0).wcet < slice_index table (link_at at.lane at.k).from =
-            omega (arith, asks, enough) in
+            omega (arith, at.asks, room graph good floor table upper at.lane is at.k at.inside leaves) in
             inr (
               set table (link_at at.lane at.k).from value,
               lowered graph good floor table upper at.lane is at.k at.inside leaves value refl less,

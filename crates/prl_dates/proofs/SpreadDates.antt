@@ -40,19 +40,15 @@ module _ (plan : PlanView) (is : IsPlan plan) where
   pub window_fits : (i n : ℕ) → i < length plan.graph.tasks → ((window_at plan.windows i (pos n)).lead + (task_at plan.graph i).wcet ≤ (window_at plan.windows i (pos n)).tail)
       × ((window_at plan.windows i (pos n)).tail ≤ (task_at plan.graph i).due)
   window_fits i n inside =
-      let r = is.room.room i (pos n) inside in
       let d = is.dates.deadlines.deadlines.below i (pos n) inside in (
-        omega (arith, ints, r),
+        omega (arith, ints, is.room.room i (pos n) inside),
         omega (arith, ints, d),
       )
 
   pub window_small : (i n : ℕ) → i < length plan.graph.tasks → (window_at plan.windows i (pos n)).tail < 2 ^ 31
   window_small i n inside =
-      let d = (window_fits i n inside).1 in
       let t = task_is plan.graph is.graph i inside in
-      let u = t.due.1 in
-      let p = t.period.1 in
-      omega (arith, d, u, p)
+      omega (arith, (window_fits i n inside).1, t.due.1, t.period.1)
 
   pub deadlines_tell : (deadlines : List ℕ) → IsTableOf plan bounds.Deadline deadlines → (i : ℕ) (m : ℤ) → i < length plan.graph.tasks →
       dates_of plan.graph deadlines i m ≡ encoded_deadline plan.graph plan.windows i m
@@ -128,25 +124,17 @@ module _ (plan : PlanView) (is : IsPlan plan) where
       ends_above : (i : ℕ) (m : ℤ) → i < length plan.graph.tasks →
           (encoded_release plan.graph plan.windows i m +ℤ pos (task_at plan.graph i).wcet) ≤ℤ dates_of plan.graph ends i m
       ends_above i m inside =
-          let t = ends_tell made.base made.of_base i m inside in
-          let a = made.raised.up (index_of plan.graph i m) in
-          let b = least.up (index_of plan.graph i m) in
-          omega (arith, ints, t, a, b)
+          omega (arith, ints, ends_tell made.base made.of_base i m inside, made.raised.up (index_of plan.graph i m), least.up (index_of plan.graph i m))
 
       ends_due : (i p : ℕ) → i < length plan.graph.tasks → p < jobs_of plan.graph i → slice_index ends (jobs_before plan.graph i + p) ≤ (task_at plan.graph i).clock.period
       ends_due i p inside below =
-          let a = least.least (encoded_deadline plan.graph plan.windows) deadlines_keep across_due i (pos p) inside in
-          let d = is.dates.deadlines.deadlines.below i (pos p) inside in
           let h = date_here plan.graph ends i p below in
           let t = (task_is plan.graph is.graph i inside).due.1 in
-          omega (arith, ints, a, d, h, t)
+          omega (arith, ints, least.least (encoded_deadline plan.graph plan.windows) deadlines_keep across_due i (pos p) inside, is.dates.deadlines.deadlines.below i (pos p) inside, h, t)
 
       deadlines_due : (i p : ℕ) → i < length plan.graph.tasks → p < jobs_of plan.graph i → slice_index deadlines (jobs_before plan.graph i + p) ≤ (task_at plan.graph i).clock.period
       deadlines_due i p inside below =
-          let e = of_deadlines.each i p inside below in
-          let d = (window_fits i p inside).1 in
-          let t = (task_is plan.graph is.graph i inside).due.1 in
-          omega (arith, e, d, t)
+          omega (arith, of_deadlines.each i p inside below, (window_fits i p inside).1, (task_is plan.graph is.graph i inside).due.1)
 
       ends_within : (before after : Job) → Precedes plan.graph before after → AreTogether processors before.task after.task →
           (dates_of plan.graph ends before.task before.number +ℤ pos (task_at plan.graph after.task).wcet) ≤ℤ dates_of plan.graph ends after.task after.number
@@ -167,17 +155,15 @@ module _ (plan : PlanView) (is : IsPlan plan) where
           λ together. apart (ap (λ (i : ℕ). slice_index processors i) (sym at.from) ∙ together ∙ ap (λ (i : ℕ). slice_index processors i) at.to) in
           let o = linked_order plan.graph is.graph lanes are deadlines across (table_rises plan.graph is.graph deadlines deadlines_due) before after at
           (made.raised.asks at.l at.lane (slice_get_within lanes at.l at.lane at.stands) at.stands apart' at.k (let b = at.below in let l = at.is.long in omega (arith, b, l))) in
-          let t = deadlines_tell deadlines of_deadlines before.task before.number (both_inside plan.graph is.graph before after precedes).0 in
           let u = least.up (index_of plan.graph after.task after.number) in
-          omega (arith, ints, o, t, u)
+          omega (arith, ints, o, deadlines_tell deadlines of_deadlines before.task before.number (both_inside plan.graph is.graph before after precedes).0, u)
 
       ends_least : (other : Family) → AreSpreadReleases plan.graph plan.windows processors other → IsBelow plan.graph (dates_of plan.graph ends) (λ i m. other i m +ℤ pos (task_at plan.graph i).wcet)
       ends_least other of =
           least.least (λ i m. other i m +ℤ pos (task_at plan.graph i).wcet)
           (λ l lane stands k n m link.
           (let together = eqb-true (slice_index processors lane.from.0) (slice_index processors lane.to.0) (item l lane stands).passes in
-          let w = of.within (record { task = lane.from.0; number = m }) (record { task = lane.to.0; number = n }) (link_precedes plan.graph is.graph lane k n m link) together in
-          omega (arith, ints, w)))
+          omega (arith, ints, of.within (record { task = lane.from.0; number = m }) (record { task = lane.to.0; number = n }) (link_precedes plan.graph is.graph lane k n m link) together)))
           (across_below (λ i m. other i m +ℤ pos (task_at plan.graph i).wcet)
           (λ before after precedes apart. (let a = of.across before after precedes apart in omega (arith, ints, a)))
           (λ i m inside. (let a = of.above i m inside in omega (arith, ints, a))))
@@ -199,17 +185,14 @@ module _ (plan : PlanView) (is : IsPlan plan) where
     -- each end is at least the WCET
     pub end_room : (i p : ℕ) → i < length plan.graph.tasks → p < jobs_of plan.graph i → (task_at plan.graph i).wcet ≤ slice_index ends (jobs_before plan.graph i + p)
     end_room i p inside below =
-        let a = spread.releases.releases.above i (pos p) inside in
-        let h = date_here plan.graph ends i p below in
-        omega (arith, ints, a, h)
+        omega (arith, ints, spread.releases.releases.above i (pos p) inside, date_here plan.graph ends i p below)
 
     module _ (windows : List (List Window)) (lists : AreWindows plan.graph ends deadlines (length plan.graph.tasks) windows) where
       release_is : (i : ℕ) (m : ℤ) → i < length plan.graph.tasks → encoded_release plan.graph windows i m ≡ dates_of plan.graph ends i m -ℤ pos (task_at plan.graph i).wcet
       release_is i m inside =
           let w : (window_at windows i m).lead ≡ slice_index ends (index_of plan.graph i m) - (task_at plan.graph i).wcet =
           ap (λ (x : Window). x.lead) (window_is plan.graph is.graph ends deadlines windows lists i inside m) in
-          let r = end_room i (place_in m (jobs_of plan.graph i)) inside (place_below (jobs_of plan.graph i) (some_jobs plan.graph is.graph i inside) m) in
-          omega (arith, ints, w, r)
+          omega (arith, ints, w, end_room i (place_in m (jobs_of plan.graph i)) inside (place_below (jobs_of plan.graph i) (some_jobs plan.graph is.graph i inside) m))
 
       pub windows_spread : length processors ≡ length plan.graph.tasks → IsSpread plan (record { processors = processors; windows = windows })
       windows_spread long = record {
@@ -219,15 +202,10 @@ module _ (plan : PlanView) (is : IsPlan plan) where
           releases = record {
             above = λ i m inside. (let a = spread.releases.releases.above i m inside in let e = release_is i m inside in omega (arith, ints, a, e));
             within = λ before after precedes together.
-                (let a = spread.releases.releases.within before after precedes together in
-                let both = both_inside plan.graph is.graph before after precedes in
-                let x = release_is before.task before.number both.0 in
-                let y = release_is after.task after.number both.1 in
-                omega (arith, ints, a, x, y));
+                (let both = both_inside plan.graph is.graph before after precedes in
+                omega (arith, ints, spread.releases.releases.within before after precedes together, release_is before.task before.number both.0, release_is after.task after.number both.1));
             across = λ before after precedes apart.
-                (let a = spread.releases.releases.across before after precedes apart in
-                let y = release_is after.task after.number (both_inside plan.graph is.graph before after precedes).1 in
-                omega (arith, ints, a, y));
+                omega (arith, ints, spread.releases.releases.across before after precedes apart, release_is after.task after.number (both_inside plan.graph is.graph before after precedes).1);
           };
           least = λ other of i m inside. (let a = spread.releases.least other of i m inside in let e = release_is i m inside in omega (arith, ints, a, e));
         };

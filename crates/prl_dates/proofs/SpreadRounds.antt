@@ -1,5 +1,5 @@
 -- Ends raised across lanes, and rounds along them up to the least ends that keep them.
-use Rattle.std.proofs.Common.{◌≡◌, ◌+◌, ◌-◌, ◌*◌, ◌<◌, ◌^◌, ℕ, List, length, Some, inl, inr, refl, sym, ◌∙◌, ap, subst, arith}
+use Rattle.std.proofs.Common.{◌≡◌, ◌+◌, ◌-◌, ◌*◌, ◌<◌, ◌^◌, ℕ, List, length, Some, inl, inr, refl, sym, ◌∙◌, ap, arith}
 use Rattle.std.specs.Prelude.{ℤ, pos, ◌+ℤ◌, ◌≤ℤ◌, sum, slice_get, slice_index}
 use Rattle.std.proofs.lemmas.Bool.{cases_lt}
 use Rattle.std.proofs.lemmas.Int.{ints}
@@ -11,12 +11,12 @@ use Rattle.prl_plan.specs.Spread.{AreTogether}
 use Rattle.prl_plan.proofs.RoundPeriods.{task_is}
 use Rattle.prl_dates.specs.declared.lanes.Lane.{Lane}
 use Rattle.prl_dates.specs.code.Indices.{jobs_before, index_of, dates_of}
-use Rattle.prl_dates.specs.code.Lanes.{link_at, IsLink, AreEachLane}
+use Rattle.prl_dates.specs.code.Lanes.{IsLink, AreEachLane}
 use Rattle.prl_dates.specs.code.Spreads.{AreRaisedAcross, IsBelow, KeepsLanes, HasCeiling, IsRising, IsLeastAbove}
-use Rattle.prl_dates.specs.code.Tables.{Leaves, Meets, AreRaised, AreRound, AreWithin}
+use Rattle.prl_dates.specs.code.Tables.{Leaves, AreRaised, AreRound, AreWithin}
 use Rattle.prl_dates.proofs.FirstTables.{get_past, index_found}
 use Rattle.prl_dates.proofs.Indices.{before_all}
-use Rattle.prl_dates.proofs.RoundSteps.{lane_more}
+use Rattle.prl_dates.proofs.RoundSteps.{lane_more, still_meets}
 use Rattle.prl_dates.proofs.Settles.{date_here}
 use Rattle.prl_dates.proofs.SpreadSteps.{sum_rises, sum_bound}
 use Rattle.prl_dates.proofs.TableRounds.{Met, met}
@@ -45,20 +45,7 @@ module _ (graph : TaskGraph) (lanes : List Lane) (processors : List ℕ) (l : �
           | inl same ↦
               elim (raised.only q) [
                 | inl still ↦ inl (same ∙ still)
-                | inr by ↦
-                    inr (
-                      by.0,
-                      by.1,
-                      by.2,
-                      by.3,
-                      by.4,
-                      by.5,
-                      by.6,
-                      (let m : Meets by.1 (task_at graph by.1.to.0).wcet now next by.4 = by.7 in
-                          let e : slice_index later (by.1.first + by.4) ≡ slice_index next (by.1.first + by.4) =
-                          subst (λ (x : ℕ). slice_index later x ≡ slice_index next x) by.6 same in
-                          ap (λ (x : ℕ). x + (link_at by.1 by.4).gap) e ∙ m),
-                    )
+                | inr by ↦ inr (by.0, by.1, by.2, by.3, by.4, by.5, by.6, still_meets by.1 (task_at graph by.1.to.0).wcet now next later by.4 q by.6 same by.7)
               ]
           | inr by ↦ inr (l, lane, stands, apart, by.0, by.1, by.2, by.3)
         ];
@@ -80,15 +67,10 @@ module _ (graph : TaskGraph) (good : IsWellFormed graph) where
   due_small table long below q =
       elim (cases_lt q (length table)) [
         | inl inside ↦
-            (let a = before_all graph in
-            let s = index_found graph (length graph.tasks) q (omega (arith, a, long, inside)) in
-            let b = below s.0 (pos s.1) s.2 in
-            let d = date_here graph table s.0 s.1 s.3 in
+            (let s = index_found graph (length graph.tasks) q (omega (arith, before_all graph, long, inside)) in
             let v : slice_index table q ≡ slice_index table (jobs_before graph s.0 + s.1) = ap (λ (x : ℕ). slice_index table x) s.4 in
             let t = task_is graph good s.0 s.2 in
-            let u = t.due.1 in
-            let p = t.period.1 in
-            omega (arith, ints, b, d, v, u, p))
+            omega (arith, ints, below s.0 (pos s.1) s.2, date_here graph table s.0 s.1 s.3, v, t.due.1, t.period.1))
         | inr past ↦ (let z = get_past table q 0 past in omega (arith, z))
       ]
 
@@ -103,11 +85,9 @@ module _ (graph : TaskGraph) (good : IsWellFormed graph) (lanes : List Lane) (ar
         | inl same ↦ (let b = below i m inside in omega (arith, ints, b, same))
         | inr by ↦
             (let at : Met graph by.1 now new i m by.4 = met graph good by.1 (are by.0 by.1 by.2) now new i m by.4 inside by.5 by.6 by.7 in
-            let k = keeps by.0 by.1 by.2 by.3 by.4 m at.before at.link in
-            let d = at.date in
             let o : date by.1.to.0 m ≡ date i m = ap (λ (j : ℕ). date j m) (sym at.task) in
             let c : (task_at graph by.1.to.0).wcet ≡ (task_at graph i).wcet = ap (λ (j : ℕ). (task_at graph j).wcet) (sym at.task) in
-            omega (arith, ints, k, d, o, c))
+            omega (arith, ints, keeps by.0 by.1 by.2 by.3 by.4 m at.before at.link, at.date, o, c))
       ]
 
   -- nor does a round raise past a family that keeps the lanes
@@ -119,12 +99,9 @@ module _ (graph : TaskGraph) (good : IsWellFormed graph) (lanes : List Lane) (ar
         | inr by ↦
             (let is = are by.0 by.1 by.2 in
             let at : Met graph by.1 now new i m by.3 = met graph good by.1 (are by.0 by.1 by.2) now new i m by.3 inside by.4 by.5 by.6 in
-            let b = below by.1.from.0 at.before is.from in
-            let k = keeps by.0 by.1 by.2 by.3 m at.before at.link in
-            let d = at.date in
             let o : date by.1.to.0 m ≡ date i m = ap (λ (j : ℕ). date j m) (sym at.task) in
             let c : (task_at graph by.1.to.0).wcet ≡ (task_at graph i).wcet = ap (λ (j : ℕ). (task_at graph j).wcet) (sym at.task) in
-            omega (arith, ints, b, k, d, o, c))
+            omega (arith, ints, below by.1.from.0 at.before is.from, keeps by.0 by.1 by.2 by.3 m at.before at.link, at.date, o, c))
       ]
 
   pub ceiling_within : (table : List ℕ) → length table ≡ jobs_in_hyperperiod graph → HasCeiling graph lanes table → AreWithin table (2 ^ 31)
@@ -162,7 +139,6 @@ module _ (graph : TaskGraph) (good : IsWellFormed graph) (lanes : List Lane) (ar
   pub rising_less : (now new : List ℕ) → length now ≡ jobs_in_hyperperiod graph → HasCeiling graph lanes now → AreRound graph lanes (length lanes) now new → (now ≡ new → ⊥) →
       length new * 2 ^ 31 - sum new < length now * 2 ^ 31 - sum now
   rising_less now new long has round other =
-      let rises = sum_rises now new round.long round.up other in
       let bound = sum_bound new (2 ^ 31) (ceiling_within new (round.long ∙ long) (ceiling_kept now new round has)) in
       let same : length new * 2 ^ 31 ≡ length now * 2 ^ 31 = ap (λ (n : ℕ). n * 2 ^ 31) round.long in
-      omega (arith, rises, bound, same)
+      omega (arith, sum_rises now new round.long round.up other, bound, same)

@@ -19,9 +19,7 @@ pub part_more : (plan : PlanView) (bound : Bound) (count some : ℕ) (table : Li
 part_more plan bound count some table value part is inside = record {
   long = length_both table (value ∷ []) ∙ (let l = part.long in omega (arith, l));
   each = λ i n below job.
-      (let l = part.long in
-      let r = before_rises plan.graph i count below in
-      get_first table (value ∷ []) (jobs_before plan.graph i + n) 0 (omega (arith, l, r, job)) ∙ part.each i n below job);
+      get_first table (value ∷ []) (jobs_before plan.graph i + n) 0 (omega (arith, part.long, before_rises plan.graph i count below, job)) ∙ part.each i n below job;
   next = λ n below.
       elim (cases_lt n some) [
         | inl less ↦ (let l = part.long in get_first table (value ∷ []) (jobs_before plan.graph count + n) 0 (omega (arith, l, less)) ∙ part.next n less)
@@ -89,10 +87,9 @@ sum_below [] (y ∷ high) long up = absurd (omega (arith, long))
 sum_below (x ∷ low) [] long up = absurd (omega (arith, long))
 sum_below (x ∷ low) (y ∷ high) long up =
     let rest = sum_below low high (omega (arith, long)) (λ q. up (suc q)) in
-    let first = up 0 in
     let a = sum_by-cons (λ (n : ℕ). n) x low in
     let b = sum_by-cons (λ (n : ℕ). n) y high in
-    omega (arith, rest, first, a, b)
+    omega (arith, rest, up 0, a, b)
 
 -- and where they are not the same, its sum is less
 pub sum_rises : (low high : List ℕ) → length high ≡ length low → ((q : ℕ) → slice_index low q ≤ slice_index high q) → (low ≡ high → ⊥) → sum low < sum high
@@ -118,7 +115,6 @@ pub sum_bound : (table : List ℕ) (bound : ℕ) → AreWithin table bound → s
 sum_bound [] bound within = omega arith
 sum_bound (x ∷ xs) bound within =
     let rest = sum_bound xs bound (λ q. within (suc q)) in
-    let first = within 0 in
     let a = sum_by-cons (λ (n : ℕ). n) x xs in
     let e : suc (length xs) * bound ≡ bound + length xs * bound = omega arith in
-    omega (arith, rest, first, a, e)
+    omega (arith, rest, within 0, a, e)

@@ -7,7 +7,7 @@ use Rattle.prl_plan.specs.declared.graphs.Edge.{Edge}
 use Rattle.prl_plan.specs.declared.graphs.TaskGraph.{TaskGraph}
 use Rattle.prl_plan.specs.Dates.{place_in}
 use Rattle.prl_plan.specs.Jobs.{Job, task_at, release_of}
-use Rattle.prl_plan.specs.Precedence.{preceding, ComesFrom, Precedes, PrecedesAlong}
+use Rattle.prl_plan.specs.Precedence.{ComesFrom, Precedes, PrecedesAlong}
 use Rattle.prl_plan.specs.Graphs.{IsWellFormed}
 use Rattle.prl_dates.specs.declared.lanes.Lane.{Lane}
 use Rattle.prl_dates.specs.Faults.{jobs_of}
@@ -36,10 +36,9 @@ met graph good lane is now new i n k inside below at meets =
     let here : IsLink graph lane k n link.0 = subst (λ (x : ℕ). IsLink graph lane x n link.0) place link.1 in
     let w : slice_index now (index_of graph lane.from.0 link.0) ≡ slice_index now (link_at lane k).from = ap (λ (q : ℕ). slice_index now q) here.index in
     let v : slice_index new (index_of graph i n) ≡ slice_index new (lane.first + k) = ap (λ (q : ℕ). slice_index new q) at in
-    let g = here.gap in
     let t : release_of (task_at graph i) n ≡ release_of (task_at graph lane.to.0) n = ap (λ (j : ℕ). release_of (task_at graph j) n) one.0 in
     let c : (task_at graph i).wcet ≡ (task_at graph lane.to.0).wcet = ap (λ (j : ℕ). (task_at graph j).wcet) one.0 in
-    record { before = link.0; task = one.0; link = here; date = omega (arith, ints, meets, w, v, g, t, c) }
+    record { before = link.0; task = one.0; link = here; date = omega (arith, ints, meets, w, v, here.gap, t, c) }
 
 module _ (graph : TaskGraph) (good : IsWellFormed graph) (lanes : List Lane) (are : AreLanes graph lanes) where
   -- what two jobs that precede one another have in common: the lane, its link, and the greatest job before
@@ -78,8 +77,7 @@ module _ (graph : TaskGraph) (good : IsWellFormed graph) (lanes : List Lane) (ar
         link = link.1;
         greatest =
             (let a = link.1.greatest.above edge (record { stands = joins.stands; from = subst (λ (x : ℕ). ComesFrom edge.from x) (sym at.3) along.from; to = along.to ∙ sym at.4 }) in
-            let n : first.number ≡ preceding edge.ops second.number = along.number in
-            omega (arith, ints, a, n));
+            omega (arith, ints, a, along.number));
       }
 
   -- where the lane's link leaves time, so do the two jobs
@@ -87,14 +85,12 @@ module _ (graph : TaskGraph) (good : IsWellFormed graph) (lanes : List Lane) (ar
       (first second : Job) (at : Linked first second) → Leaves at.lane (task_at graph at.lane.to.0).wcet before after at.k →
       (dates_of graph before first.task first.number +ℤ pos (task_at graph second.task).wcet) ≤ℤ dates_of graph after second.task second.number
   linked_order before after rises first second at asks =
-      let r = rises at.lane.from.0 first.number at.before at.is.from at.greatest in
       let s : index_of graph at.lane.to.0 second.number ≡ at.lane.first + at.k =
       ap (λ (x : ℕ). jobs_before graph at.lane.to.0 + x) at.link.place ∙ ap (λ (x : ℕ). x + at.k) (sym at.is.first) in
       let v : slice_index after (index_of graph at.lane.to.0 second.number) ≡ slice_index after (at.lane.first + at.k) = ap (λ (q : ℕ). slice_index after q) s in
       let w : slice_index before (index_of graph at.lane.from.0 at.before) ≡ slice_index before (link_at at.lane at.k).from = ap (λ (q : ℕ). slice_index before q) at.link.index in
-      let g = at.link.gap in
       let here : (dates_of graph before at.lane.from.0 first.number +ℤ pos (task_at graph at.lane.to.0).wcet) ≤ℤ dates_of graph after at.lane.to.0 second.number =
-      omega (arith, ints, asks, r, v, w, g) in
+      omega (arith, ints, asks, rises at.lane.from.0 first.number at.before at.is.from at.greatest, v, w, at.link.gap) in
       subst (λ (i : ℕ). (dates_of graph before i first.number +ℤ pos (task_at graph second.task).wcet) ≤ℤ dates_of graph after second.task second.number) at.from
       (subst (λ (j : ℕ). (dates_of graph before at.lane.from.0 first.number +ℤ pos (task_at graph j).wcet) ≤ℤ dates_of graph after j second.number) at.to here)
 

@@ -36,10 +36,8 @@ steps_times ops jobs higher steps zero n =
 steps_times ops jobs higher steps (suc times) n =
     let more : jobs * suc times ≡ jobs * times + jobs = omega arith in
     let up : higher * suc times ≡ higher * times + higher = omega arith in
-    let turn = steps (n +ℤ pos (jobs * times)) in
-    let rest = steps_times ops jobs higher steps times n in
     ap (λ (z : ℤ). preceding ops z) (let e : n +ℤ pos (jobs * suc times) ≡ (n +ℤ pos (jobs * times)) +ℤ pos jobs = omega (arith, ints, more) in e)
-    ∙ omega (arith, ints, turn, rest, up)
+    ∙ omega (arith, ints, steps (n +ℤ pos (jobs * times)), steps_times ops jobs higher steps times n, up)
 
 preceding_append : (ops : List Op) (op : Op) (n : ℤ) → preceding (ops ++ op ∷ []) n ≡ preceding_number op (preceding ops n)
 preceding_append [] op n = refl
@@ -56,9 +54,7 @@ steps_append front op turn after steps under n =
 
 pub some_under : (op : Op) (turn after : Turn) → 1 ≤ turn.jobs → IsTurnUnder op turn after → 1 ≤ after.jobs
 some_under op turn after some under =
-    let is = under.jobs in
-    let more : turn.jobs * 1 ≤ turn.jobs * under.times = mul-le-mul_left turn.jobs under.some in
-    omega (arith, is, some, more)
+    omega (arith, under.jobs, some, mul-le-mul_left turn.jobs under.some)
 
 pub steps_next : (ops : List Op) (i : ℕ) (op : Op) (turn after : Turn) → i < length ops → op ≡ get_or ops i op → StepsBy (take i ops) turn.jobs turn.higher →
     IsTurnUnder op turn after → StepsBy (take (i + 1) ops) after.jobs after.higher

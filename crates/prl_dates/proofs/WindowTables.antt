@@ -20,9 +20,7 @@ use Rattle.prl_dates.proofs.Settles.{date_here, release_rises}
 module _ (graph : TaskGraph) (good : IsWellFormed graph) where
   next_release : (i : ℕ) (m : ℤ) → release_of (task_at graph i) (m +ℤ pos 1) ≡ release_of (task_at graph i) m +ℤ pos (task_at graph i).clock.period
   next_release i m =
-      let p : ℕ = (task_at graph i).clock.period in
-      let e = plus_mul m 1 (task_at graph i).clock.period in
-      omega (arith, ints, e)
+      omega (arith, ints, plus_mul m 1 (task_at graph i).clock.period)
 
   -- where dates are within the periods, a job's is not after that of a later job of its task
   pub table_rises : (table : List ℕ) → ((i p : ℕ) → i < length graph.tasks → p < jobs_of graph i → slice_index table (jobs_before graph i + p) ≤ (task_at graph i).clock.period) →
@@ -34,10 +32,8 @@ module _ (graph : TaskGraph) (good : IsWellFormed graph) where
           (let e : a ≡ b = omega (arith, ints, is) in
           subst (λ (z : ℤ). dates_of graph table i a ≤ℤ dates_of graph table i z) e (omega (arith, ints)))
       go (pos (suc n)) is =
-          (let x = small i (place_in a (jobs_of graph i)) inside (place_below (jobs_of graph i) (some_jobs graph good i inside) a) in
-          let r = release_rises graph i (a +ℤ pos 1) b (omega (arith, ints, is)) in
-          let s = next_release i a in
-          omega (arith, ints, x, r, s))
+          (let r = release_rises graph i (a +ℤ pos 1) b (omega (arith, ints, is)) in
+          omega (arith, ints, small i (place_in a (jobs_of graph i)) inside (place_below (jobs_of graph i) (some_jobs graph good i inside) a), r, next_release i a))
       go (negsuc n) is = absurd (omega (arith, ints, is, low))
 
   -- a table that has the dates of a family that repeats, for the jobs of a hyperperiod, has them for all
@@ -51,8 +47,7 @@ module _ (graph : TaskGraph) (good : IsWellFormed graph) where
             subst (λ (k : ℕ). dates_of graph table j (m +ℤ pos k) ≡ dates_of graph table j m +ℤ pos graph.hyper) one
             (let v : slice_index table (index_of graph j (m +ℤ pos (jobs_of graph j))) ≡ slice_index table (index_of graph j m) =
             ap (λ (q : ℕ). slice_index table q) (index_again graph good j inside' m) in
-            let r = release_again graph good j inside' m in
-            omega (arith, ints, v, r)));
+            omega (arith, ints, v, release_again graph good j inside' m)));
       }) repeats i (jobs_of graph i) inside (jobs_are graph good i inside)
       (λ n below. date_here graph table i n below ∙ base n below)
     where

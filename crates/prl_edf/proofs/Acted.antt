@@ -20,13 +20,6 @@ module _ (c : RunConstants) (one : HaveOneEnd c) (i n : ℕ) (job : IsJob c i n)
   goes_on more = elim (cases_lt (place + 1) (length (c.actions i n))) [
     | inl before ↦ before
     | inr past ↦ absurd (let end = one.last i n job in
-        let long = end.1 in
-        let same : end.0 ≡ place = omega (arith, long, past, ahead) in
+        let same : end.0 ≡ place = omega (arith, end.1, past, ahead) in
         more (ap (action_at c i n) (sym same) ∙ end.2))
   ]
-
-  pub starts_ahead : 0 < length (c.actions i n)
-  starts_ahead = omega (arith, ahead)
-
-pub some_actions : (c : RunConstants) → HaveOneEnd c → (i n : ℕ) → IsJob c i n → 0 < length (c.actions i n)
-some_actions c one i n job = (let end = one.last i n job in let long = end.1 in omega (arith, long))

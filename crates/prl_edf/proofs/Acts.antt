@@ -1,5 +1,5 @@
 -- All acts of one job, one after another.
-use Rattle.std.proofs.Common.{◌≡◌, ◌≢◌, ◌+◌, ◌<◌, ◌≤◌, ◌++◌, ℕ, zero, suc, List, [], ◌∷◌, length, get_or, replicate, inl, inr, refl, sym, ap, subst, ◌∙◌, arith}
+use Rattle.std.proofs.Common.{◌≡◌, ◌≢◌, ◌+◌, ◌<◌, ◌++◌, ℕ, zero, suc, List, [], ◌∷◌, length, get_or, replicate, set, inl, inr, refl, sym, ap, subst, ◌∙◌, arith}
 use Rattle.std.proofs.lemmas.Bool.{cases_eq}
 use Rattle.std.proofs.lemmas.Grind.{get_or-set_at}
 use Rattle.std.proofs.lemmas.List.{get_or-set_other, length-set}
@@ -49,50 +49,34 @@ module _ (c : RunConstants) (i : ℕ) where
   keeps_on s t now same keeps =
       let here : get_or t.ended i 0 ≡ get_or s.ended i 0 = same i in
       let has = keeps.0 in
-      let job : get_or s.ended i 0 < c.jobs i = has.job in
-      let released : c.release i (get_or s.ended i 0) ≤ s.now = keeps.1 in
-      let first = keeps.2 in
-      let at_release = ap (c.release i) here in
       let at_deadline = ap (c.deadline i) here in (
-        record { task = has.task; job = omega (arith, job, here); unfinished = omega arith },
-        omega (arith, released, at_release, now),
+        record { task = has.task; job = omega (arith, has.job, here); unfinished = omega arith },
+        omega (arith, keeps.1, ap (c.release i) here, now),
         (λ j n here_too unfinished early.
             (let is : IsUnfinished c s j n = record { task = unfinished.task; job = unfinished.job; unfinished = (let h = unfinished.unfinished in let e = same j in omega (arith, h, e)) } in
-            let h = first j n here_too is (omega (arith, early, now)) in
+            let h = keeps.2 j n here_too is (omega (arith, early, now)) in
             omega (arith, h, at_deadline))),
       )
 
-  -- an act that is no end moves the place
+  -- an act that is no end moves the place, and may change tags
+  moves_on : (s : ExecState) (tags : List ℕ) → i < length s.places →
+      Follows s (record s { places = set s.places i (get_or s.places i 0 + 1); tags = tags }) i (get_or s.ended i 0) (get_or s.places i 0 + 1)
+  moves_on s tags inside = record {
+    now = refl;
+    ended_long = refl;
+    places_long = length-set s.places i (get_or s.places i 0 + 1);
+    ended_here = refl;
+    place_here = get_or-set_at s.places i i (get_or s.places i 0 + 1) 0 refl inside;
+    ended_there = λ j other. refl;
+    place_there = λ j other. get_or-set_other s.places i j (get_or s.places i 0 + 1) 0 other;
+  }
+
   moves : (s : ExecState) → i < length s.places → (action : Action) → next_action c s i ≡ action → (action ≡ actions.End → ⊥) →
       Follows s (after_action s i action) i (get_or s.ended i 0) (get_or s.places i 0 + 1)
   moves s inside actions.End is none = absurd (none refl)
-  moves s inside (actions.ReadConst port value) is none = record {
-    now = refl;
-    ended_long = refl;
-    places_long = length-set s.places i (get_or s.places i 0 + 1);
-    ended_here = refl;
-    place_here = get_or-set_at s.places i i (get_or s.places i 0 + 1) 0 refl inside;
-    ended_there = λ j other. refl;
-    place_there = λ j other. get_or-set_other s.places i j (get_or s.places i 0 + 1) 0 other;
-  }
-  moves s inside (actions.Read port e m slot) is none = record {
-    now = refl;
-    ended_long = refl;
-    places_long = length-set s.places i (get_or s.places i 0 + 1);
-    ended_here = refl;
-    place_here = get_or-set_at s.places i i (get_or s.places i 0 + 1) 0 refl inside;
-    ended_there = λ j other. refl;
-    place_there = λ j other. get_or-set_other s.places i j (get_or s.places i 0 + 1) 0 other;
-  }
-  moves s inside (actions.Write e m slot) is none = record {
-    now = refl;
-    ended_long = refl;
-    places_long = length-set s.places i (get_or s.places i 0 + 1);
-    ended_here = refl;
-    place_here = get_or-set_at s.places i i (get_or s.places i 0 + 1) 0 refl inside;
-    ended_there = λ j other. refl;
-    place_there = λ j other. get_or-set_other s.places i j (get_or s.places i 0 + 1) 0 other;
-  }
+  moves s inside (actions.ReadConst port value) is none = moves_on s s.tags inside
+  moves s inside (actions.Read port e m slot) is none = moves_on s s.tags inside
+  moves s inside (actions.Write e m slot) is none = moves_on s (after_action s i (actions.Write e m slot)).tags inside
 
   ends : (s : ExecState) → i < length s.places → i < length s.ended → Follows s (after_action s i actions.End) i (get_or s.ended i 0 + 1) 0
   ends s inside in_ended = record {

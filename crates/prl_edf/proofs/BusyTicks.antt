@@ -47,25 +47,15 @@ none_busy (suc t) = (let rest = none_busy t in omega (arith, rest))
 -- a tick that lies in the first piece lies in no later one
 in_one_piece : (p : Piece) (ps : List Piece) → AreLongest (p ∷ ps) → (k : ℕ) → busy_in (run_of (p ∷ ps) k) ≡ one_if (lies_in p k) + busy_in (run_of ps k)
 in_one_piece p ps longest k = elim (in_or_out p k) [
-  | inl inside ↦
-      (let here = ap busy_in (run_in p ps k inside.0 inside.1) in
-      let lies_here = ap one_if (lies p k inside.0 inside.1) in
-      let later = ap busy_in (none_between p ps longest k inside.1) in
-      omega (arith, here, lies_here, later))
-  | inr out ↦
-      (let later = ap busy_in (run_out p ps k out) in
-      let lies_out = ap one_if (lies_not p k out) in
-      omega (arith, later, lies_out))
+  | inl inside ↦ omega (arith, ap busy_in (run_in p ps k inside.0 inside.1), ap one_if (lies p k inside.0 inside.1), ap busy_in (none_between p ps longest k inside.1))
+  | inr out ↦ omega (arith, ap busy_in (run_out p ps k out), ap one_if (lies_not p k out))
 ]
 
 ticks_are_busy : (ps : List Piece) → AreLongest ps → (t : ℕ) → EndBy ps t → ticks_of ps ≡ busy_before (run_of ps) t
 ticks_are_busy [] longest t ended = (let e = none_busy t in omega (arith, e))
 ticks_are_busy (p ∷ ps) longest t ended =
-    let rest = ticks_are_busy ps longest.2 t ended.1 in
-    let here = lies_before p t in
-    let to = ended.0 in
     let both = sum_plus (λ k. busy_in (run_of (p ∷ ps) k)) (λ k. one_if (lies_in p k)) (λ k. busy_in (run_of ps k)) t (λ k _. in_one_piece p ps longest k) in
-    omega (arith, rest, here, to, both)
+    omega (arith, ticks_are_busy ps longest.2 t ended.1, lies_before p t, ended.0, both)
 
 -- each tick that goes to a job is one more unit of the jobs
 module _ (c : RunConstants) (units : ℕ → ℕ → ℕ) (run : ℕ → Option (ℕ × ℕ)) (timed : IsTimedRun c units run) where
@@ -75,20 +65,18 @@ module _ (c : RunConstants) (units : ℕ → ℕ → ℕ) (run : ℕ → Option 
       let rest = units_are_busy t in
       elim (some_or_none (run t)) [
         | inl none ↦
-            (let idle = ap busy_in none in
-            let up = jobs_rise c (units_before run t) (units_before run (suc t)) (λ i n _. (let e = unit_none run i n t none in omega (arith, e))) in
+            (let up = jobs_rise c (units_before run t) (units_before run (suc t)) (λ i n _. (let e = unit_none run i n t none in omega (arith, e))) in
             let down = jobs_rise c (units_before run (suc t)) (units_before run t) (λ i n _. (let e = unit_none run i n t none in omega (arith, e))) in
-            omega (arith, rest, idle, up, down))
+            omega (arith, rest, ap busy_in none, up, down))
         | inr some ↦
             (let i : ℕ = some.0 in
             let n : ℕ = some.1 in
-            let busy = ap busy_in some.2 in
             let most = jobs_by_one c (units_before run t) (units_before run (suc t)) i n
             (λ j k _ other. (let e = unit_not run j k t i n some.2 other in omega (arith, e)))
             (λ _. unit_at_most run i n t) in
             let more = jobs_grow c (units_before run t) (units_before run (suc t)) (λ j k _. units_rise run j k t (suc t) (omega arith))
             i n (timed.ready t i n some.2).job (let e = unit_more run i n t some.2 in omega (arith, e)) in
-            omega (arith, rest, busy, most, more))
+            omega (arith, rest, ap busy_in some.2, most, more))
       ]
 
 some_end : (ps : List Piece) → (t : ℕ) × EndBy ps t
@@ -102,11 +90,8 @@ all_units c facts units pieces longest timed met =
     let t : ℕ = c.end + last.0 in
     let run : ℕ → Option (ℕ × ℕ) = run_of pieces in
     let ticks = ticks_are_busy pieces longest t (end_later pieces last.0 t (omega arith) last.1) in
-    let busy = units_are_busy c units run timed t in
     let up = jobs_rise c units (units_before run t) (λ i n job.
-    (let all = met i n job in
-    let within = facts.within i n job in
-    let rise = units_rise run i n (c.deadline i n) t (omega (arith, within)) in
-    omega (arith, all, rise))) in
+    (let rise = units_rise run i n (c.deadline i n) t (omega (arith, facts.within i n job)) in
+    omega (arith, met i n job, rise))) in
     let down = jobs_rise c (units_before run t) units (λ i n _. never_more c units run timed i n t) in
-    omega (arith, ticks, busy, up, down)
+    omega (arith, ticks, units_are_busy c units run timed t, up, down)

@@ -50,12 +50,9 @@ module _ (c : RunConstants) (facts : HasPlanFacts c) (one : HaveOneEnd c) (cost 
       within = (let e = agrees.date in omega (arith, e, within));
       ended = λ i n unfinished.
           (let job : IsJob c i n = record { task = unfinished.task; job = unfinished.job } in
-          let some = agrees.left i n job unfinished.unfinished in
-          let all = met i n job in
-          let e = agrees.date in
           elim (cases_lt (s.now + 1) (c.deadline i n)) [
             | inl early ↦ early
-            | inr due ↦ absurd (let rise = units_rise run i n (c.deadline i n) (suc t) (omega (arith, due, e)) in omega (arith, rise, some, all))
+            | inr due ↦ absurd (let rise = units_rise run i n (c.deadline i n) (suc t) (omega (arith, due, agrees.date)) in omega (arith, rise, agrees.left i n job unfinished.unfinished, met i n job))
           ]);
     }
 
@@ -80,10 +77,9 @@ module _ (c : RunConstants) (facts : HasPlanFacts c) (one : HaveOneEnd c) (cost 
     is_first : (i n : ℕ) → IsReady c units run t i n → get_or s.ended i 0 ≡ n
     is_first i n ready =
         let job = ready.job in
-        let some = ready.left in
         let not_more : get_or s.ended i 0 ≤ n = elim (cases_lt n (get_or s.ended i 0)) [
           | inr few ↦ few
-          | inl ended ↦ absurd (let all = agrees.done i n job ended in omega (arith, all, some))
+          | inl ended ↦ absurd (let all = agrees.done i n job ended in omega (arith, all, ready.left))
         ] in
         let not_less : n ≤ get_or s.ended i 0 = elim (cases_lt (get_or s.ended i 0) n) [
           | inr enough ↦ enough
@@ -91,11 +87,8 @@ module _ (c : RunConstants) (facts : HasPlanFacts c) (one : HaveOneEnd c) (cost 
               (let m : ℕ = get_or s.ended i 0 in
               let is : IsJob c i m = record { task = job.task; job = (let h = job.job in omega (arith, h, earlier)) } in
               let open_yet = agrees.left i m is (omega arith) in
-              let all = met i m is in
-              let apart = facts.apart i m n job earlier in
-              let released = ready.released in
-              let rise = units_rise run i m (c.deadline i m) t (omega (arith, apart, released)) in
-              omega (arith, open_yet, all, rise))
+              let rise = units_rise run i m (c.deadline i m) t (omega (arith, facts.apart i m n job earlier, ready.released)) in
+              omega (arith, open_yet, met i m is, rise))
         ] in
         omega (arith, not_more, not_less)
 
@@ -105,11 +98,9 @@ module _ (c : RunConstants) (facts : HasPlanFacts c) (one : HaveOneEnd c) (cost 
         let ready = edf.timed.ready t i n is in
         let first : get_or s.ended i 0 ≡ n = is_first i n ready in
         let job = ready.job in
-        let e = agrees.date in
-        let at_release = ap (c.release i) first in
         let at_deadline = ap (c.deadline i) first in (
           record { task = job.task; job = (let h = job.job in omega (arith, h, first)); unfinished = omega arith },
-          (let r = ready.released in omega (arith, r, e, at_release)),
+          (let r = ready.released in omega (arith, r, agrees.date, ap (c.release i) first)),
           (λ j k _ unfinished released. (let h = edf.earliest t i n j k is (unfinished_ready j k unfinished released) in omega (arith, h, at_deadline))),
         )
 
@@ -167,8 +158,7 @@ module _ (c : RunConstants) (facts : HasPlanFacts c) (one : HaveOneEnd c) (cost 
                         let d : units_before run (suc t) j k ≡ units_before run (suc t) i n = ap (λ (x : ℕ). units_before run (suc t) x k) same ∙ ap (units_before run (suc t) i) now in
                         omega (arith, e, d, last))
                   ])
-              | inr other ↦ (let e = after.ended_there j other in
-                  let h = agrees.done j k job (omega (arith, ended, e)) in
+              | inr other ↦ (let h = agrees.done j k job (omega (arith, ended, after.ended_there j other)) in
                   let rise = units_rise run j k t (suc t) (omega arith) in
                   omega (arith, h, rise))
             ];
@@ -179,8 +169,7 @@ module _ (c : RunConstants) (facts : HasPlanFacts c) (one : HaveOneEnd c) (cost 
                   let h = agrees.left j k job (omega (arith, later, both, first)) in
                   let e = unit_not run j k t i n is (λ _ number. omega (arith, number, later)) in
                   omega (arith, h, e))
-              | inr other ↦ (let d = after.ended_there j other in
-                  let h = agrees.left j k job (omega (arith, ended, d)) in
+              | inr other ↦ (let h = agrees.left j k job (omega (arith, ended, after.ended_there j other)) in
                   let e = unit_not run j k t i n is (λ same _. other same) in
                   omega (arith, h, e))
             ];
@@ -192,9 +181,8 @@ module _ (c : RunConstants) (facts : HasPlanFacts c) (one : HaveOneEnd c) (cost 
     stays_open : (j k : ℕ) → run t ≡ Some (j, k) → units_before run (suc t) j k ≢ units j k → (i n : ℕ) → units_before run t i n < units i n →
         units_before run (suc t) i n < units i n
     stays_open j k is more i n some =
-        let most = never_more c units run edf.timed i n (suc t) in
         elim (cases_eq (units_before run (suc t) i n) (units i n)) [
-          | inr short ↦ omega (arith, most, short)
+          | inr short ↦ omega (arith, never_more c units run edf.timed i n (suc t), short)
           | inl full ↦ elim (cases_eq i j) [
             | inr other ↦ (let e = unit_not run i n t j k is (λ same _. other same) in omega (arith, e, some))
             | inl task ↦ elim (cases_eq n k) [
@@ -252,10 +240,7 @@ module _ (c : RunConstants) (facts : HasPlanFacts c) (one : HaveOneEnd c) (cost 
           | inl ended ↦ ended
           | inr open_yet ↦ absurd
               (let job : IsJob c i n = record { task = task; job = number } in
-              let some = reached.after.left i n job open_yet in
-              let all = met i n job in
-              let most = still t is.last i n (c.deadline i n) in
-              omega (arith, some, all, most))
+              omega (arith, reached.after.left i n job open_yet, met i n job, still t is.last i n (c.deadline i n)))
         ]),
       )
 
@@ -269,8 +254,5 @@ module _ (c : RunConstants) (facts : HasPlanFacts c) (one : HaveOneEnd c) (cost 
     tt,
     (λ i n task number. absurd
         (let job : IsJob c i n = record { task = task; job = number } in
-        let all = met i n job in
-        let one_at_least = (are i n job).0 in
-        let e = never_busy never.0 i n (c.deadline i n) in
-        omega (arith, all, one_at_least, e))),
+        omega (arith, met i n job, (are i n job).0, never_busy never.0 i n (c.deadline i n)))),
   )

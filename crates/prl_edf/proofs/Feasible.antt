@@ -44,9 +44,8 @@ module _ (c : RunConstants) (units : ℕ → ℕ → ℕ) (run : ℕ → Option 
         | inr late ↦ late
         | inl early ↦ absurd
             (let is : a ≡ suc spare.0 = spare.1 in
-            let inner = since.within in
             let rise = units_rise run i n spare.0 t (omega (arith, from, is)) in
-            none_ready spare.0 (omega (arith, is, inner)) spare.2 i n due
+            none_ready spare.0 (omega (arith, is, since.within)) spare.2 i n due
             (record { job = job; released = omega (arith, early, is); left = omega (arith, rise, left) }))
       ]
     ]
@@ -65,12 +64,9 @@ module _ (c : RunConstants) (units : ℕ → ℕ → ℕ) (run : ℕ → Option 
           let due : c.deadline i n ≤ b = serves.3 in
           let ready = edf.timed.ready t i n is in
           let in_it = inside c a b i n (released_since t i n from ready.job due ready.left) due in
-          let more = unit_more run i n t is in
-          let now = cost_inside c a b (units_before run t) i n in_it in
-          let then = cost_inside c a b (units_before run (suc t)) i n in_it in
           let grows = jobs_grow c (cost_within c (units_before run t) a b) (cost_within c (units_before run (suc t)) a b)
           (λ j k _. cost_rises c a b (units_before run t) (units_before run (suc t)) j k (units_rise run j k t (suc t) (omega arith)))
-          i n ready.job (omega (arith, more, now, then)) in
+          i n ready.job (omega (arith, unit_more run i n t is, cost_inside c a b (units_before run t) i n in_it, cost_inside c a b (units_before run (suc t)) i n in_it)) in
           omega (arith, rest, grows))
     ]
 
@@ -80,13 +76,10 @@ module _ (c : RunConstants) (units : ℕ → ℕ → ℕ) (run : ℕ → Option 
     overloads cost are i n job due missed =
         let full = filled b (omega arith) in
         let in_it = inside c a b i n (released_since b i n since.within job due missed) due in
-        let has = cost_inside c a b (units_before run b) i n in_it in
-        let asks = cost_inside c a b cost i n in_it in
-        let fits = (are i n job).1 in
         let grows = jobs_grow c (cost_within c (units_before run b) a b) (cost_within c cost a b)
         (λ j k is. cost_rises c a b (units_before run b) cost j k
         (let up = never_more c units run edf.timed j k b in let below = (are j k is).1 in omega (arith, up, below)))
-        i n job (omega (arith, has, asks, fits, missed)) in
+        i n job (omega (arith, cost_inside c a b (units_before run b) i n in_it, cost_inside c a b cost i n in_it, (are i n job).1, missed)) in
         omega (arith, full, grows)
 
 -- a job that misses its window: some interval that ends at its deadline is overloaded

@@ -51,9 +51,7 @@ module _ (c : RunConstants) (cost : ℕ → ℕ → ℕ) where
         jobs_rise c (cost_within c cost a b) (cost_within c cost (c.release i n) b) (λ j k job. elim (inside_or_not c a b j k) [
           | inr out ↦ (let e = cost_outside c a b cost j k out in omega (arith, e))
           | inl is ↦ (let least = found.2.least j k (job, (is.0, is.1)) in
-              let e = cost_inside c a b cost j k is.2 in
-              let d = cost_inside c (c.release i n) b cost j k (inside c (c.release i n) b j k least is.1) in
-              omega (arith, e, d))
+              omega (arith, cost_inside c a b cost j k is.2, cost_inside c (c.release i n) b cost j k (inside c (c.release i n) b j k least is.1)))
         ]) in
         (i, n, found.2.is.0, from, omega (arith, over, more, from), found.2.is.1.1))
   ]
@@ -79,10 +77,7 @@ first_overload c facts cost run are edf i n miss =
           least_end = λ x y over. no_earlier_end c cost run edf.timed b miss.earliest x y over;
           begins = (best.0, best.1, best.2.is.0, refl);
           greatest = λ j k is over.
-              (let h = best.2.least j k (is, over) in
-              let starts = facts.window j k is in
-              let ends = facts.within j k is in
-              omega (arith, h, starts, ends));
+              omega (arith, best.2.least j k (is, over), facts.window j k is, facts.within j k is);
         },
       )
     ]
@@ -90,15 +85,11 @@ first_overload c facts cost run are edf i n miss =
 pub one_first_overload : (c : RunConstants) (cost : ℕ → ℕ → ℕ) (from to other end : ℕ) → IsFirstOverload c cost from to → IsFirstOverload c cost other end →
     (from ≡ other) × (to ≡ end)
 one_first_overload c cost from to other end x y =
-    let a = x.least_end other end y.overloaded in
-    let b = y.least_end from to x.overloaded in
-    let same : to ≡ end = omega (arith, a, b) in
+    let same : to ≡ end = omega (arith, x.least_end other end y.overloaded, y.least_end from to x.overloaded) in
     let at_x = subst (λ (t : ℕ). IsOverloaded c cost from t) same x.overloaded in
     let at_y = subst (λ (t : ℕ). IsOverloaded c cost other t) (sym same) y.overloaded in
     let i = x.begins in
     let j = y.begins in
     let up = x.greatest j.0 j.1 j.2 (subst (λ (t : ℕ). IsOverloaded c cost t to) j.3 at_y) in
     let down = y.greatest i.0 i.1 i.2 (subst (λ (t : ℕ). IsOverloaded c cost t end) i.3 at_x) in
-    let e = i.3 in
-    let d = j.3 in
-    (omega (arith, up, down, e, d), same)
+    (omega (arith, up, down, i.3, j.3), same)

@@ -55,31 +55,29 @@ module _ (run next : ℕ → Option (ℕ × ℕ)) where
           | inr other ↦ (let e = unit_not run i n t j k is (λ _ x. other x) in let d = unit_not next i n t j k (here ∙ is) (λ _ x. other x) in omega (arith, e, d, rest))
           | inl number ↦
               (let at : run t ≡ Some (i, n) = is ∙ ap (λ (x : ℕ). Some (x, k)) (sym task) ∙ ap (λ (x : ℕ). Some (i, x)) (sym number) in
-              let e = unit_more run i n t at in
               let d = unit_more next i n t (here ∙ at) in
-              omega (arith, e, d, rest))
+              omega (arith, unit_more run i n t at, d, rest))
         ]
       ]
 
   module _ (from to : ℕ) where
-    -- the ticks from `from` on go to none
-    pub idle_units : Extends run next from to None → (i n t : ℕ) → from ≤ t → t ≤ to → units_before next t i n ≡ units_before run from i n
-    idle_units ext i n zero h le = (let e : from ≡ 0 = omega (arith, h) in subst (λ (x : ℕ). units_before next 0 i n ≡ units_before run x i n) (sym e) refl)
-    idle_units ext i n (suc t) h le = elim (cases_lt t from) [
-      | inl before ↦ (let e : suc t ≡ from = omega (arith, before, h) in
-          subst (λ (x : ℕ). units_before next x i n ≡ units_before run from i n) (sym e) (same_units from (λ s early. ext.before s early) i n))
-      | inr later ↦ (let rest = idle_units ext i n t later (omega (arith, le)) in let e = unit_none next i n t (ext.here t later le) in omega (arith, rest, e))
+    -- the ticks from `from` on leave a job its units
+    left_units : (i n : ℕ) → ((s : ℕ) → s < from → next s ≡ run s) → ((t : ℕ) → from ≤ t → t < to → units_before next (suc t) i n ≡ units_before next t i n) →
+        (t : ℕ) → from ≤ t → t ≤ to → units_before next t i n ≡ units_before run from i n
+    left_units i n before left zero h le = (let e : from ≡ 0 = omega (arith, h) in subst (λ (x : ℕ). units_before next 0 i n ≡ units_before run x i n) (sym e) refl)
+    left_units i n before left (suc t) h le = elim (cases_lt t from) [
+      | inl earlier ↦ (let e : suc t ≡ from = omega (arith, earlier, h) in subst (λ (x : ℕ). units_before next x i n ≡ units_before run from i n) (sym e) (same_units from before i n))
+      | inr later ↦ left t later le ∙ left_units i n before left t later (omega (arith, le))
     ]
+
+    -- they go to none
+    pub idle_units : Extends run next from to None → (i n t : ℕ) → from ≤ t → t ≤ to → units_before next t i n ≡ units_before run from i n
+    idle_units ext i n = left_units i n ext.before (λ t later le. unit_none next i n t (ext.here t later le))
 
     -- to job k of task j
     pub other_units : (j k : ℕ) → Extends run next from to (Some (j, k)) → (i n t : ℕ) → (i ≡ j → n ≡ k → ⊥) → from ≤ t → t ≤ to →
         units_before next t i n ≡ units_before run from i n
-    other_units j k ext i n zero other h le = (let e : from ≡ 0 = omega (arith, h) in subst (λ (x : ℕ). units_before next 0 i n ≡ units_before run x i n) (sym e) refl)
-    other_units j k ext i n (suc t) other h le = elim (cases_lt t from) [
-      | inl before ↦ (let e : suc t ≡ from = omega (arith, before, h) in
-          subst (λ (x : ℕ). units_before next x i n ≡ units_before run from i n) (sym e) (same_units from (λ s early. ext.before s early) i n))
-      | inr later ↦ (let rest = other_units j k ext i n t other later (omega (arith, le)) in let e = unit_not next i n t j k (ext.here t later le) other in omega (arith, rest, e))
-    ]
+    other_units j k ext i n t other = left_units i n ext.before (λ s later le. unit_not next i n s j k (ext.here s later le) other) t
 
     pub its_units : (j k : ℕ) → Extends run next from to (Some (j, k)) → (t : ℕ) → from ≤ t → t ≤ to → units_before next t j k + from ≡ units_before run from j k + t
     its_units j k ext zero h le = (let e : from ≡ 0 = omega (arith, h) in subst (λ (x : ℕ). units_before next 0 j k + x ≡ units_before run x j k + 0) (sym e) refl)
@@ -97,9 +95,7 @@ module _ (c : RunConstants) (facts : HasPlanFacts c) (units : ℕ → ℕ → �
     | inl less ↦
         (let earlier : IsJob c i m = record { task = job.task; job = (let h = job.job in omega (arith, h, less)) } in
         let apart = facts.apart i m n job less in
-        let first = facts.window i m earlier in
-        let second = facts.window i n job in
-        (omega (arith, apart, first), omega (arith, apart, second)))
+        (omega (arith, apart, facts.window i m earlier), omega (arith, apart, facts.window i n job)))
     | inr past ↦ (let e : m ≡ n = omega (arith, le, past) in
         (subst (λ (x : ℕ). c.release i x ≤ c.release i n) (sym e) (omega arith), subst (λ (x : ℕ). c.deadline i x ≤ c.deadline i n) (sym e) (omega arith)))
   ]
@@ -123,6 +119,10 @@ module _ (c : RunConstants) (facts : HasPlanFacts c) (units : ℕ → ℕ → �
   ready_same run next t same i n ready = record { job = ready.job; released = ready.released; left = (let e = same i n in let h = ready.left in omega (arith, e, h)) }
 
   module _ (run : ℕ → Option (ℕ × ℕ)) (now : ℕ) (rests : List (Option Rest)) (going : IsGoing c units run now rests) where
+    -- what acts, acts before now
+    acts_before : (t i n : ℕ) → run t ≡ Some (i, n) → t < now
+    acts_before t i n is = elim (cases_lt t now) [ inl less ↦ less | inr from ↦ absurd (none_is_some (run t) i n (going.plain.rest t from) is) ]
+
     done_task : (j : ℕ) → j < c.tasks → rest_of rests j ≡ None → IsDoneTask c units run now j
     done_task j task is = subst (λ (o : Option Rest). MatchOption o (IsDoneTask c units run now j) (IsRestOf c units run now j)) is (going.kept_rests.each j task)
 
@@ -148,11 +148,7 @@ module _ (c : RunConstants) (facts : HasPlanFacts c) (units : ℕ → ℕ → �
             | inr past ↦ past
           ] in
           let rise = dates_rise j q.job k job from in
-          let r = kept.release in
-          let d = kept.deadline in
-          let up = rise.0 in
-          let down = rise.1 in
-          record { rest = q; is = found.1; kept = kept; release = omega (arith, r, up); deadline = omega (arith, d, down) })
+          record { rest = q; is = found.1; kept = kept; release = omega (arith, kept.release, rise.0); deadline = omega (arith, kept.deadline, rise.1) })
     ]
 
     module _ (choice : Choice) (chosen : IsChoice rests now c.end c.tasks choice) where
@@ -168,11 +164,8 @@ module _ (c : RunConstants) (facts : HasPlanFacts c) (units : ℕ → ℕ → �
         nothing_ready : (next : ℕ → Option (ℕ × ℕ)) → Extends run next now choice.next None → (s j k : ℕ) → now ≤ s → s < choice.next → IsReady c units next s j k → ⊥
         nothing_ready next ext s j k from before ready =
             let same = idle_units run next now choice.next ext j k s from (omega (arith, before)) in
-            let some = ready.left in
-            let at = stands j k ready.job (omega (arith, same, some)) in
-            let early = stands_ready s before j k ready.released at ready.job in
-            let late = none j at.rest ready.job.task at.is in
-            omega (arith, early, late)
+            let at = stands j k ready.job (omega (arith, same, ready.left)) in
+            omega (arith, stands_ready s before j k ready.released at ready.job, none j at.rest ready.job.task at.is)
 
         idle_run : Extends run run now choice.next None
         idle_run = record { before = λ t _. refl; here = λ t from _. going.plain.rest t from; after = λ t late. going.plain.rest t (omega (arith, late, going.within, chosen.within)) }
@@ -184,24 +177,17 @@ module _ (c : RunConstants) (facts : HasPlanFacts c) (units : ℕ → ℕ → �
             record {
               kept_rests = record { tasks = going.kept_rests.tasks; each = λ i task. kept_same run run now choice.next i (same i) (rest_of rests i) (going.kept_rests.each i task) };
               plain = record {
-                ready = λ t i n early is. elim (cases_lt t now) [ inl less ↦ old.ready t i n less is | inr from ↦ absurd (none_is_some (run t) i n (old.rest t from) is) ];
-                earliest = λ t i n j k early is ready. elim (cases_lt t now) [ inl less ↦ old.earliest t i n j k less is ready | inr from ↦ absurd (none_is_some (run t) i n (old.rest t from) is) ];
-                lowest = λ t i n j k early is ready tie. elim (cases_lt t now) [
-                  | inl less ↦ old.lowest t i n j k less is ready tie
-                  | inr from ↦ absurd (none_is_some (run t) i n (old.rest t from) is)
-                ];
+                ready = λ t i n early is. old.ready t i n (acts_before t i n is) is;
+                earliest = λ t i n j k early is ready. old.earliest t i n j k (acts_before t i n is) is ready;
+                lowest = λ t i n j k early is ready tie. old.lowest t i n j k (acts_before t i n is) is ready tie;
                 busy = λ t j k early is ready. elim (cases_lt t now) [ inl less ↦ old.busy t j k less is ready | inr from ↦ nothing_ready run idle_run t j k from early ready ];
                 rest = λ t late. old.rest t (omega (arith, late, more));
               };
               within = chosen.within;
               kept = λ i n job some.
-                  (let e = same i n in
-                  let at = stands i n job (omega (arith, some, e)) in
+                  (let at = stands i n job (omega (arith, some, same i n)) in
                   let late = none i at.rest job.task at.is in
-                  let first = chosen.next i at.rest job.task at.is late in
-                  let r = at.release in
-                  let w = facts.window i n job in
-                  omega (arith, first, r, w));
+                  omega (arith, chosen.next i at.rest job.task at.is late, at.release, facts.window i n job));
               met = λ i n job all. going.met i n job (let e = same i n in omega (arith, all, e));
             }
 
@@ -212,11 +198,7 @@ module _ (c : RunConstants) (facts : HasPlanFacts c) (units : ℕ → ℕ → �
           | inl some ↦ absurd
               (let at = stands i n job some in
               let late = none i at.rest job.task at.is in
-              let first = chosen.next i at.rest job.task at.is late in
-              let r = at.release in
-              let w = facts.window i n job in
-              let e = facts.within i n job in
-              omega (arith, first, r, w, e, over))
+              omega (arith, chosen.next i at.rest job.task at.is late, at.release, facts.window i n job, facts.within i n job, over))
         ]
 
         pub run_is_whole : choice.next ≡ c.end → IsPlainRun c units run × MeetsAllWindows c units run
@@ -225,16 +207,16 @@ module _ (c : RunConstants) (facts : HasPlanFacts c) (units : ℕ → ℕ → �
               record {
                 edf = record {
                   timed = record {
-                    ready = λ t i n is. elim (cases_lt t now) [ inl less ↦ old.ready t i n less is | inr from ↦ absurd (none_is_some (run t) i n (old.rest t from) is) ];
+                    ready = λ t i n is. old.ready t i n (acts_before t i n is) is;
                     ends = λ t late. old.rest t (let w = going.within in omega (arith, late, w));
                   };
-                  earliest = λ t i n j k is ready. elim (cases_lt t now) [ inl less ↦ old.earliest t i n j k less is ready | inr from ↦ absurd (none_is_some (run t) i n (old.rest t from) is) ];
+                  earliest = λ t i n j k is ready. old.earliest t i n j k (acts_before t i n is) is ready;
                   busy = λ t j k early is ready. elim (cases_lt t now) [
                     | inl less ↦ old.busy t j k less is ready
                     | inr from ↦ (let all = all_done over j k ready.job in let left = ready.left in let rise = units_rise run j k now t from in omega (arith, all, left, rise))
                   ];
                 };
-                lowest = λ t i n j k is ready tie. elim (cases_lt t now) [ inl less ↦ old.lowest t i n j k less is ready tie | inr from ↦ absurd (none_is_some (run t) i n (old.rest t from) is) ];
+                lowest = λ t i n j k is ready tie. old.lowest t i n j k (acts_before t i n is) is ready tie;
               },
               (λ i n job. going.met i n job (all_done over i n job)),
             )
@@ -255,12 +237,17 @@ module _ (c : RunConstants) (facts : HasPlanFacts c) (units : ℕ → ℕ → �
 
         module _ (to : ℕ) (more : now < to) (in_next : to ≤ choice.next) (in_window : to ≤ ready.rest.deadline) (no_more : to ≤ now + ready.rest.units) (next : ℕ → Option (ℕ × ℕ))
             (ext : Extends run next now to (Some (ready.task.0, ready.rest.job))) where
+          others : (i n : ℕ) → (i ≡ ready.task.0 → n ≡ ready.rest.job → ⊥) → units_before next to i n ≡ units_before run now i n
+          others i n other = other_units run next now to ready.task.0 ready.rest.job ext i n to other (omega (arith, more)) (omega arith)
+
+          own : units_before next to ready.task.0 ready.rest.job + now ≡ units_before run now ready.task.0 ready.rest.job + to
+          own = its_units run next now to ready.task.0 ready.rest.job ext to (omega (arith, more)) (omega arith)
+
           in_time : (j k : ℕ) → IsJob c j k → units_before run now j k < units j k → to ≤ c.deadline j k
           in_time j k job some =
               let at = stands j k job some in
-              let d = at.deadline in
               elim (cases_lt now at.rest.release) [
-                | inr early ↦ (let h = first.earliest j at.rest job.task at.is early in omega (arith, h, d, in_window))
+                | inr early ↦ (let h = first.earliest j at.rest job.task at.is early in omega (arith, h, at.deadline, in_window))
                 | inl late ↦ (let h = chosen.next j at.rest job.task at.is late in let r = at.release in let w = facts.window j k job in omega (arith, h, r, w, in_next))
               ]
 
@@ -277,17 +264,15 @@ module _ (c : RunConstants) (facts : HasPlanFacts c) (units : ℕ → ℕ → �
 
           rival : (t j k : ℕ) → now ≤ t → t < to → IsReady c units next t j k → IsRival j k
           rival t j k from early is =
-              let left = is.left in
               let e = early_same now (omega arith) j k in
-              let rise = units_rise next j k now t from in
-              let at = stands j k is.job (omega (arith, left, e, rise)) in
+              let at = stands j k is.job (omega (arith, is.left, e, units_rise next j k now t from)) in
               let released = stands_ready t (omega (arith, early, in_next)) j k is.released at is.job in
               let h = first.earliest j at.rest is.job.task at.is released in
               let d = at.deadline in
-              let own = kept_first.deadline in
+              let due = kept_first.deadline in
               record {
-                earliest = omega (arith, h, d, own);
-                lowest = λ tie. first.lowest j at.rest is.job.task at.is released (omega (arith, h, d, own, tie));
+                earliest = omega (arith, h, d, due);
+                lowest = λ tie. first.lowest j at.rest is.job.task at.is released (omega (arith, h, d, due, tie));
               }
 
           own_ready : (t : ℕ) → now ≤ t → t < to → IsReady c units next t ready.task.0 ready.rest.job
@@ -316,8 +301,7 @@ module _ (c : RunConstants) (facts : HasPlanFacts c) (units : ℕ → ℕ → �
                   | inr from ↦ (let e = some_is_some (next t) ready.task.0 ready.rest.job i n (ext.here t from early) is in
                       let own : c.deadline ready.task.0 ready.rest.job ≡ c.deadline i n = ap (λ (x : ℕ). c.deadline x ready.rest.job) e.0 ∙ ap (c.deadline i) e.1 in
                       let low = (rival t j k from early was).lowest (own ∙ tie) in
-                      let task = e.0 in
-                      omega (arith, low, task))
+                      omega (arith, low, e.0))
                 ];
                 busy = λ t j k early is was. elim (cases_lt t now) [
                   | inl less ↦ old.busy t j k less (sym (ext.before t less) ∙ is) (ready_same run next t (early_same t (omega (arith, less))) j k was)
@@ -339,7 +323,7 @@ module _ (c : RunConstants) (facts : HasPlanFacts c) (units : ℕ → ℕ → �
                     (subst (λ (x : ℕ). MatchOption left (IsDoneTask c units next to x) (IsRestOf c units next to x)) (sym same) kept))
                 | inr other ↦
                     subst (λ (o : Option Rest). MatchOption o (IsDoneTask c units next to j) (IsRestOf c units next to j)) (sym (get_or-set_other rests ready.task.0 j left None other))
-                    (kept_same run next now to j (λ n. other_units run next now to ready.task.0 ready.rest.job ext j n to (λ x _. other x) (omega (arith, more)) (omega arith)) (rest_of rests j)
+                    (kept_same run next now to j (λ n. others j n (λ x _. other x)) (rest_of rests j)
                     (going.kept_rests.each j task))
               ];
             };
@@ -362,20 +346,18 @@ module _ (c : RunConstants) (facts : HasPlanFacts c) (units : ℕ → ℕ → �
             release = kept_first.release;
             deadline = kept_first.deadline;
             some = some;
-            units_left = (let e = its_units run next now to ready.task.0 ready.rest.job ext to (omega (arith, more)) (omega arith) in let u = kept_first.units_left in omega (arith, e, u, is, more));
-            earlier = λ n less. other_units run next now to ready.task.0 ready.rest.job ext ready.task.0 n to (λ _ x. omega (arith, x, less)) (omega (arith, more)) (omega arith)
-                ∙ kept_first.earlier n less;
-            later = λ n later. other_units run next now to ready.task.0 ready.rest.job ext ready.task.0 n to (λ _ x. omega (arith, x, later)) (omega (arith, more)) (omega arith)
-                ∙ kept_first.later n later;
+            units_left = omega (arith, own, kept_first.units_left, is, more);
+            earlier = λ n less. others ready.task.0 n (λ _ x. omega (arith, x, less)) ∙ kept_first.earlier n less;
+            later = λ n later. others ready.task.0 n (λ _ x. omega (arith, x, later)) ∙ kept_first.later n later;
           }
 
           -- and of its task, where it is
           its_done : to ≡ now + ready.rest.units → units_before next to ready.task.0 ready.rest.job ≡ units ready.task.0 ready.rest.job
-          its_done is = (let e = its_units run next now to ready.task.0 ready.rest.job ext to (omega (arith, more)) (omega arith) in let u = kept_first.units_left in omega (arith, e, u, is))
+          its_done is = omega (arith, own, kept_first.units_left, is)
 
           up_to_it : to ≡ now + ready.rest.units → (n : ℕ) → n ≤ ready.rest.job → units_before next to ready.task.0 n ≡ units ready.task.0 n
           up_to_it is n le = elim (cases_lt n ready.rest.job) [
-            | inl less ↦ other_units run next now to ready.task.0 ready.rest.job ext ready.task.0 n to (λ _ x. omega (arith, x, less)) (omega (arith, more)) (omega arith) ∙ kept_first.earlier n less
+            | inl less ↦ others ready.task.0 n (λ _ x. omega (arith, x, less)) ∙ kept_first.earlier n less
             | inr past ↦ (let e : ready.rest.job ≡ n = omega (arith, past, le) in subst (λ (x : ℕ). units_before next to ready.task.0 x ≡ units ready.task.0 x) e (its_done is))
           ]
 
@@ -388,11 +370,9 @@ module _ (c : RunConstants) (facts : HasPlanFacts c) (units : ℕ → ℕ → �
             release = fresh.release;
             deadline = fresh.deadline;
             some = fresh.some;
-            units_left = (let e = other_units run next now to ready.task.0 ready.rest.job ext ready.task.0 q.job to (λ _ x. omega (arith, x, at)) (omega (arith, more)) (omega arith) in
-                let none = kept_first.later q.job (omega (arith, at)) in let u = fresh.units_all in omega (arith, e, none, u));
+            units_left = omega (arith, others ready.task.0 q.job (λ _ x. omega (arith, x, at)), kept_first.later q.job (omega (arith, at)), fresh.units_all);
             earlier = λ n less. up_to_it is n (omega (arith, less, at));
-            later = λ n later. other_units run next now to ready.task.0 ready.rest.job ext ready.task.0 n to (λ _ x. omega (arith, x, later, at)) (omega (arith, more)) (omega arith)
-                ∙ kept_first.later n (omega (arith, later, at));
+            later = λ n later. others ready.task.0 n (λ _ x. omega (arith, x, later, at)) ∙ kept_first.later n (omega (arith, later, at));
           })
 
         -- a job that is due now, at the latest, is the first that each plain run misses
@@ -425,11 +405,6 @@ module _ (c : RunConstants) (facts : HasPlanFacts c) (units : ℕ → ℕ → �
             lowest = λ j k job misses tie.
                 (let some = still_left j k job misses (omega (arith, tie, due_now)) in
                 let at = stands j k job some in
-                let w = facts.window j k job in
-                let r = at.release in
-                let d = at.deadline in
-                let released : at.rest.release ≤ now = omega (arith, r, w, tie, due_now) in
-                let h = first.earliest j at.rest job.task at.is released in
-                let own = kept_first.deadline in
-                first.lowest j at.rest job.task at.is released (omega (arith, h, d, own, tie)));
+                let released : at.rest.release ≤ now = omega (arith, at.release, facts.window j k job, tie, due_now) in
+                first.lowest j at.rest job.task at.is released (omega (arith, first.earliest j at.rest job.task at.is released, at.deadline, kept_first.deadline, tie)));
           }

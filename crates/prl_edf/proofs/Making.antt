@@ -14,29 +14,12 @@ use Rattle.prl_edf.specs.declared.rests.Rest.{Rest}
 use Rattle.prl_edf.specs.declared.rests.Ready.{Ready}
 use Rattle.prl_edf.specs.declared.rests.Choice.{Choice}
 use Rattle.prl_edf.specs.code.Extended.{Extends, EndBy}
-use Rattle.prl_edf.specs.code.Going.{rest_of, IsFirstReady, NoneReady, IsChoice, IsRestOf, IsDoneTask, IsRestAfter, AreRests, IsFresh, IsMaking}
+use Rattle.prl_edf.specs.code.Going.{IsFirstReady, NoneReady, IsChoice, IsRestOf, IsDoneTask, IsRestAfter, AreRests, IsMaking}
 use Rattle.prl_edf.proofs.Going.{before_next, idle_goes_on, run_is_whole, goes_on, rest_shorter, rest_next, is_first_miss}
 use Rattle.prl_edf.proofs.OneRun.{plain_agrees}
 use Rattle.prl_edf.proofs.PieceLists.{end_later}
 
 module _ (c : RunConstants) (facts : HasPlanFacts c) (units : ℕ → ℕ → ℕ) where
-  -- at first each task has its first job
-  fresh_rest : (i : ℕ) (o : Option Rest) → MatchOption o (c.jobs i ≤ 0) (IsFresh c units i 0) → MatchOption o (IsDoneTask c units (run_of []) 0 i) (IsRestOf c units (run_of []) 0 i)
-  fresh_rest i None over = λ n inside. absurd (omega (arith, over, inside))
-  fresh_rest i (Some q) fresh = (let at = fresh.job in record {
-    inside = (let h = fresh.inside in omega (arith, at, h));
-    release = fresh.release;
-    deadline = fresh.deadline;
-    some = fresh.some;
-    units_left = (let u = fresh.units_all in omega (arith, u));
-    earlier = λ n less. absurd (omega (arith, less, at));
-    later = λ n later. refl;
-  })
-
-  pub all_fresh : (rests : List (Option Rest)) → length rests ≡ c.tasks → ((i : ℕ) → i < c.tasks → MatchOption (rest_of rests i) (c.jobs i ≤ 0) (IsFresh c units i 0)) →
-      AreRests c units (run_of []) 0 rests
-  all_fresh rests long each = record { tasks = long; each = λ i task. fresh_rest i (rest_of rests i) (each i task) }
-
   pub begins : (cost : ℕ → ℕ → ℕ) → AreUnits c cost units → (rests : List (Option Rest)) → AreRests c units (run_of []) 0 rests → IsMaking c units [] 0 rests
   begins cost are rests kept = record {
     going = record {

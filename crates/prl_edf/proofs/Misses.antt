@@ -54,9 +54,7 @@ module _ (plan : PlanView) (horizon : Horizon) (is : IsPlan plan) (within : IsHo
     small_demand =
         let most = tasks_bound c (cost_within c cost 0 to) 2147483648 c.tasks (λ i n inside _. within_small c cost to 2147483648 0 i n
         (let h = (wcet_bounds plan is i inside).1 in omega (arith, h))) in
-        let jobs = within.jobs in
-        let few = within.few_jobs in
-        omega (arith, most, jobs, few)
+        omega (arith, most, within.jobs, within.few_jobs)
 
     pub told : (from asked : ℕ) → IsGreatest c cost to from asked → IsFirstOverload c cost from to × (asked ≡ demand c cost from to)
     told from asked greatest = (greatest_is_first c cost to facts some_run.0 costs some_run.1.edf task job miss at from asked greatest, greatest.asked_is)

@@ -44,8 +44,7 @@ not_shorter : (p q : Piece) (ps qs : List Piece) → AreLongest (p ∷ ps) → A
 not_shorter p q ps qs longest same from job = elim (cases_lt p.to q.to) [
   | inr past ↦ past
   | inl early ↦ absurd
-      (let some = longest.0 in
-      let there : run_of (q ∷ qs) p.to ≡ Some (q.task.0, q.job) = run_in q qs p.to (omega (arith, some, from)) early in
+      (let there : run_of (q ∷ qs) p.to ≡ Some (q.task.0, q.job) = run_in q qs p.to (omega (arith, longest.0, from)) early in
       ends_there p ps longest (same p.to ∙ there ∙ ap (λ (i : ℕ). Some (i, q.job)) (sym job.0) ∙ ap (λ (n : ℕ). Some (p.task.0, n)) (sym job.1)))
 ]
 
@@ -61,13 +60,11 @@ one_list [] [] first second same = refl
 one_list [] (q ∷ qs) first second same = absurd (none_is_some None q.task.0 q.job refl (same q.from ∙ busy_first q qs second))
 one_list (p ∷ ps) [] first second same = absurd (none_is_some None p.task.0 p.job refl (sym (same p.from) ∙ busy_first p ps first))
 one_list (p ∷ ps) (q ∷ qs) first second same =
-    let down = not_earlier p q ps qs first second same in
     let up = not_earlier q p qs ps second first (λ t. sym (same t)) in
-    let from : p.from ≡ q.from = omega (arith, down, up) in
+    let from : p.from ≡ q.from = omega (arith, not_earlier p q ps qs first second same, up) in
     let job = some_is_some (run_of (q ∷ qs) p.from) p.task.0 p.job q.task.0 q.job (sym (same p.from) ∙ busy_first p ps first) (ap (run_of (q ∷ qs)) from ∙ busy_first q qs second) in
-    let longer = not_shorter p q ps qs first same from job in
     let shorter = not_shorter q p qs ps second (λ t. sym (same t)) (sym from) (sym job.0, sym job.1) in
-    let to : p.to ≡ q.to = omega (arith, longer, shorter) in
+    let to : p.to ≡ q.to = omega (arith, not_shorter p q ps qs first same from job, shorter) in
     let rest : AreSame ps qs = (λ t. elim (cases_lt t p.to) [
       | inl early ↦ none_between p ps first t early ∙ sym (none_between q qs second t (omega (arith, early, to)))
       | inr late ↦ sym (run_out p ps t (inr late)) ∙ same t ∙ run_out q qs t (inr (omega (arith, late, to)))

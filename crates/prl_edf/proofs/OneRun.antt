@@ -37,12 +37,9 @@ module _ (c : RunConstants) (facts : HasPlanFacts c) (units : ℕ → ℕ → �
                 | inr its ↦
                     (let theirs = whole.edf.timed.ready t its.0 its.1 its.2 in
                     let here = ready_same c facts units run other t units_same its.0 its.1 theirs in
-                    let up = plain.earliest t some.0 some.1 its.0 its.1 early some.2 here in
                     let down = whole.edf.earliest t its.0 its.1 some.0 some.1 its.2 there in
-                    let tie : c.deadline some.0 some.1 ≡ c.deadline its.0 its.1 = omega (arith, up, down) in
-                    let low = plain.lowest t some.0 some.1 its.0 its.1 early some.2 here tie in
-                    let high = whole.lowest t its.0 its.1 some.0 some.1 its.2 there (sym tie) in
-                    let task : its.0 ≡ some.0 = omega (arith, low, high) in
+                    let tie : c.deadline some.0 some.1 ≡ c.deadline its.0 its.1 = omega (arith, plain.earliest t some.0 some.1 its.0 its.1 early some.2 here, down) in
+                    let task : its.0 ≡ some.0 = omega (arith, plain.lowest t some.0 some.1 its.0 its.1 early some.2 here tie, whole.lowest t its.0 its.1 some.0 some.1 its.2 there (sym tie)) in
                     let its_job = subst (λ (x : ℕ). IsJob c x its.1) task theirs.job in
                     let number : its.1 ≡ some.1 = one_job some.0 its.1 some.1 its_job mine.job (ap (λ (x : ℕ). c.deadline x its.1) (sym task) ∙ sym tie) in
                     its.2 ∙ ap (λ (x : ℕ). Some (x, its.1)) task ∙ ap (λ (x : ℕ). Some (some.0, x)) number ∙ sym some.2)

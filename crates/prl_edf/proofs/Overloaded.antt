@@ -30,8 +30,7 @@ module _ (c : RunConstants) (units : ℕ → ℕ → ℕ) (run : ℕ → Option 
         (λ _. elim (inside_or_not c a b some.0 some.1) [
           | inr out ↦ (let e = cost_outside c a b (units_before run (suc t)) some.0 some.1 out in omega (arith, e))
           | inl is ↦ (let e = cost_inside c a b (units_before run (suc t)) some.0 some.1 is.2 in
-              let d = cost_inside c a b (units_before run t) some.0 some.1 is.2 in
-              let one = unit_at_most run some.0 some.1 t in omega (arith, e, d, one))
+              let one = unit_at_most run some.0 some.1 t in omega (arith, e, cost_inside c a b (units_before run t) some.0 some.1 is.2, one))
         ])
   ]
 
@@ -45,10 +44,9 @@ module _ (c : RunConstants) (units : ℕ → ℕ → ℕ) (run : ℕ → Option 
   -- so where all these jobs meet their windows, the demand of what they have is no more than the interval
   pub met_fits : ((i n : ℕ) → IsJob c i n → c.deadline i n ≤ b → MeetsWindow c units run i n) → demand c units a b ≤ b - a
   met_fits met =
-      let has = no_more_than_it_has b in
       let all = jobs_rise c (cost_within c units a b) (given b) (λ i n job. elim (inside_or_not c a b i n) [
         | inr out ↦ (let e = cost_outside c a b units i n out in omega (arith, e))
         | inl is ↦ cost_rises c a b units (units_before run b) i n
             (let due = is.1 in let up = units_rise run i n (c.deadline i n) b due in let h = met i n job due in omega (arith, up, h))
       ]) in
-      omega (arith, has, all)
+      omega (arith, no_more_than_it_has b, all)

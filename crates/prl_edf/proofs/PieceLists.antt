@@ -107,10 +107,9 @@ grown_longest ps p q h some meets = longest_grown ps p q.to (omega (arith, some,
 more_longest : (ps : List Piece) (p q : Piece) → AreLongest (ps ++ (p ∷ [])) → q.from < q.to → EndBy (ps ++ (p ∷ [])) q.from →
     (p.to ≡ q.from → p.task.0 ≡ q.task.0 → p.job ≡ q.job → ⊥) → AreLongest ((ps ++ (p ∷ [])) ++ (q ∷ []))
 more_longest ps p q h some ended other =
-    let last = (end_front ps p q.from ended).1 in
     longest_snoc ps p q h some (elim (cases_lt p.to q.from) [
       | inl less ↦ inl less
-      | inr past ↦ (let meets : p.to ≡ q.from = omega (arith, last, past) in inr (meets, other meets))
+      | inr past ↦ (let meets : p.to ≡ q.from = omega (arith, (end_front ps p q.from ended).1, past) in inr (meets, other meets))
     ])
 
 grown_ends : (ps : List Piece) (p q : Piece) → q.from < q.to → EndBy (ps ++ (p ∷ [])) q.from → EndBy (ps ++ (record p { to = q.to } ∷ [])) q.to

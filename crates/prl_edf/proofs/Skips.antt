@@ -110,12 +110,8 @@ module _ (c : RunConstants) (facts : HasPlanFacts c) (cost : ℕ → ℕ → ℕ
         (let units = is_met.units in
         let earlier = is_met.edf.timed.ready t i m second in
         let later = is_met.edf.timed.ready s i n first in
-        let apart = facts.apart i m n later.job less in
-        let all = is_met.met i m earlier.job in
-        let left = earlier.left in
-        let released = later.released in
-        let rise = units_rise run i m (c.deadline i m) t (omega (arith, apart, released, le)) in
-        omega (arith, all, left, rise))
+        let rise = units_rise run i m (c.deadline i m) t (omega (arith, facts.apart i m n later.job less, later.released, le)) in
+        omega (arith, is_met.met i m earlier.job, earlier.left, rise))
   ]
 
   within_end : (t i n : ℕ) → run t ≡ Some (i, n) → t < c.end
@@ -137,18 +133,14 @@ module _ (c : RunConstants) (facts : HasPlanFacts c) (cost : ℕ → ℕ → ℕ
   acts_none : (t i n later : ℕ) → run t ≡ Some (i, n) → run later ≡ Some (i, n) → t < later → acts_in c (totals c run) run t (run t) ≡ []
   acts_none t i n later is again after =
       let end = within_end later i n again in
-      let more = unit_more run i n later again in
-      let up = units_rise run i n (suc t) later after in
-      let rise = units_rise run i n (suc later) c.end end in
       ap (acts_in c (totals c run) run t) is ∙ (elim (eqb_tells (units_before run (suc t) i n) (units_before run c.end i n)) [
-        | inl same ↦ absurd (let e = same.1 in omega (arith, e, more, up, rise))
+        | inl same ↦ absurd (let e = same.1 in omega (arith, e, unit_more run i n later again, units_rise run i n (suc t) later after, units_rise run i n (suc later) c.end end))
         | inr other ↦ ap (λ b. cond b (acts_of c i n) []) other.0
       ])
 
   acts_all : (t i n : ℕ) → run t ≡ Some (i, n) → ((s : ℕ) → suc t ≤ s → run s ≡ Some (i, n) → ⊥) → acts_in c (totals c run) run t (run t) ≡ acts_of c i n
   acts_all t i n is none =
-      let end = within_end t i n is in
-      let all = no_more i n (suc t) none c.end end in
+      let all = no_more i n (suc t) none c.end (within_end t i n is) in
       ap (acts_in c (totals c run) run t) is ∙ (elim (eqb_tells (units_before run (suc t) i n) (units_before run c.end i n)) [
         | inl same ↦ ap (λ b. cond b (acts_of c i n) []) same.0
         | inr other ↦ absurd (other.1 (sym all))
@@ -221,8 +213,7 @@ module _ (c : RunConstants) (facts : HasPlanFacts c) (cost : ℕ → ℕ → ℕ
         let there : run at ≡ Some (p.task.0, m) = past_piece at at_late ∙ some.goes in
         let long = longest.0 in
         let up = in_order p.task.0 p.job m p.from at (in_piece p.from (omega arith) long) there (omega (arith, at_late, long)) in
-        let down = in_order p.task.0 m p.job at s there goes here in
-        let same : m ≡ p.job = omega (arith, up, down) in
+        let same : m ≡ p.job = omega (arith, up, in_order p.task.0 m p.job at s there goes here) in
         let f : (m == p.job) ≡ true = grind (arith, nat_tests) in
         let g : ◌≡◌ {A = Bool} false true = ap (λ b. cond b false true) (sym f) ∙ is in cc
 
@@ -230,12 +221,11 @@ module _ (c : RunConstants) (facts : HasPlanFacts c) (cost : ℕ → ℕ → ℕ
         list_after ≡ (list ++ replicate (p.to - 1 - now) kinds.Tick) ++ acts_of c p.task.0 p.job → IsUnrolling c run ps (p.to - 1) list_after
     last is list_after made =
         let m : ℕ = p.to - 1 in
-        let d = from_done in
         let long = longest.0 in
         let never = never_again (next_job ps p.task.0) (first_tick ps longest.2 p.task.0) is in
         let goes : run m ≡ Some (p.task.0, p.job) = in_piece m (omega (arith, long)) (omega (arith, long)) in
         let all = acts_all m p.task.0 p.job goes (λ s late. never s (omega (arith, late))) in
-        let ticks : before c run m ≡ list ++ replicate (m - now) kinds.Tick = so_far.listed m (omega (arith, d, long)) (λ s begun early. elim (cases_lt s p.from) [
+        let ticks : before c run m ≡ list ++ replicate (m - now) kinds.Tick = so_far.listed m (omega (arith, from_done, long)) (λ s begun early. elim (cases_lt s p.from) [
           | inl less ↦ up_to_piece s begun less
           | inr from ↦ acts_none s p.task.0 p.job m (in_piece s from (omega (arith, early, long))) goes early
         ]) in
@@ -367,10 +357,7 @@ lasts_length ps lasts is = ap length is ∙ length-reverse (lasts_in ps) ∙ las
 module _ (c : RunConstants) (facts : HasPlanFacts c) (cost : ℕ → ℕ → ℕ) (run : ℕ → Option (ℕ × ℕ)) (is_met : IsMetRun c cost run) where
   totals_are : (i n : ℕ) → IsJob c i n → is_met.units i n ≡ totals c run i n
   totals_are i n job =
-      let all = is_met.met i n job in
-      let rise = units_rise run i n (c.deadline i n) c.end (facts.within i n job) in
-      let most = never_more c is_met.units run is_met.edf.timed i n c.end in
-      omega (arith, all, rise, most)
+      omega (arith, is_met.met i n job, units_rise run i n (c.deadline i n) c.end (facts.within i n job), never_more c is_met.units run is_met.edf.timed i n c.end)
 
   pub total_units : AreUnits c cost (totals c run)
   total_units i n job = (let h = is_met.are i n job in let e = totals_are i n job in (omega (arith, h, e), omega (arith, h, e)))

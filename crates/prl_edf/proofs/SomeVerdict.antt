@@ -127,7 +127,6 @@ pub record Laws (c : RunConstants) (cost : ℕ → ℕ → ℕ) : Type 0 where
 
 pub some_verdict : (c : RunConstants) (cost : ℕ → ℕ → ℕ) → Laws c cost → (verdict : Verdict) × IsVerdict c cost verdict
 some_verdict c cost laws =
-    let run : ℕ → Option (ℕ × ℕ) = laws.some.0 in
     let plain : IsPlainRun c cost laws.some.0 = laws.some.1 in
     elim (met_or_missed c cost laws.some.0) [
       | inr missed ↦

@@ -37,19 +37,17 @@ module _ (c : RunConstants) (cost : ℕ → ℕ → ℕ) (b : ℕ) where
       (a asked : ℕ) → IsGreatest c cost b a asked → IsFirstOverload c cost a b
   greatest_is_first facts run are edf i n miss ends a asked is =
       let told = first_overload c facts cost run are edf i n miss in
-      let asks = is.asked_is in
-      let over : IsOverloaded c cost a b = (let o = is.over in omega (arith, o, asks)) in
+      let over : IsOverloaded c cost a b = (let o = is.over in omega (arith, o, is.asked_is)) in
       let none_later : (x : ℕ) → IsOverloaded c cost x b → x ≤ b → x ≤ a = (λ x o within. elim (cases_lt a x) [
         | inr past ↦ past
         | inl later ↦ absurd (let h = is.greatest x later within in omega (arith, h, o, within))
       ]) in
       let job = begins_with_a_job c cost a b over in
       let at_job : c.release job.0 job.1 ≤ a = none_later (c.release job.0 job.1) job.4 (let due = job.5 in let w = facts.window job.0 job.1 job.2 in omega (arith, due, w)) in
-      let from = job.3 in
       record {
         overloaded = over;
         least_end = λ x y o. (let h = told.1.least_end x y o in omega (arith, h, ends));
-        begins = (job.0, job.1, job.2, omega (arith, from, at_job));
+        begins = (job.0, job.1, job.2, omega (arith, job.3, at_job));
         greatest = λ j k at o. none_later (c.release j k) o (elim (cases_lt b (c.release j k)) [
           | inr within ↦ within
           | inl past ↦ absurd (let late = begins_with_a_job c cost (c.release j k) b o in
@@ -125,8 +123,7 @@ module _ (c : RunConstants) (cost : ℕ → ℕ → ℕ) (b : ℕ) where
   one_earlier back so_far start within is starts =
       let e : b + 1 - back ≡ suc (b - back) = omega (arith, within) in
       let d : demand c cost (b + 1 - back) b ≡ demand c cost (suc (b - back)) b = ap (λ (x : ℕ). demand c cost x b) e in
-      let step = demand_earlier c cost b (b - back) in
-      omega (arith, is, d, starts, step)
+      omega (arith, is, d, starts, demand_earlier c cost b (b - back))
 
 pub sum_next : (f : ℕ → ℕ) (n : ℕ) → sum_below f (n + 1) ≡ sum_below f n + f n
 sum_next f n = rw add-one refl

@@ -1,5 +1,5 @@
 -- Steps one after the other.
-use Rattle.std.proofs.Common.{◌≡◌, ◌<◌, ◌≤◌, ◌+◌, ◌-◌, ℕ, zero, suc, List, [], ◌∷◌, ◌++◌, map, length, Option, Some, refl, sym, ap, ◌∙◌, subst, arith, append_assoc}
+use Rattle.std.proofs.Common.{◌≡◌, ◌<◌, ◌≤◌, ◌+◌, ◌-◌, ℕ, zero, suc, List, [], ◌∷◌, ◌++◌, map, length, Option, refl, sym, ap, ◌∙◌, subst, arith, append_assoc}
 use Rattle.std.specs.Prelude.{reverse}
 use Rattle.std.specs.List.{range_with_len}
 use Rattle.std.proofs.lemmas.List.{append-nil, map-append, length-reverse, reverse-append}
@@ -128,12 +128,6 @@ inner_are ty f pre post of middle e =
     let stand : List ℕ = last_of of (range_with_len f (length post)) in
     ap (operators_over ty (reverse pre) (f + length post)) e ∙ over_are ty (reverse pre) (f + length post) stand
     ∙ ap (λ n. operator_flows ty (reverse pre) (range_with_len (f + length post) n) stand) (length-reverse pre)
-
-pub middle_none : (of : List ℕ) (f : ℕ) (post : List PlacedOp) → length post ≡ 0 → head_of of ≡ head_of (last_of of (range_with_len f (length post)))
-middle_none of f post e = ap (λ n. head_of (last_of of (range_with_len f n))) (sym e)
-
-pub middle_some : (of : List ℕ) (f : ℕ) (post : List PlacedOp) → 0 < length post → Some ((f + length post) - 1) ≡ head_of (last_of of (range_with_len f (length post)))
-middle_some of f post some = ap head_of (sym (middle_is of f (length post) some))
 
 pub placed_given : (at : Span) (ts : List given.Term) → map arg_of (map (placed_at at) ts) ≡ map (λ (i : ℕ). record { flow = flow_no i; at = at }) (map flow_of ts)
 placed_given at [] = refl

@@ -36,8 +36,7 @@ import_is (x ∷ is) (suc j) i name apart e at =
       | true ↦ λ f.
           (let first : x.name ≡ name = (bytes_decides x.name name).0 f in
           let there : slice_get (map (λ (y : Import). y.name) is) j ≡ Some name = slice_get-map (λ (y : Import). y.name) is j ∙ ap (option_map (λ (y : Import). y.name)) e ∙ ap Some at in
-          let clash : 0 ≡ suc j = apart 0 (suc j) name (ap Some first) there in
-          absurd (omega (arith, clash)))
+          absurd (omega (arith, apart 0 (suc j) name (ap Some first) there)))
       | false ↦ λ f. import_is is j i name (λ a b m g h. let up : suc a ≡ suc b = apart (suc a) (suc b) m g h in omega (arith, up)) e at
     ] refl
 
@@ -94,8 +93,7 @@ used_has : (applied : List (List ℕ)) (is : List Import) (j : ℕ) (i : Import)
 used_has applied [] j i e h = absurd (cc)
 used_has applied (x ∷ is) zero i e h =
     let same : x ≡ i = some_inner x i e in
-    let index = index_some 0 applied h.0 i.name h.1 in
-    let there : is_some (index_of applied x.name) ≡ true = ap (λ (y : Import). is_some (index_of applied y.name)) same ∙ ap is_some index.1 in
+    let there : is_some (index_of applied x.name) ≡ true = ap (λ (y : Import). is_some (index_of applied y.name)) same ∙ ap is_some (index_some 0 applied h.0 i.name h.1).1 in
     subst (λ (b : Bool). Has (cond b (x.name ∷ used_among applied is) (used_among applied is)) i.name) (sym there) (0, ap (λ (y : Import). Some y.name) same)
 used_has applied (x ∷ is) (suc j) i e h =
     let later = used_has applied is j i e h in

@@ -110,9 +110,8 @@ module _ (p : ProgramTree) (tys : Types) (flat : FlatProgram) where
   counted_early : (s : ℕ) (is : List ℕ) → Counted s is → AreEarly (s + length is) is
   counted_early s [] h = tt
   counted_early s (i ∷ is) h =
-      let here = h.0 in
       let e : (s + 1) + length is ≡ s + suc (length is) = omega arith in
-      (inl (omega (arith, here)), subst (λ b. AreEarly b is) e (counted_early (s + 1) is h.1))
+      (inl (omega (arith, h.0)), subst (λ b. AreEarly b is) e (counted_early (s + 1) is h.1))
 
   last_early : (b : ℕ) (of is : List ℕ) → AreEarly b of → AreEarly b is → AreEarly b (last_of of is)
   last_early b of [] h g = h
@@ -223,14 +222,12 @@ module _ (p : ProgramTree) (tys : Types) (flat : FlatProgram) where
           → HaveApps p tys flat (core_imports c) (root_apps p n env root at c) → (s : ℕ) → Counted s (notes.core_flows c)
           → AllUse (root_flows_of p tys k n env root at c) × AreEarly (s + length (notes.core_flows c)) (root_given n env root c)
       root_use k n env found count named d (const v) at (notes.constant i) h known arity range_of flow apps s counted =
-          let here = counted.0 in
-          ((λ made j uses. elim uses [ inl now ↦ absurd now | inr inside ↦ absurd inside ], tt), (inl (omega (arith, here)), tt))
+          ((λ made j uses. elim uses [ inl now ↦ absurd now | inr inside ↦ absurd inside ], tt), (inl (omega (arith, counted.0)), tt))
       root_use k n env found count named d (var name) at notes.name h known arity range_of flow apps s counted =
           (tt, named_early (s + 0) (at_variable n env name) (index_named env (param_of n name) named))
       root_use k n env found count named d (apply name place args) at (notes.import parts x outs) h known arity range_of flow apps s counted =
-          let callee = callee_of p name in
           let argued = argued_right p k name place args arity in
-          let ports : List Port = ports_of (import_at p callee) in
+          let ports : List Port = ports_of (import_at p (callee_of p name)) in
           let a : List Numbered = all_flows p tys k n env args parts in
           let b : List Numbered = output_flows x 0 place ports outs in
           let call : App = call_of p n env name place args parts outs in
@@ -247,7 +244,6 @@ module _ (p : ProgramTree) (tys : Types) (flat : FlatProgram) where
             all_up ((s + length ps) + length outs) (s + length (ps ++ outs)) outs (omega (arith, l)) (counted_early (s + length ps) outs after),
           )
       root_use k n env found count named d (apply name place args) at (notes.node parts x child) h known arity range_of flow apps s counted =
-          let o = callee_of p name in
           let callee = node_of (callee_of p name) in
           let gs : List ℕ = all_given n env args parts in
           let label : List ℕ = label_of_node name x in

@@ -8,12 +8,12 @@ use Rattle.prl_ast.specs.Trees.{NodeTree, ProgramTree, program_tree}
 use Rattle.prl_flow.specs.declared.programs.App.{App}
 use Rattle.prl_flow.specs.declared.programs.Flow.{Flow}
 use Rattle.prl_types.specs.Flows as types
-use Rattle.prl_behaviours.specs.Annotations.{Entered, entered, Rights, done, next, Part, part, Core, Parts}
+use Rattle.prl_behaviours.specs.Annotations.{Entered, Rights}
 use Rattle.prl_behaviours.specs.Annotations as notes
 use Rattle.prl_behaviours.specs.Asked.{outputs_of}
 use Rattle.prl_behaviours.specs.Texts.{node_at}
 use Rattle.prl_expand.specs.Flats as flats
-use Rattle.prl_expand.specs.Flats.{Numbered, Types, arguments, copy_of, equated, flow_no, import_at, ports_of, operator_flows, output_flows, paired, placed, resolved}
+use Rattle.prl_expand.specs.Flats.{Numbered, Types, equated, resolved}
 use Rattle.prl_expand.specs.declared.counts.ExpandFault.{ExpandFault}
 use Rattle.prl_expand.specs.declared.counts.Next.{Next}
 use Rattle.prl_expand.specs.declared.terms.Term as given_term
@@ -77,9 +77,7 @@ middle_numbers g ts f a b c e = map_take g b (drop a ts) ∙ ap (take b) (map_dr
 
 pub params_length : (d : NodeTree) → length (params_of d) ≡ (length d.ins + length d.outs) + length d.locals
 params_length d =
-    let one = length-append (d.ins ++ d.outs) d.locals in
-    let two = length-append d.ins d.outs in
-    omega (arith, one, two)
+    omega (arith, length-append (d.ins ++ d.outs) d.locals, length-append d.ins d.outs)
 
 -- a node of the program that was checked is one of the program at hand
 pub node_found : (names checked : Program) (k : ℕ) (d : NodeTree) → checked ≡ names → slice_get (program_tree checked).nodes k ≡ Some d → slice_get (program_tree names).nodes k ≡ Some d
@@ -137,15 +135,12 @@ module _ (p : ProgramTree) (tys : Types) (levels k : ℕ) (s : Next) where
 
   whole_length : (((s.flow + length n.ins) + length n.outs) + length n.locals) + length (notes.right_flows rights) ≡ s.flow + length (notes.flows_in whole)
   whole_length =
-      let sum = length-append env (notes.right_flows rights) in
-      let many = env_length in
-      omega (arith, sum, many)
+      omega (arith, length-append env (notes.right_flows rights), env_length)
 
   pub variables_past : (d : NodeTree) (e : ExpandFault) → n ≡ d → IsPast (((s.flow + length d.ins) + length d.outs) + length d.locals) e → IsPast (s.flow + length (notes.flows_in whole)) e
   variables_past d e is h =
       let mine : IsPast (((s.flow + length n.ins) + length n.outs) + length n.locals) e = subst (λ (x : NodeTree). IsPast (((s.flow + length x.ins) + length x.outs) + length x.locals) e) (sym is) h in
-      let sum = whole_length in
-      past_more (((s.flow + length n.ins) + length n.outs) + length n.locals) (s.flow + length (notes.flows_in whole)) e (omega (arith, sum)) mine
+      past_more (((s.flow + length n.ins) + length n.outs) + length n.locals) (s.flow + length (notes.flows_in whole)) e (omega (arith, whole_length)) mine
 
   pub equations_past : (d : NodeTree) (t : Next) (e : ExpandFault) → n ≡ d → t ≡ after d → IsPast (t.flow + length (notes.right_flows (the_rights p levels d.eqs t))) e → IsPast (s.flow + length (notes.flows_in whole)) e
   equations_past d t e is at h =

@@ -39,8 +39,7 @@ ranges a (suc x) y =
 pub both_from : (f : ℕ) (xs ys : List ℕ) → From f xs → From (f + length xs) ys → From f (xs ++ ys)
 both_from f xs ys a b =
     let x = length xs in
-    let y = length ys in
-    ap (λ us. us ++ ys) a ∙ ap (λ vs. range_with_len f x ++ vs) b ∙ ranges f x y ∙ ap (range_with_len f) (sym (length-append xs ys))
+    ap (λ us. us ++ ys) a ∙ ap (λ vs. range_with_len f x ++ vs) b ∙ ranges f x (length ys) ∙ ap (range_with_len f) (sym (length-append xs ys))
 
 pub range_from : (f n : ℕ) → From f (range_with_len f n)
 range_from f n = ap (range_with_len f) (sym (length-range_with_len f n))

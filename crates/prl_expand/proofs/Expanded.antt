@@ -83,9 +83,8 @@ module _ (p : ProgramTree) (enter : Enter) (k : ℕ) where
         let pres : List ℕ = reverse (range_with_len f2 (length pre)) in
         let turned : reverse pres ≡ range_with_len f2 (length pre) = reverse-reverse (range_with_len f2 (length pre)) in
         let front : From s.flow (core_flows value ++ posts) = both_from s.flow (core_flows value) posts c.flows (range_from f1 (length post)) in
-        let many = length-append (core_flows value) posts in
         let few = length-range_with_len f1 (length post) in
-        let at_is : f2 ≡ s.flow + length (core_flows value ++ posts) = omega (arith, many, few) in
+        let at_is : f2 ≡ s.flow + length (core_flows value ++ posts) = omega (arith, length-append (core_flows value) posts, few) in
         let back : From f2 (reverse pres) = subst (From f2) (sym turned) (range_from f2 (length pre)) in
         record {
           good = (length-reverse (range_with_len f2 (length pre)) ∙ length-range_with_len f2 (length pre), c.good, few);
@@ -147,10 +146,9 @@ module _ (p : ProgramTree) (enter : Enter) (k : ℕ) where
       let m2 = length-range_with_len (s.flow + length d.ins) (length d.outs) in
       let m3 = length-range_with_len ((s.flow + length d.ins) + length d.outs) (length d.locals) in
       let j1 = length-append ins outs in
-      let j2 = length-append (ins ++ outs) locals in
       let a1 : s.flow + length d.ins ≡ s.flow + length ins = omega (arith, m1) in
       let a2 : (s.flow + length d.ins) + length d.outs ≡ s.flow + length (ins ++ outs) = omega (arith, m1, m2, j1) in
-      let a3 : t.flow ≡ s.flow + length env = omega (arith, m1, m2, m3, j1, j2) in
+      let a3 : t.flow ≡ s.flow + length env = omega (arith, m1, m2, m3, j1, length-append (ins ++ outs) locals) in
       let io : From s.flow (ins ++ outs) = both_from s.flow ins outs (range_from s.flow (length d.ins)) (subst (λ f. From f outs) a1 (range_from (s.flow + length d.ins) (length d.outs))) in
       let iol : From s.flow env = both_from s.flow (ins ++ outs) locals io (subst (λ f. From f locals) a2 (range_from ((s.flow + length d.ins) + length d.outs) (length d.locals))) in
       let has : HasVariables (Some d) (length ins) (length outs) (length locals) = (m1, m2, m3) in

@@ -23,12 +23,12 @@ use Rattle.prl_names.specs.declared.lookups.Callee.TheVariants as callees
 use Rattle.prl_names.specs.Lookups.{callee_of}
 use Rattle.prl_terms.specs.declared.terms.Term.{Term}
 use Rattle.prl_types.specs.Flows as types
-use Rattle.prl_behaviours.specs.Annotations.{Entered, entered, Rights, done, next, Part, part, Core, Parts}
+use Rattle.prl_behaviours.specs.Annotations.{Entered, next, Part, Core, Parts}
 use Rattle.prl_behaviours.specs.Annotations as notes
-use Rattle.prl_behaviours.specs.Asked.{all_given, given, last_of, outputs_of, root_given}
+use Rattle.prl_behaviours.specs.Asked.{all_given, last_of, outputs_of, root_given}
 use Rattle.prl_behaviours.specs.Texts.{node_at, node_of}
 use Rattle.prl_expand.specs.Flats as flats
-use Rattle.prl_expand.specs.Flats.{Numbered, Types, arguments, copy_of, equated, flow_no, import_at, ports_of, operator_flows, output_flows, paired, placed, resolved}
+use Rattle.prl_expand.specs.Flats.{Numbered, Types, arguments, copy_of, flow_no, import_at, ports_of, operator_flows, output_flows, resolved}
 use Rattle.prl_expand.proofs.FlatRules.{arguments_are}
 use Rattle.prl_expand.specs.declared.counts.ExpandFault.{ExpandFault}
 use Rattle.prl_expand.specs.declared.counts.Next.{Next}
@@ -36,7 +36,7 @@ use Rattle.prl_expand.specs.declared.nodes.Made.{Made}
 use Rattle.prl_expand.specs.declared.terms.Term as given_term
 use Rattle.prl_expand.specs.code.Adding.{Adds}
 use Rattle.prl_expand.specs.code.Limits.{IsPast}
-use Rattle.prl_expand.specs.code.Made.{a_call, a_core, a_node, a_part, all_parts, all_resolved, called_apps, called_flows, called_given, first_type, operated_flows, operated_given, operated_types, types_given, types_of}
+use Rattle.prl_expand.specs.code.Made.{a_call, a_core, a_node, a_part, all_parts, all_resolved, called_apps, called_flows, called_given, first_type, operated_flows, types_of}
 use Rattle.prl_expand.specs.code.Numbering.{called, entered_from, past, past_core, past_entered, past_part, past_parts}
 use Rattle.prl_expand.specs.code.Terms.{arg_of, flow_of}
 use Rattle.prl_expand.specs.code.Variables.{copied, def_of}
@@ -56,11 +56,6 @@ next_of f a n = record { flow = f; app = a; node = n }
 first_resolved : (tys : Types) (ts : List Term) → first_type (all_resolved tys ts) ≡ resolved tys (types.operand ts)
 first_resolved tys [] = refl
 first_resolved tys (t ∷ ts) = refl
-
-pub operated_resolved : (tys : Types) (pre post : List PlacedOp) (ts : List Term) → operated_types pre post (all_resolved tys ts) ≡ all_resolved tys (types.operated pre post ts)
-operated_resolved tys [] [] ts = refl
-operated_resolved tys [] (o ∷ post) ts = ap (λ (ty : Ty). ty ∷ []) (first_resolved tys ts)
-operated_resolved tys (o ∷ pre) post ts = ap (λ (ty : Ty). ty ∷ []) (first_resolved tys ts)
 
 -- numbers past lists of known lengths
 numbers_past : (f a b c d : ℕ) → d ≡ (a + b) + c → ((f + a) + b) + c ≡ f + d
@@ -82,10 +77,7 @@ module _ (p : ProgramTree) (tys : Types) (levels k : ℕ) (env : List ℕ) (pre 
       let posts : List ℕ = range_with_len above (length post) in
       let pres : List ℕ = reverse (range_with_len (above + length post) (length pre)) in
       let n : length (reverse pres) ≡ length pre = ap length (reverse-reverse (range_with_len (above + length post) (length pre))) ∙ length-range_with_len (above + length post) (length pre) in
-      let m : length posts ≡ length post = length-range_with_len above (length post) in
-      let one = length-append (c ++ posts) (reverse pres) in
-      let two = length-append c posts in
-      omega (arith, n, m, one, two)
+      omega (arith, n, length-range_with_len above (length post), length-append (c ++ posts) (reverse pres), length-append c posts)
 
   pub expression_next : record { flow = (above + length post) + length pre; app = s.app + length (notes.core_imports core); node = s.node + length (notes.core_nodes core) } ≡ past_part s whole
   expression_next =
@@ -116,24 +108,10 @@ module _ (p : ProgramTree) (tys : Types) (levels k : ℕ) (env : List ℕ) (pre 
       (append-nil (flats.root_apps p n env root at core))
       (ap (λ (x : Next). record { flow = (x.flow + length post) + length pre; app = x.app; node = x.node }) one.next_is ∙ expression_next)
 
-  pub expression_args : (m : Made) (of : List given_term.Term) → m.next ≡ past_core s core → map flow_of of ≡ root_given (node_at p k) env root core
-      → map (λ (i : ℕ). record { flow = flow_no i; at = at }) (operated_given m.next.flow pre post (map flow_of of)) ≡ placed (tree pre root post at) (given (node_at p k) env (tree pre root post at) whole)
-  expression_args m of e flows_is =
-      ap (λ (x : Next). map (λ (i : ℕ). record { flow = flow_no i; at = at }) (operated_given x.flow pre post (map flow_of of))) e
-      ∙ ap (λ is. map (λ (i : ℕ). record { flow = flow_no i; at = at }) (operated_given above pre post is)) flows_is
-
-  pub expression_types : (of : List given_term.Term) → types_of of ≡ all_resolved tys (types.root_flows p k root)
-      → operated_types pre post (types_of of) ≡ all_resolved tys (types_given p k (tree pre root post at))
-  expression_types of e = ap (operated_types pre post) e ∙ operated_resolved tys pre post (types.root_flows p k root)
-
-  pub core_past : (e : ExpandFault) → IsPast (s.flow + length (notes.core_flows core)) e → IsPast (s.flow + length (notes.part_flows whole)) e
-  core_past e h = let n = part_length in past_more (s.flow + length (notes.core_flows core)) (s.flow + length (notes.part_flows whole)) e (omega (arith, n)) h
-
   pub operators_past : (m : Made) (e : ExpandFault) → m.next ≡ past_core s core → IsPast ((m.next.flow + length post) + length pre) e → IsPast (s.flow + length (notes.part_flows whole)) e
   operators_past m e at_is h =
-      let n = part_length in
       let number : m.next.flow ≡ above = ap (λ (x : Next). x.flow) at_is in
-      past_more ((m.next.flow + length post) + length pre) (s.flow + length (notes.part_flows whole)) e (omega (arith, n, number)) h
+      past_more ((m.next.flow + length post) + length pre) (s.flow + length (notes.part_flows whole)) e (omega (arith, part_length, number)) h
 
 pub on_ok : {T E : Type 0} (r : Result T E) (P Q : Type 0) → (P → Q) → OnOk r P → OnOk r Q
 on_ok (Ok x) P Q f h = f h
@@ -160,9 +138,6 @@ module _ (p : ProgramTree) (tys : Types) (levels j : ℕ) (i : Import) (o : Opti
     (is : o ≡ Some (callees.Import j)) (found : slice_get p.imports j ≡ Some i) where
   outs_of : Option Import → List ℕ
   outs_of x = range_with_len s.flow (length (ports_of x))
-
-  pub import_given : range_with_len s.flow (length i.outs) ≡ called_given o (a_call p levels o s)
-  import_given = subst (λ x. range_with_len s.flow (length i.outs) ≡ called_given x (a_call p levels x s)) (sym is) (ap (λ x. range_with_len s.flow (length (ports_of x))) (sym found))
 
   pub import_types : map (λ (q : Port). q.ty) i.outs ≡ all_resolved tys (types.outputs_of p o)
   import_types = subst (λ x. map (λ (q : Port). q.ty) i.outs ≡ all_resolved tys (types.outputs_of p x)) (sym is) (known_types tys i.outs ∙ ap (λ x. all_resolved tys (types.import_outputs x)) (sym found))

@@ -84,8 +84,7 @@ module _ (p : ProgramTree) (tys : Types) (flat : FlatProgram) (sound : IsSound p
     part_used k n env found expanded count typed (tree pre root post at) (part pres core posts) h known arity met flow inside =
         let of : List ℕ = root_given n env root core in
         let ty : Ty = resolved tys (flows.operand (flows.root_flows p k root)) in
-        let arities = operated_right p k pre root post arity in
-        root_used k n env found expanded count typed root at core h.1 known arities.inner
+        root_used k n env found expanded count typed root at core h.1 known (operated_right p k pre root post arity).inner
         (all_first (Met tys) (typing.root_rules p k root) (typing.constant_rules (flows.operand (flows.root_flows p k root)) pre) met)
         (all_first (HasFlow p tys flat) (root_flows_of p tys k n env root at core) (operator_flows ty post posts of ++ operator_flows ty (reverse pre) (reverse pres) (last_of of posts)) flow)
         (record { named = inside.named; enters = inside.enters })
@@ -127,7 +126,6 @@ module _ (p : ProgramTree) (tys : Types) (flat : FlatProgram) (sound : IsSound p
         (record { named = λ m has. inside.named m (suc has.0, has.1); enters = λ j by. inside.enters j (or_true (is_node j (callee_of p name)) (applied_trees p j args) by) }))
         (own_use, tt)
     root_used k n env found expanded count typed (apply name place args) at (notes.node parts x child) h known arity met flow inside =
-        let o = callee_of p name in
         let callee = node_of (callee_of p name) in
         let gs : List ℕ = all_given n env args parts in
         let label : List ℕ = label_of_node name x in
@@ -135,7 +133,7 @@ module _ (p : ProgramTree) (tys : Types) (flat : FlatProgram) (sound : IsSound p
         let enough = enough_given p k n env found count name args parts child h.0 h.1 h.2 known.1 argued in
         let a : List Numbered = all_flows p tys k n env args parts in
         let b : List Numbered = entered_flows p tys label callee (map copy_of gs) child in
-        let met_args = all_first (Met tys) (typing.all_rules p k args) (typing.argument_rules (flows.inputs_of p o) (flows.placed_flows p k args)) met in
+        let met_args = all_first (Met tys) (typing.all_rules p k args) (typing.argument_rules (flows.inputs_of p (callee_of p name)) (flows.placed_flows p k args)) met in
         all_both (IsOfUsed p main flat) (all_apps p n env args parts) (entered_apps p callee child)
         (all_used k n env found expanded count typed args parts h.1 known.1 argued.inner met_args (all_first (HasFlow p tys flat) a b flow)
         (record { named = λ m has. inside.named m (suc has.0, has.1); enters = λ j by. inside.enters j (or_true (is_node j (callee_of p name)) (applied_trees p j args) by) }))

@@ -245,11 +245,10 @@ module _ (P : Rule ℕ ℕ → Type 0) where
       part_tells k n env found count (tree pre root post at) (part pres core posts) h known arity =
           let of : List ℕ = root_given n env root core in
           let ty : Ty = resolved tys (flows.operand (flows.root_flows p k root)) in
-          let arities = operated_right p k pre root post arity in
           tells_more (root_flows_of p tys k n env root at core) (operator_flows ty post posts of ++ operator_flows ty (reverse pre) (reverse pres) (last_of of posts))
           (core_imports core) (root_apps p n env root at core) (root_rules p n env root core)
           (operator_rules post posts of ++ operator_rules (reverse pre) (reverse pres) (last_of of posts))
-          (root_tells k n env found count root at core h.1 known arities.inner)
+          (root_tells k n env found count root at core h.1 known (operated_right p k pre root post arity).inner)
           (numbered_append (operator_flows ty post posts of) (operator_flows ty (reverse pre) (reverse pres) (last_of of posts))
           ∙ rw (operators_are ty post posts of, operators_are ty (reverse pre) (reverse pres) (last_of of posts)) refl)
 
@@ -259,13 +258,12 @@ module _ (P : Rule ℕ ℕ → Type 0) where
       root_tells k n env found count (const v) at (notes.constant i) h known arity = tells_flows (constant_flows (const v) i at) (constant_rules (const v) i) (constants_are (const v) i at)
       root_tells k n env found count (var name) at notes.name h known arity = tells_nothing
       root_tells k n env found count (apply name place args) at (notes.import parts x outs) h known arity =
-          let argued = argued_right p k name place args arity in
           let ports : List Port = ports_of (import_at p (callee_of p name)) in
           let call : App = call_of p n env name place args parts outs in
           let rule : app_rule x call ≡ applied name (all_given n env args parts) outs x = rw (arguments_are n env args parts, outs_are outs) refl in
           tells_both (all_flows p tys k n env args parts) (output_flows x 0 place ports outs) (parts_imports parts) (x ∷ []) (all_apps p n env args parts) (call ∷ [])
           (all_rules p n env args parts) (applied name (all_given n env args parts) outs x ∷ [])
-          (all_tells k n env found count args parts h.1 known.1 argued.inner)
+          (all_tells k n env found count args parts h.1 known.1 (argued_right p k name place args arity).inner)
           (record {
             to = λ f g. (subst P rule g.0, tt);
             flows = λ g. subst All (sym (outputs_are x 0 place ports outs)) tt;

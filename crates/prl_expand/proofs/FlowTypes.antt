@@ -230,12 +230,10 @@ module _ (p : ProgramTree) (tys : Types) (flat : FlatProgram) where
         root_typed (apply name place args) at (notes.import parts x outs) h known arity flow =
             import_typed (callee_of p name) x place outs h.0 (all_second HasFlow (all_flows p tys k n env args parts) (output_flows x 0 place (ports_of (import_at p (callee_of p name))) outs) flow)
         root_typed (apply name place args) at (notes.node parts x child) h known arity flow =
-            let callee = node_of (callee_of p name) in
             let gs : List ℕ = all_given n env args parts in
-            let argued = argued_right p k name place args arity in
-            let enough = enough_given p k n env found count name args parts child h.0 h.1 h.2 known.1 argued in
+            let enough = enough_given p k n env found count name args parts child h.0 h.1 h.2 known.1 (argued_right p k name place args arity) in
             call_outputs (callee_of p name) (label_of_node name x) (map copy_of gs) child h.0 h.2 enough
-            (all_second HasFlow (all_flows p tys k n env args parts) (entered_flows p tys (label_of_node name x) callee (map copy_of gs) child) flow)
+            (all_second HasFlow (all_flows p tys k n env args parts) (entered_flows p tys (label_of_node name x) (node_of (callee_of p name)) (map copy_of gs) child) flow)
         root_typed (group args) at (notes.group parts) h known arity flow = all_typed args parts h known arity flow
         root_typed (const v) at notes.name h known arity flow = absurd h
         root_typed (const v) at (notes.import parts x outs) h known arity flow = absurd h

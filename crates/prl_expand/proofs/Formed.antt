@@ -18,7 +18,7 @@ use Rattle.prl_flow.specs.declared.programs.App.{App}
 use Rattle.prl_flow.specs.declared.programs.Def.{Def}
 use Rattle.prl_flow.specs.declared.programs.Def.TheVariants as definitions
 use Rattle.prl_flow.specs.declared.programs.Flow.{Flow}
-use Rattle.prl_flow.specs.Programs.{FlatProgram, HasType, IsWellDefined, IsNoted, IsApplication, IsInput, IsFlat, AreDevices, IsFactor}
+use Rattle.prl_flow.specs.Programs.{FlatProgram, IsWellDefined, IsNoted, IsApplication, IsInput, IsFlat, IsFactor}
 use Rattle.prl_flow.specs.Programs as flats
 use Rattle.prl_flow.specs.Rules.{Rule}
 use Rattle.prl_flow.proofs.Lists.{element_at, slice_get_append_left}
@@ -227,9 +227,7 @@ module _ (p : ProgramTree) (asked : Option (List ℕ)) (main : ℕ) (tys : List 
           λ k d found_d. at_place IsDevice (ins_of ++ outs_of) k d
               (all_both IsDevice ins_of outs_of (devices_range p.sensors n.ins devices.sensors range.sensors node_range.ins) (devices_range p.actuators n.outs devices.actuators range.actuators node_range.outs)) found_d,
           λ j k c d at_c at_d same_name.
-              let first = device_there n ins_count j c at_c in
-              let second = device_there n ins_count k d at_d in
-              (right.nodes main n found).params_apart j k c.0 first (second ∙ ap Some (sym same_name)),
+              (right.nodes main n found).params_apart j k c.0 (device_there n ins_count j c at_c) ((device_there n ins_count k d at_d) ∙ ap Some (sym same_name)),
         );
         flows = λ i f found_f. (flow_sound flat fs counted all.0 i f found_f).0;
         notes = λ i f found_f. (flow_sound flat fs counted all.0 i f found_f).1;

@@ -1,6 +1,6 @@
+use Rattle.std.specs.Prelude.{if◌then◌else◌}
 -- Lists of which each element has a property, and lists that are put together.
 use Rattle.std.proofs.Common.{◌≡◌, ◌==◌, ℕ, Bool, true, false, List, [], ◌∷◌, ◌++◌, length, refl, arith}
-use Rattle.std.specs.Prelude.{if◌then◌else◌}
 pub use Rattle.prl_behaviours.proofs.Lists.{some_inner, head_same, tail_same, all_both, all_first, all_second, to_mapped, of_mapped, at_place}
 use Rattle.std.proofs.lemmas.Bool.{eqb-true}
 use Rattle.std.proofs.lemmas.List.{length-append}
@@ -23,7 +23,3 @@ equal_unless a b at e = eqb-true a b (unless_true (a == b) at e)
 
 pub lengths_append : {A B : Type 0} (xs ys : List A) (us vs : List B) → length xs ≡ length us → length ys ≡ length vs → length (xs ++ ys) ≡ length (us ++ vs)
 lengths_append xs ys us vs a b = omega (arith, a, b, length-append xs ys, length-append us vs)
-
-pub empty_list : {A : Type 0} (xs : List A) → length xs ≡ 0 → xs ≡ []
-empty_list [] e = refl
-empty_list (x ∷ xs) e = absurd (omega (arith, e))

@@ -94,9 +94,8 @@ module _ (p : ProgramTree) (tys : Types) (sound : IsSound p) where
     root_numbered k n env found count (const v) at (notes.constant i) h known arity = refl
     root_numbered k n env found count (var name) at notes.name h known arity = refl
     root_numbered k n env found count (apply name place args) at (notes.import parts x outs) h known arity =
-        let argued = argued_right p k name place args arity in
         two_numbered (all_flows p tys k n env args parts) (output_flows x 0 place (ports_of (import_at p (callee_of p name))) outs) (notes.parts_flows parts) outs
-        (all_numbered k n env found count args parts h.1 known.1 argued.inner)
+        (all_numbered k n env found count args parts h.1 known.1 (argued_right p k name place args arity).inner)
         (outputs_numbered x 0 place (ports_of (import_at p (callee_of p name))) outs (import_ports p (callee_of p name) (length outs) h.0))
     root_numbered k n env found count (apply name place args) at (notes.node parts x child) h known arity =
         let callee = node_of (callee_of p name) in

@@ -1,18 +1,18 @@
 -- Lists of expressions and of equations of which some are made.
 use Rattle.std.proofs.Common.{◌≡◌, ◌+◌, ℕ, List, [], ◌∷◌, ◌++◌, map, length, refl, sym, ap, ◌∙◌, subst, arith, append_assoc}
-use Rattle.std.proofs.lemmas.List.{append-nil, map-append, length-append}
+use Rattle.std.proofs.lemmas.List.{map-append, length-append}
 use Rattle.prl_base.specs.declared.values.Ty.{Ty}
-use Rattle.prl_ast.specs.Trees.{Tree, tree, Trees, none, more, EquationTree, NodeTree, ProgramTree}
+use Rattle.prl_ast.specs.Trees.{Tree, tree, Trees, more, EquationTree, NodeTree, ProgramTree}
 use Rattle.prl_flow.specs.declared.programs.App.{App}
 use Rattle.prl_flow.specs.declared.programs.Arg.{Arg}
 use Rattle.prl_flow.specs.declared.programs.Flow.{Flow}
 use Rattle.prl_types.specs.Flows as types
-use Rattle.prl_behaviours.specs.Annotations.{Entered, entered, Rights, done, next, Part, part, Core, Parts}
+use Rattle.prl_behaviours.specs.Annotations.{Rights, next, Part, Parts}
 use Rattle.prl_behaviours.specs.Annotations as notes
 use Rattle.prl_behaviours.specs.Asked.{given}
 use Rattle.prl_behaviours.specs.Texts.{node_at}
 use Rattle.prl_expand.specs.Flats as flats
-use Rattle.prl_expand.specs.Flats.{Numbered, Types, arguments, copy_of, equated, flow_no, import_at, ports_of, operator_flows, output_flows, paired, placed, resolved}
+use Rattle.prl_expand.specs.Flats.{Numbered, Types, arguments, equated, flow_no, paired, placed, resolved}
 use Rattle.prl_expand.specs.declared.counts.ExpandFault.{ExpandFault}
 use Rattle.prl_expand.specs.declared.counts.Next.{Next}
 use Rattle.prl_expand.specs.declared.nodes.Made.{Made}
@@ -29,22 +29,12 @@ use Rattle.prl_expand.specs.code.Variables.{pairs_of}
 abbrev next_of : ℕ → ℕ → ℕ → Next
 next_of f a n = record { flow = f; app = a; node = n }
 
-past_none : (s : Next) → record { flow = s.flow + 0; app = s.app + 0; node = s.node + 0 } ≡ s
-past_none s =
-    let f : s.flow + 0 ≡ s.flow = omega arith in
-    let a : s.app + 0 ≡ s.app = omega arith in
-    let n : s.node + 0 ≡ s.node = omega arith in
-    ap (λ x. next_of x (s.app + 0) (s.node + 0)) f ∙ ap (λ x. next_of s.flow x (s.node + 0)) a ∙ ap (λ x. next_of s.flow s.app x) n
-
 -- numbers past two lists, one after the other
 pub past_both : (s : Next) (fs gs rs us ns ms : List ℕ) → past (past s fs rs ns) gs us ms ≡ past s (fs ++ gs) (rs ++ us) (ns ++ ms)
 past_both s fs gs rs us ns ms =
-    let f = length-append fs gs in
-    let r = length-append rs us in
-    let n = length-append ns ms in
-    let a : (s.flow + length fs) + length gs ≡ s.flow + length (fs ++ gs) = omega (arith, f) in
-    let b : (s.app + length rs) + length us ≡ s.app + length (rs ++ us) = omega (arith, r) in
-    let c : (s.node + length ns) + length ms ≡ s.node + length (ns ++ ms) = omega (arith, n) in
+    let a : (s.flow + length fs) + length gs ≡ s.flow + length (fs ++ gs) = omega (arith, length-append fs gs) in
+    let b : (s.app + length rs) + length us ≡ s.app + length (rs ++ us) = omega (arith, length-append rs us) in
+    let c : (s.node + length ns) + length ms ≡ s.node + length (ns ++ ms) = omega (arith, length-append ns ms) in
     ap (λ x. next_of x ((s.app + length rs) + length us) ((s.node + length ns) + length ms)) a
     ∙ ap (λ x. next_of (s.flow + length (fs ++ gs)) x ((s.node + length ns) + length ms)) b
     ∙ ap (λ x. next_of (s.flow + length (fs ++ gs)) (s.app + length (rs ++ us)) x) c
@@ -76,16 +66,6 @@ module _ (p : ProgramTree) (tys : Types) (levels k : ℕ) (env : List ℕ) where
     pub numbers : past_parts m.next (all_parts p levels ts m.next) ≡ past_parts m₀.next (all_parts p levels all m₀.next)
     pub few : IsFew m.next
 
-  pub parts_begun : (list : List given_term.Term) (m : Made) (ts : Trees) → list ≡ [] → IsFew m.next → PartsLeft list m m ts ts
-  parts_begun list m ts e few = record {
-    args = ap (λ xs. map arg_of xs ++ arguments node env ts (all_parts p levels ts m.next)) e;
-    types_are = ap (λ xs. types_of xs ++ all_resolved tys (types.all_flows p k ts)) e;
-    flows = refl;
-    apps = refl;
-    numbers = refl;
-    few = few;
-  }
-
   pub parts_step : (list terms list' : List given_term.Term) (m m' m₀ : Made) (t : Tree) (ts rest all : Trees) → PartsLeft list m m₀ rest all → rest ≡ more t ts → list' ≡ list ++ terms
       → map arg_of terms ≡ placed t (given node env t (a_part p levels t m.next)) → types_of terms ≡ all_resolved tys (types_given p k t)
       → Adds m m' (flats.part_flows p tys k node env t (a_part p levels t m.next)) (flats.part_apps p node env t (a_part p levels t m.next)) (past_part m.next (a_part p levels t m.next))
@@ -116,32 +96,14 @@ module _ (p : ProgramTree) (tys : Types) (levels k : ℕ) (env : List ℕ) where
         few = adds.few;
       }
 
-  pub parts_made : (list : List given_term.Term) (m m₀ : Made) (ts all : Trees) → ts ≡ none → PartsLeft list m m₀ ts all
-      → Adds m₀ m (flows_left all m₀.next) (apps_left all m₀.next) (past_parts m₀.next (all_parts p levels all m₀.next))
-  parts_made list m m₀ ts all is before =
-      let left = subst (λ r. PartsLeft list m m₀ r all) is before in
-      record {
-        flows_are = sym (append-nil m.flows.items) ∙ left.flows;
-        apps_are = sym (append-nil m.apps.items) ∙ left.apps;
-        next_is = sym (past_none m.next) ∙ left.numbers;
-        few = left.few;
-      }
-
-  pub parts_args : (list : List given_term.Term) (m m₀ : Made) (ts all : Trees) → ts ≡ none → PartsLeft list m m₀ ts all → map arg_of list ≡ arguments node env all (all_parts p levels all m₀.next)
-  parts_args list m m₀ ts all is before = let left = subst (λ r. PartsLeft list m m₀ r all) is before in sym (append-nil (map arg_of list)) ∙ left.args
-
-  pub parts_types : (list : List given_term.Term) (m m₀ : Made) (ts all : Trees) → ts ≡ none → PartsLeft list m m₀ ts all → types_of list ≡ all_resolved tys (types.all_flows p k all)
-  parts_types list m m₀ ts all is before = let left = subst (λ r. PartsLeft list m m₀ r all) is before in sym (append-nil (types_of list)) ∙ left.types_are
-
   pub parts_past : (list : List given_term.Term) (m m₀ : Made) (t : Tree) (ts rest all : Trees) (e : ExpandFault) → PartsLeft list m m₀ rest all → rest ≡ more t ts
       → IsPast (m.next.flow + length (notes.part_flows (a_part p levels t m.next))) e → IsPast (m₀.next.flow + length (notes.parts_flows (all_parts p levels all m₀.next))) e
   parts_past list m m₀ t ts rest all e before is h =
       let left = subst (λ r. PartsLeft list m m₀ r all) is before in
       let q : Part ℕ ℕ ℕ = a_part p levels t m.next in
       let tail : Parts ℕ ℕ ℕ = all_parts p levels ts (past_part m.next q) in
-      let sum = length-append (notes.part_flows q) (notes.parts_flows tail) in
       let number : m.next.flow + length (notes.part_flows q ++ notes.parts_flows tail) ≡ m₀.next.flow + length (notes.parts_flows (all_parts p levels all m₀.next)) = ap (λ (x : Next). x.flow) left.numbers in
-      past_more _ _ e (omega (arith, sum, number)) h
+      past_more _ _ e (omega (arith, length-append (notes.part_flows q) (notes.parts_flows tail), number)) h
 
   abbrev right_flows_left : List EquationTree → Next → List Numbered
   right_flows_left es s = flats.right_flows p tys k node env es (the_rights p levels es s)
@@ -156,15 +118,6 @@ module _ (p : ProgramTree) (tys : Types) (levels k : ℕ) (env : List ℕ) where
     pub apps : m.apps.items ++ right_apps_left es m.next ≡ m₀.apps.items ++ right_apps_left all m₀.next
     pub numbers : past_rights m.next (the_rights p levels es m.next) ≡ past_rights m₀.next (the_rights p levels all m₀.next)
     pub few : IsFew m.next
-
-  pub rights_begun : (pairs : List Pair) (m : Made) (es : List EquationTree) → pairs ≡ [] → IsFew m.next → RightsLeft pairs m m es es
-  rights_begun pairs m es e few = record {
-    names = ap (λ xs. pairs_of xs ++ equated node env es (the_rights p levels es m.next)) e;
-    flows = refl;
-    apps = refl;
-    numbers = refl;
-    few = few;
-  }
 
   placed_numbers : (t : Tree) (terms : List given_term.Term) (is : List ℕ) → map arg_of terms ≡ placed t is → map flow_of terms ≡ is
   placed_numbers (tree pre root post at) terms is e = flows_of_args terms ∙ ap (map (λ (a : Arg). a.flow.0)) e ∙ args_back is
@@ -202,27 +155,3 @@ module _ (p : ProgramTree) (tys : Types) (levels k : ℕ) (env : List ℕ) where
             ∙ left.numbers;
         few = adds.few;
       }
-
-  pub rights_made : (pairs : List Pair) (m m₀ : Made) (es all : List EquationTree) → es ≡ [] → RightsLeft pairs m m₀ es all
-      → Adds m₀ m (right_flows_left all m₀.next) (right_apps_left all m₀.next) (past_rights m₀.next (the_rights p levels all m₀.next))
-  rights_made pairs m m₀ es all is before =
-      let left = subst (λ r. RightsLeft pairs m m₀ r all) is before in
-      record {
-        flows_are = sym (append-nil m.flows.items) ∙ left.flows;
-        apps_are = sym (append-nil m.apps.items) ∙ left.apps;
-        next_is = sym (past_none m.next) ∙ left.numbers;
-        few = left.few;
-      }
-
-  pub rights_pairs : (pairs : List Pair) (m m₀ : Made) (es all : List EquationTree) → es ≡ [] → RightsLeft pairs m m₀ es all → pairs_of pairs ≡ equated node env all (the_rights p levels all m₀.next)
-  rights_pairs pairs m m₀ es all is before = let left = subst (λ r. RightsLeft pairs m m₀ r all) is before in sym (append-nil (pairs_of pairs)) ∙ left.names
-
-  pub rights_past : (pairs : List Pair) (m m₀ : Made) (e : EquationTree) (es rest all : List EquationTree) (x : ExpandFault) → RightsLeft pairs m m₀ rest all → rest ≡ e ∷ es
-      → IsPast (m.next.flow + length (notes.part_flows (a_part p levels e.right m.next))) x → IsPast (m₀.next.flow + length (notes.right_flows (the_rights p levels all m₀.next))) x
-  rights_past pairs m m₀ e es rest all x before is h =
-      let left = subst (λ r. RightsLeft pairs m m₀ r all) is before in
-      let q : Part ℕ ℕ ℕ = a_part p levels e.right m.next in
-      let tail : Rights ℕ ℕ ℕ = the_rights p levels es (past_part m.next q) in
-      let sum = length-append (notes.part_flows q) (notes.right_flows tail) in
-      let number : m.next.flow + length (notes.part_flows q ++ notes.right_flows tail) ≡ m₀.next.flow + length (notes.right_flows (the_rights p levels all m₀.next)) = ap (λ (y : Next). y.flow) left.numbers in
-      past_more _ _ x (omega (arith, sum, number)) h

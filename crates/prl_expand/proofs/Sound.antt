@@ -24,7 +24,7 @@ use Rattle.prl_terms.specs.declared.terms.Term.{Term}
 use Rattle.prl_terms.specs.declared.terms.Term.TheVariants as terms
 use Rattle.prl_types.specs.Flows.{operated, flows_of, root_flows, all_flows, outputs_of, inputs_of, import_outputs, node_inputs, node_outputs, parameters_from}
 use Rattle.prl_types.specs.Parameters.{first_of}
-use Rattle.prl_behaviours.specs.Annotations.{Entered, entered, Rights, done, next, Part, part, Core, Parts}
+use Rattle.prl_behaviours.specs.Annotations.{Entered, entered, Part, part, Core, Parts}
 use Rattle.prl_behaviours.specs.Annotations as notes
 use Rattle.prl_behaviours.specs.Asked as asked
 use Rattle.prl_behaviours.specs.Asked.{one, at_index, at_variable, last_of, first_of as first_flow, given, root_given, all_given}
@@ -70,8 +70,7 @@ variables_count n ins outs locals h =
 
 pub one_length : {F : Type 0} (env : List F) (j : ℕ) → j < length env → length (one (slice_get env j)) ≡ 1
 one_length {F = F} env j within =
-    let x = element_at env j within in
-    ap (λ (o : Option F). length (one o)) x.1
+    ap (λ (o : Option F). length (one o)) (element_at env j within).1
 
 pub index_within : (names : List (List ℕ)) (name : List ℕ) (j : ℕ) → index_of names name ≡ Some j → j < length names
 index_within names name j e = slice_get_within names j name (index_found names name j e)

@@ -153,8 +153,7 @@ source_is (x ∷ xs) (suc t) s apart e =
       | true ↦ λ f.
           (let name : x.0 ≡ s.0 = (bytes_decides x.0 s.0).0 f in
           let there : slice_get (names_of xs) t ≡ Some s.0 = slice_get-map (λ (y : Source). y.0) xs t ∙ ap (option_map (λ (y : Source). y.0)) e in
-          let clash : 0 ≡ suc t = apart 0 (suc t) s.0 (ap Some name) there in
-          absurd (omega (arith, clash)))
+          absurd (omega (arith, apart 0 (suc t) s.0 (ap Some name) there)))
       | false ↦ λ f. source_is xs t s (λ i j m a b. let up : suc i ≡ suc j = apart (suc i) (suc j) m a b in omega (arith, up)) e
     ] refl
 
@@ -195,7 +194,6 @@ module _ (P : Rule ℕ ℕ → Type 0) (n : NodeTree) (env : List ℕ) where
   copies_from ss apart h qs [] base params numbers among = tt
   copies_from ss apart h [] (i ∷ is) base params numbers among = tt
   copies_from ss apart h (q ∷ qs) (i ∷ is) base params numbers among =
-      let zero_is : base + 0 ≡ base = omega arith in
       let var : at_variable n env q.name ≡ i ∷ [] = variable_is n env (base + 0) i q apart (params 0 q refl) (numbers 0 i refl) in
       let place = place_of (names_of ss) q.name among.0 in
       let s = mapped_from (λ (y : Source). y.0) ss place.0 q.name place.1 in
@@ -297,8 +295,7 @@ module _ (P : Rule ℕ ℕ → Type 0) (p : ProgramTree) (k : ℕ) (n : NodeTree
   sources_apart = λ i j name a b.
       let first = left_place i name (ap (λ (ns : List (List ℕ)). slice_get ns i) (sym names_are) ∙ a) in
       let second = left_place j name (ap (λ (ns : List (List ℕ)). slice_get ns j) (sym names_are) ∙ b) in
-      let same_place = all_apart (length n.ins + i) (length n.ins + j) name first second in
-      omega (arith, same_place)
+      omega (arith, all_apart (length n.ins + i) (length n.ins + j) name first second)
 
   -- a left name is no input
   no_input : (t j : ℕ) (name : List ℕ) → slice_get (left_names n) t ≡ Some name → (q : Param) → slice_get n.ins j ≡ Some q → q.name ≡ name → ⊥
@@ -309,8 +306,7 @@ module _ (P : Rule ℕ ℕ → Type 0) (p : ProgramTree) (k : ℕ) (n : NodeTree
       let small : j < length n.ins = slice_get_within n.ins j q found in
       let at : slice_get (placed_names (map placed_param n.ins) ++ left_names n) j ≡ Some name =
       slice_get_append_left (placed_names (map placed_param n.ins)) (left_names n) j (omega (arith, small, inputs_count)) ∙ named ∙ ap Some is in
-      let clash = all_apart j (length n.ins + t) name at (left_place t name e) in
-      omega (arith, clash, small)
+      omega (arith, all_apart j (length n.ins + t) name at (left_place t name e), small)
 
   pub lefts_from : AllByRecursion P (left_rules n env n.eqs rights) → AllByRecursion P (definitions_rules rest (copies sources others))
   lefts_from h =
@@ -339,8 +335,7 @@ module _ (P : Rule ℕ ℕ → Type 0) (p : ProgramTree) (k : ℕ) (n : NodeTree
           (λ large.
           let at : length n.ins + (j - length n.ins) ≡ j = omega (arith, large) in
           let found : slice_get others (j - length n.ins) ≡ Some q.0 = sym (get_second n.ins others (j - length n.ins)) ∙ ap (slice_get (n.ins ++ others)) at ∙ both in
-          let small : j - length n.ins < length others = slice_get_within others (j - length n.ins) q.0 found in
-          let i = element_at rest (j - length n.ins) (omega (arith, small, rest_count)) in
+          let i = element_at rest (j - length n.ins) (omega (arith, slice_get_within others (j - length n.ins) q.0 found, rest_count)) in
           let number : slice_get env j ≡ Some i.0 =
           ap (λ (is : List ℕ). slice_get is j) is_env ∙ ap (slice_get (ins ++ rest)) (sym (ap (λ m. m + (j - length n.ins)) ins_count ∙ at)) ∙ get_second ins rest (j - length n.ins) ∙ i.1 in
           let var : at_variable n env s.0 ≡ i.0 ∷ [] = ap (at_index env) is ∙ ap one number in

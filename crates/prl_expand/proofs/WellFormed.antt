@@ -113,8 +113,7 @@ module _ (p : ProgramTree) (tys : Types) (flat : FlatProgram) where
   import_range imports (Some (callees.Node k)) count h = absurd h
   import_range imports (Some (callees.Import k)) count h =
       let range = at_place ranges.IsImportInRange p.imports k h.0 imports h.1 in
-      let some = range.some in
-      (subst (λ (o : Option Import). ranges.IsCount (wcet_of o)) (sym h.1) range.wcet, omega (arith, h.2, some))
+      (subst (λ (o : Option Import). ranges.IsCount (wcet_of o)) (sym h.1) range.wcet, omega (arith, h.2, range.some))
 
   call_typed : (o : Option Callee) (gs : List ℕ) → IsNodeCall o → AreTyped p tys flat gs (flows.inputs_of p o) → (j g : ℕ) → slice_get gs j ≡ Some g → HasType flat (type_at tys (first_of p (node_of o) + j)) (flow_no g)
   call_typed None gs call typed j g e = absurd call
@@ -263,7 +262,6 @@ module _ (p : ProgramTree) (tys : Types) (flat : FlatProgram) where
           let a : List Numbered = all_flows p tys k n env args parts in
           let b : List Numbered = entered_flows p tys label callee (map copy_of gs) child in
           let arg_flow = all_first (HasFlow p tys flat) a b flow in
-          let child_flow = all_second (HasFlow p tys flat) a b flow in
           let number = (all_tells (λ (r : Rule ℕ ℕ). Unit {0}) p tys sound k n env found count args parts h.1 known.1 argued.inner).count in
           let arg_apps = have_first p tys flat (parts_imports parts) (imports_in child) (all_apps p n env args parts) (entered_apps p callee child) number apps in
           let child_apps = have_second p tys flat (parts_imports parts) (imports_in child) (all_apps p n env args parts) (entered_apps p callee child) number apps in
@@ -277,7 +275,7 @@ module _ (p : ProgramTree) (tys : Types) (flat : FlatProgram) where
           (λ j i s e f.
           let g = mapped_from copy_of gs j s f in
           subst (λ (def : Def). IsWellDefined flat i (type_at tys (first_of p callee + j)) def) g.2 (call_typed o gs h.0 inputs j g.0 g.1))
-          child_flow child_apps)
+          (all_second (HasFlow p tys flat) a b flow) child_apps)
       root_sound k n env found count typed d (group (more t ts)) at (notes.group parts) h known arity range met flow apps =
           all_sound k n env found count typed (d + 1) (more t ts) parts h known arity (range.1, range.2) met flow apps
       root_sound k n env found count typed d (group none) at (notes.group parts) h known arity range met flow apps = absurd range

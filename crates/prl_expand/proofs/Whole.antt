@@ -1,9 +1,10 @@
 -- The flat program of the whole.
-use Rattle.std.proofs.Common.{◌≡◌, ◌<◌, ◌+◌, ◌++◌, ◌∷◌, [], ℕ, zero, suc, List, map, length, sym, ap, ◌∙◌, arith}
+use Rattle.std.proofs.Common.{◌≡◌, ◌<◌, ◌+◌, ◌++◌, ◌∷◌, [], ℕ, zero, suc, List, Some, map, length, slice_get, sym, ap, ◌∙◌, arith}
 use Rattle.std.specs.List.{range_with_len}
 use Rattle.prl_base.specs.declared.numbers.FlowNo.{FlowNo}
 use Rattle.prl_base.specs.declared.values.Ty.{Ty}
-use Rattle.prl_ast.specs.Trees.{NodeTree, ProgramTree}
+use Rattle.prl_ast.specs.declared.declarations.Program.{Program}
+use Rattle.prl_ast.specs.Trees.{NodeTree, ProgramTree, program_tree}
 use Rattle.prl_flow.specs.declared.programs.App.{App}
 use Rattle.prl_flow.specs.declared.programs.Flow.{Flow}
 use Rattle.prl_flow.specs.Programs.{FlatProgram}
@@ -13,7 +14,7 @@ use Rattle.prl_names.proofs.Right.{named}
 use Rattle.prl_types.specs.Typing.{IsRight}
 use Rattle.prl_behaviours.specs.Annotations.{flows_in}
 use Rattle.prl_behaviours.specs.Asked.{outputs_of}
-use Rattle.prl_behaviours.specs.Texts.{node_at}
+use Rattle.prl_behaviours.specs.Texts.{node_at, node_or}
 use Rattle.prl_expand.specs.Expansions.{Expansion, IsExpansion}
 use Rattle.prl_expand.specs.Flats.{devices_of, entered_apps, entered_flows, flat_of, flow_no, sensors_from}
 use Rattle.prl_flow.specs.declared.programs.Def.TheVariants as definitions
@@ -28,7 +29,7 @@ use Rattle.prl_expand.proofs.Within.{all_levels}
 use Rattle.prl_ast.specs.InRange.{IsInRange}
 use Rattle.prl_names.specs.Applications.{applies}
 use Rattle.prl_expand.proofs.Adding.{past_more}
-use Rattle.prl_expand.proofs.Entering.{variables_past}
+use Rattle.prl_expand.proofs.Entering.{node_found, variables_past}
 use Rattle.prl_expand.proofs.Expanded.{first, is_expansion, past_is}
 
 pub sensors_suc : (a f n : ℕ) → sensors_from a (range_with_len f (suc n)) ≡ sensors_from a (range_with_len f n) ++ definitions.Sensor (a + n) ∷ []
@@ -43,8 +44,18 @@ sensors_more n =
     let here : 0 + n ≡ n = omega arith in
     ap (λ k. sensors_from 0 (range_with_len 0 k)) next ∙ sensors_suc 0 0 n ∙ ap (λ k. sensors_from 0 (range_with_len 0 n) ++ definitions.Sensor k ∷ []) here
 
-abbrev a_flat : List Flow → List App → List FlowNo → List FlowNo → List flat_programs.Device → List flat_programs.Device → FlatProgram
+abbrev pub a_flat : List Flow → List App → List FlowNo → List FlowNo → List flat_programs.Device → List flat_programs.Device → FlatProgram
 a_flat flows apps ins outs in_devices out_devices = record { flows = flows; apps = apps; ins = ins; outs = outs; in_devices = in_devices; out_devices = out_devices }
+
+-- main's node and its expansion, by equal programs and numbers
+pub main_node : (checked typed : Program) (k main : ℕ) (d : NodeTree) → checked ≡ typed → k ≡ main → slice_get (program_tree checked).nodes k ≡ Some d → node_at (program_tree typed) main ≡ d
+main_node checked typed k main d same is at = ap (node_at (program_tree typed)) (sym is) ∙ ap node_or (node_found typed checked k d same at)
+
+pub main_whole : (checked typed : Program) (k main levels : ℕ) → checked ≡ typed → k ≡ main → levels ≡ length (program_tree typed).nodes →
+    a_node (program_tree checked) levels k first ≡ a_node (program_tree typed) (length (program_tree typed).nodes) main first
+main_whole checked typed k main levels same is many =
+    ap (λ pr. a_node (program_tree pr) levels k first) same ∙ ap (λ n. a_node (program_tree typed) n k first) many
+    ∙ ap (λ j. a_node (program_tree typed) (length (program_tree typed).nodes) j first) is
 
 module _ (p : ProgramTree) (main : ℕ) (tys : List Ty) (right : IsRight p main tys) where
   abbrev pub whole : Expansion

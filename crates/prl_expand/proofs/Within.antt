@@ -5,9 +5,8 @@ use Rattle.prl_base.specs.declared.places.Span.{Span}
 use Rattle.prl_ast.specs.declared.declarations.Equation.{Equation}
 use Rattle.prl_ast.specs.declared.declarations.Import.{Import}
 use Rattle.prl_ast.specs.declared.expressions.Expr.{Expr}
-use Rattle.prl_ast.specs.declared.expressions.PlacedOp.{PlacedOp}
 use Rattle.prl_ast.specs.InRange.{IsImportInRange, IsNodeInRange}
-use Rattle.prl_ast.specs.Trees.{Tree, tree, tree_of, Root, apply, group, Trees, none, more, equation_tree, NodeTree, ProgramTree}
+use Rattle.prl_ast.specs.Trees.{Tree, tree_of, apply, group, Trees, none, more, equation_tree, NodeTree, ProgramTree}
 use Rattle.std.proofs.lemmas.Option.{slice_get_within}
 use Rattle.prl_names.specs.Applications.{is_node, applied_in, applied_trees, applied_equations, applied_by, applies, reaches}
 use Rattle.prl_names.specs.declared.lookups.Callee.TheVariants as callees
@@ -39,22 +38,17 @@ passing_few f (suc m) = omega (arith, passing_few f m, one_few (f m))
 -- as many levels as there are nodes
 pub all_levels : (p : ProgramTree) (main k : ℕ) → IsNamed p main → MayApply p (length p.nodes) (λ j. applies p k j)
 all_levels p main k named =
-    let few : rank p k ≤ length p.nodes = passing_few (reaches p k) (length p.nodes) in
-    λ j applied below. ranked p main named (length p.nodes) j (omega (arith, rank_falls p named.acyclic k j applied below, few))
+    λ j applied below. ranked p main named (length p.nodes) j (omega (arith, rank_falls p named.acyclic k j applied below, passing_few (reaches p k) (length p.nodes)))
 
 module _ (p : ProgramTree) (levels k depth : ℕ) where
-  pub root_fits : (pre post : List PlacedOp) (root : Root) (at : Span) → TreeFits p levels k depth (tree pre root post at) → RootFits p levels k depth root
-  root_fits pre post root at h = record { known = h.known; reach = h.reach; opened = h.opened; few = h.few; depth_is = h.depth_is; range = h.range.1 }
-
   pub args_fit : (name : List ℕ) (at : Span) (args : Trees) → RootFits p levels k depth (apply name at args) → TreesFit p levels k depth args
   args_fit name at args h =
-      let sum = h.depth_is in
       record {
         known = h.known.1;
         reach = λ j applied below. h.reach j (or_true (is_node j (callee_of p name)) (applied_trees p j args) applied) below;
         opened = h.opened + 1;
         few = h.range.1;
-        depth_is = omega (arith, sum);
+        depth_is = omega (arith, h.depth_is);
         range = h.range.2;
       }
 
@@ -67,22 +61,19 @@ module _ (p : ProgramTree) (levels k depth : ℕ) where
   pub parts_fit : (parts : Trees) → RootFits p levels k depth (group parts) → TreesFit p levels k depth parts
   parts_fit none h = absurd h.range
   parts_fit (more t ts) h =
-      let sum = h.depth_is in
-      record { known = h.known; reach = h.reach; opened = h.opened + 1; few = h.range.0; depth_is = omega (arith, sum); range = (h.range.1, h.range.2) }
+      record { known = h.known; reach = h.reach; opened = h.opened + 1; few = h.range.0; depth_is = omega (arith, h.depth_is); range = (h.range.1, h.range.2) }
 
   pub deep : (ts : Trees) → TreesFit p levels k depth ts → 0 < depth
   deep ts h = omega (arith, h.depth_is, h.few)
 
   first_fits : (t : Tree) (ts : Trees) → TreesFit p levels k depth (more t ts) → TreeFits p levels k (depth - 1) t
   first_fits t ts h =
-      let sum = h.depth_is in
-      let few = h.few in
       record {
         known = h.known.0;
         reach = λ j applied below. h.reach j (true_or (applied_in p j t) (applied_trees p j ts) applied) below;
         opened = h.opened;
         few = h.few;
-        depth_is = omega (arith, sum, few);
+        depth_is = omega (arith, h.depth_is, h.few);
         range = h.range.0;
       }
 
@@ -171,27 +162,20 @@ ports_some p k i sound found = (all_at IsImportInRange p.imports k i found sound
 
 pub node_few : (s t : Next) → t ≡ record { flow = s.flow; app = s.app; node = s.node + 1 } → IsFew s → IsFewBefore t
 node_few s t e h =
-    let nodes = h.nodes in
-    subst IsFewBefore (sym e) (record { flows = h.flows; apps = h.apps; nodes = omega (arith, nodes) })
+    subst IsFewBefore (sym e) (record { flows = h.flows; apps = h.apps; nodes = omega (arith, h.nodes) })
 
 -- a node has an output
 pub variables_few : (s t : Next) (d : NodeTree) → t ≡ record { flow = ((s.flow + length d.ins) + length d.outs) + length d.locals; app = s.app; node = s.node }
     → ((s.flow + length d.ins) + length d.outs) + length d.locals ≤ 4096 → 1 ≤ length d.outs → IsFewBefore s → IsFew t
 variables_few s t d e below some h =
-    let apps = h.apps in
-    let nodes = h.nodes in
-    subst IsFew (sym e) (record { flows = below; apps = omega (arith, apps, some); nodes = omega (arith, nodes, some) })
+    subst IsFew (sym e) (record { flows = below; apps = omega (arith, h.apps, some); nodes = omega (arith, h.nodes, some) })
 
 -- as many more flows and one more application, of which the flows are outputs
 pub import_few : (s : Next) (n : ℕ) → s.flow + n ≤ 4096 → 1 ≤ n → IsFew s → IsFew (record { flow = s.flow + n; app = s.app + 1; node = s.node })
 import_few s n below some h =
-    let apps = h.apps in
-    let nodes = h.nodes in
-    record { flows = below; apps = omega (arith, apps, some); nodes = omega (arith, nodes) }
+    record { flows = below; apps = omega (arith, h.apps, some); nodes = omega (arith, h.nodes) }
 
 -- more flows
 pub more_few : (s : Next) (n m : ℕ) → (s.flow + n) + m ≤ 4096 → IsFew s → IsFew (record { flow = (s.flow + n) + m; app = s.app; node = s.node })
 more_few s n m below h =
-    let apps = h.apps in
-    let nodes = h.nodes in
-    record { flows = below; apps = omega (arith, apps); nodes = omega (arith, nodes) }
+    record { flows = below; apps = omega (arith, h.apps); nodes = omega (arith, h.nodes) }

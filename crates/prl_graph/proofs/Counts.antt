@@ -45,7 +45,6 @@ pub jobs_more : (hyper : ℕ) (tasks : List Task) (k : ℕ) (task : Task) → sl
 jobs_more hyper tasks k task found =
     let f : Task → ℕ = λ (t : Task). hyper / t.clock.period in
     let at = take_one tasks k task found in
-    let none : sum_by f [] ≡ 0 = refl in
     let one : sum_by f (task ∷ []) ≡ f task = (let e = sum_by-cons f task [] in let z : f task + sum_by f [] ≡ f task = omega arith in e ∙ z) in
     ap (λ l. sum (map f l)) at.0 ∙ sum-map f (take k tasks ++ task ∷ []) ∙ sum_by-append f (take k tasks) (task ∷ []) ∙ ap (λ n. sum_by f (take k tasks) + n) one ∙ ap (λ n. n + f task) (sym (sum-map f (take k tasks)))
 
@@ -57,6 +56,5 @@ few_more jobs k hyper period few some = (let d : hyper / period ≤ hyper = grin
 
 pub jobs_fit : (jobs k hyper period : ℕ) → jobs ≤ k * hyper → k < 64 → hyper ≤ 10000000 → 1 ≤ period → jobs + hyper / period < 2 ^ 64
 jobs_fit jobs k hyper period few low within some =
-    let more = few_more jobs k hyper period few some in
     let most : (k + 1) * hyper ≤ 64 * hyper = mul-le-mul_right hyper (let e : k + 1 ≤ 64 = omega arith in e) in
     omega arith

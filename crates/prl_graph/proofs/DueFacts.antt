@@ -6,7 +6,7 @@ use Rattle.prl_base.specs.declared.numbers.FlowNo.{FlowNo}
 use Rattle.prl_base.specs.declared.operators.Clock.{Clock}
 use Rattle.prl_flow.specs.declared.programs.Def.TheVariants as definitions
 use Rattle.prl_flow.specs.declared.programs.Flow.{Flow}
-use Rattle.prl_flow.specs.Programs.{FlatProgram, IsFlat, IsWellDefined}
+use Rattle.prl_flow.specs.Programs.{FlatProgram}
 use Rattle.prl_graph.specs.Dues.{AllowsDue, AreDuesAllowed, AreDuesInRange, CopiesOutput, IsDueOnNonTask, IsDueOutOfRange, IsMainInput, IsMainOutput, IsWithinPeriod, NotesDue, input, output, copy}
 use Rattle.prl_graph.specs.code.Marks.{AreMarked, AreOutputMarks, IsBinding, IsLabelOf, IsMarked, IsMisplaced, IsPlaced, IsRanged, IsUnranged}
 use Rattle.prl_flow.specs.Solutions.{clock_of}
@@ -23,10 +23,9 @@ none_marked p n same = record {
 -- one output more
 pub one_marked : (p : FlatProgram) (n : ℕ) (marks : List Bool) (flow : FlowNo) → AreMarked p n marks → slice_get p.outs n ≡ Some flow → flow.0 < length p.flows → AreMarked p (n + 1) (set marks flow.0 true)
 one_marked p n marks flow are found below =
-    let count = are.count in
     let there : flow.0 < length marks = omega arith in
     record {
-      count = length-set marks flow.0 true ∙ count;
+      count = length-set marks flow.0 true ∙ are.count;
       only = λ i h. ⊎_elim
           (λ same. (let e : n < n + 1 = omega arith in (n, e, subst (λ m. slice_get p.outs n ≡ Some (record { 0 = m })) (sym same) found)))
           (λ old. (let was = are.only i old in let low = was.1 in let e : was.0 < n + 1 = omega arith in (was.0, e, was.2)))
@@ -46,16 +45,6 @@ marked_output p marks i are h = (let at = are.only i h in (at.0, at.2))
 pub output_marked : (p : FlatProgram) (marks : List Bool) (i : ℕ) → AreOutputMarks p marks → IsMainOutput p i → IsMarked marks i
 output_marked p marks i are out = are.all i (out.0, slice_get_within p.outs out.0 (record { 0 = i }) out.1, out.1)
 
--- a flow is main's input where it is a sensor's
-pub sensor_input : (p : FlatProgram) (i k : ℕ) (flow : Flow) → IsFlat p → slice_get p.flows i ≡ Some flow → flow.def ≡ definitions.Sensor k → IsMainInput p i
-sensor_input p i k flow flat found is = (k, subst (λ d. IsWellDefined p i flow.ty d) is (flat.flows i flow found))
-
-pub input_sensor : (p : FlatProgram) (i : ℕ) (flow : Flow) → IsFlat p → slice_get p.flows i ≡ Some flow → IsMainInput p i → (k : ℕ) × (flow.def ≡ definitions.Sensor k)
-input_sensor p i flow flat found at =
-    let is = flat.ins at.0 (record { 0 = i }) at.1 in
-    let same : is.0 ≡ flow = (let e : Some is.0 ≡ Some flow = sym is.1 ∙ found in cc) in
-    (at.0, subst (λ (f : Flow). f.def ≡ definitions.Sensor at.0) same is.2)
-
 -- where none of the three holds, no due may stand
 pub nowhere_allowed : (p : FlatProgram) (i : ℕ) → (IsMainInput p i → ⊥) → (IsMainOutput p i → ⊥) → ((k : ℕ) → CopiesOutput p i k → ⊥) → AllowsDue p i → ⊥
 nowhere_allowed p i no_input no_output no_copy (input h) = no_input h
@@ -69,7 +58,6 @@ one_copied p i k l a b =
     let of : a.of ≡ b.of = (let e : definitions.Copy a.of ≡ definitions.Copy b.of = sym a.copies ∙ ap (λ (f : Flow). f.def) flow ∙ b.copies in cc) in
     let there : slice_get p.flows b.of.0 ≡ Some a.output.0 = ap (λ (f : FlowNo). slice_get p.flows f.0) (sym of) ∙ a.output.1 in
     let same : a.output.0 ≡ b.output.0 = (let e : Some a.output.0 ≡ Some b.output.0 = sym there ∙ b.output.1 in cc) in
-    let def : definitions.Apply k a.out ≡ definitions.Apply l b.out = sym a.output.2 ∙ ap (λ (f : Flow). f.def) same ∙ b.output.2 in
     cc
 
 pub binding_is : (p : FlatProgram) (i k due : ℕ) (flow : Flow) → slice_get p.flows i ≡ Some flow → flow.due ≡ Some due → CopiesOutput p i k → (IsMainOutput p i → ⊥) → IsBinding p i k due
@@ -78,7 +66,6 @@ binding_is p i k due flow found noted copies local = record {
   only = λ l other b. (
     one_copied p i k l copies b.copies,
     (let same : b.notes.flow ≡ flow = (let e : Some b.notes.flow ≡ Some flow = sym b.notes.found ∙ found in cc) in
-        let e : Some other ≡ Some due = sym b.notes.noted ∙ ap (λ (f : Flow). f.due) same ∙ noted in
         cc),
   );
 }
@@ -87,7 +74,6 @@ binding_is p i k due flow found noted copies local = record {
 pub no_due : (p : FlatProgram) (i due : ℕ) (flow : Flow) → slice_get p.flows i ≡ Some flow → flow.due ≡ None → NotesDue p i due → ⊥
 no_due p i due flow found none notes =
     let same : notes.flow ≡ flow = (let e : Some notes.flow ≡ Some flow = sym notes.found ∙ found in cc) in
-    let e : None ≡ Some due = sym none ∙ ap (λ (f : Flow). f.due) (sym same) ∙ notes.noted in
     cc
 
 same_label : (p : FlatProgram) (i due : ℕ) (label : List ℕ) → (notes : NotesDue p i due) → IsLabelOf p i label → notes.flow.label ≡ label
@@ -120,7 +106,6 @@ out_of_range p clocks i due label wrong lower of = record {
 pub of_noted : (p : FlatProgram) (clocks : List Clock) (i due : ℕ) (flow : Flow) → slice_get p.flows i ≡ Some flow → flow.due ≡ Some due → IsWithinPeriod clocks i due → IsRanged p clocks i
 of_noted p clocks i due flow found noted within other notes =
     let same : notes.flow ≡ flow = (let e : Some notes.flow ≡ Some flow = sym notes.found ∙ found in cc) in
-    let e : Some due ≡ Some other = sym noted ∙ ap (λ (f : Flow). f.due) (sym same) ∙ notes.noted in
     let is : due ≡ other = cc in
     subst (λ d. IsWithinPeriod clocks i d) is within
 

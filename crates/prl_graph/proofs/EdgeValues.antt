@@ -60,25 +60,21 @@ module _ (p : FlatProgram) (clocks : List Clock) (bodies : List CheckedBody) (ro
   operator_value i n flow op of found is before =
       let y = clock_of clocks i in
       let x = clock_of clocks of.0 in
-      let below = slice_get_within p.flows i flow found in
       let defined = subst (λ d. IsWellDefined p i flow.ty d) is (flat.flows i flow found) in
       let by_date : OperatorByDate op x (values_of flows of.0) y (values_of flows i) until = met i flow (definitions.Op op of) found is in
       let within = slice_get_within p.flows of.0 defined.0.0 defined.0.1 in
-      let y_clock = are.clock i (clock_there i below) in
-      let x_clock = are.clock of.0 (clock_there of.0 within) in
+      let y_clock = are.clock i (clock_there i (slice_get_within p.flows i flow found)) in
       sym (value_at_date y (values_of flows i) n y_clock)
       ∙ by_date.each (date_at y n) (n, refl) before
-      ∙ value_of_operator_date op x (values_of flows of.0) y n x_clock y_clock by_date.clock (denominated flow.ty op defined.1)
+      ∙ value_of_operator_date op x (values_of flows of.0) y n (are.clock of.0 (clock_there of.0 within)) y_clock by_date.clock (denominated flow.ty op defined.1)
 
   -- what is there has a date before the end
   date_before : (i n : ℕ) (v : Value) → i < length p.flows → slice_get (values_of flows i) n ≡ Some v → date_at (clock_of clocks i) n < until
   date_before i n v below there =
-      let count = solves.count in
       (solves.up_to i (omega arith) n).0 (slice_get_within (values_of flows i) n v there)
 
   pub value_there : (i n : ℕ) → i < length p.flows → date_at (clock_of clocks i) n < until → (v : Value) × (slice_get (values_of flows i) n ≡ Some v)
   value_there i n below before =
-      let count = solves.count in
       element_at (values_of flows i) n ((solves.up_to i (omega arith) n).1 before)
 
   -- along a way back the values are those of the walk
@@ -95,32 +91,28 @@ module _ (p : FlatProgram) (clocks : List Clock) (bodies : List CheckedBody) (ro
   walked i j ops (ways.operator k l rest g op by at def way) below n before =
       let defined = subst (λ d. IsWellDefined p k g.ty d) def (flat.flows k g at) in
       let within = slice_get_within p.flows by.0 defined.0.0 defined.0.1 in
-      let here = operator_value k n g op by at def before in
       let there = value_there k n below before in
       elim (origin_of op n) as (λ o. slice_get (values_of flows k) n ≡ value_from (values_of flows by.0) o → slice_get (values_of flows k) n ≡ value_by (values_of flows l) (operand_at (walk rest) o)) [
         | instance m ↦ λ e. e ∙ walked by.0 l rest way within m (date_before by.0 m there.0 within (sym e ∙ there.1))
         | constant c ↦ λ e. e
-      ] here
+      ] (operator_value k n g op by at def before)
 
   -- what the producer's flow has at an instance is what the operand says
   from_producer : (source m : ℕ) (flow : Flow) (d : Def) (from : Producer) → slice_get p.flows source ≡ Some flow → flow.def ≡ d → IsProducer p d from
       → date_at (clock_of clocks source) m < until
       → slice_get (values_of flows source) m ≡ value_of_operand clocks flows source (operand_from from (operands.From m))
   from_producer source m flow (definitions.Sensor k) from found is produces before =
-      let below = slice_get_within p.flows source flow found in
       subst (λ f. slice_get (values_of flows source) m ≡ value_of_operand clocks flows source (operand_from f (operands.From m))) (sym produces)
-      (sym (value_at_date (clock_of clocks source) (values_of flows source) m (are.clock source (clock_there source below))))
+      (sym (value_at_date (clock_of clocks source) (values_of flows source) m (are.clock source (clock_there source (slice_get_within p.flows source flow found)))))
   from_producer source m flow (definitions.Copy of) from found is produces before = absurd produces
   from_producer source m flow (definitions.Const v) from found is produces before =
-      let below = slice_get_within p.flows source flow found in
-      let clock = are.clock source (clock_there source below) in
+      let clock = are.clock source (clock_there source (slice_get_within p.flows source flow found)) in
       let constant_at = met source flow (definitions.Const v) found is in
       subst (λ f. slice_get (values_of flows source) m ≡ value_of_operand clocks flows source (operand_from f (operands.From m))) (sym produces)
       (sym (value_at_date (clock_of clocks source) (values_of flows source) m clock) ∙ constant_at (date_at (clock_of clocks source) m) (m, refl) before)
   from_producer source m flow (definitions.Apply app out) from found is produces before =
-      let below = slice_get_within p.flows source flow found in
       subst (λ f. slice_get (values_of flows source) m ≡ value_of_operand clocks flows source (operand_from f (operands.From m))) (sym produces)
-      (sym (value_at_date (clock_of clocks source) (values_of flows source) m (are.clock source (clock_there source below))))
+      (sym (value_at_date (clock_of clocks source) (values_of flows source) m (are.clock source (clock_there source (slice_get_within p.flows source flow found)))))
   from_producer source m flow (definitions.Op op of) from found is produces before = absurd produces
 
   constant_operand : (from : Producer) (c : Value) (source : ℕ) → value_of_operand clocks flows source (operand_from from (operands.Const c)) ≡ Some c

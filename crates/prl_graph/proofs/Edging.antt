@@ -19,9 +19,8 @@ use Rattle.prl_graph.proofs.Lists.{push_cases}
 one_edge : (p : FlatProgram) (clocks : List Clock) (ports : List InputPort) (edges : List Edge) (port : InputPort) (edge : Edge) → AreEdgesOf p clocks ports edges → IsEdgeOf p clocks port edge
     → AreEdgesOf p clocks (ports ++ port ∷ []) (edges ++ edge ∷ [])
 one_edge p clocks ports edges port edge made is =
-    let count = made.count in
     record {
-      count = length_push edges edge ∙ ap (λ n. n + 1) count ∙ sym (length_push ports port);
+      count = length_push edges edge ∙ ap (λ n. n + 1) made.count ∙ sym (length_push ports port);
       each = λ e x y at found. ⊎_elim
           (λ old_port. ⊎_elim
           (λ old. made.each e x y old_port old)

@@ -1,10 +1,9 @@
 -- Bodies that fit the applications fit their tasks, and rows of the sensors' types serve theirs.
-use Rattle.std.proofs.Common.{◌≡◌, ◌<◌, ◌+◌, ◌*◌, ◌++◌, ◌∷◌, ℕ, zero, suc, Bool, true, false, cond, eqb, List, [], length, slice_get, Option, Some, refl, sym, ◌∙◌, ap, subst, arith}
-use Rattle.std.specs.Prelude.{◌+ℤ◌, ◌*ℤ◌, ◌<ℤ◌, decimal, pos}
+use Rattle.std.proofs.Common.{◌≡◌, ◌<◌, ◌+◌, ◌*◌, ◌++◌, ◌∷◌, ℕ, zero, suc, Bool, true, false, cond, eqb, List, [], length, slice_get, Some, refl, sym, ◌∙◌, ap, subst, arith}
+use Rattle.std.specs.Prelude.{decimal}
 use Rattle.std.specs.List.{AllByRecursion}
 use Rattle.std.proofs.lemmas.Int.{ints}
-use Rattle.std.proofs.lemmas.Bool.{eqb-true}
-use Rattle.std.proofs.lemmas.Option.{slice_get_within, slice_get-get_or, get_or_from_slice_get}
+use Rattle.std.proofs.lemmas.Option.{slice_get_within, slice_get-get_or}
 use Rattle.prl_base.specs.Clocks.{date_at}
 use Rattle.prl_base.specs.Values.{type_of}
 use Rattle.prl_base.specs.declared.numbers.FlowNo.{FlowNo}
@@ -23,7 +22,6 @@ use Rattle.prl_flow.specs.Rows.{Rows, rows_of}
 use Rattle.prl_flow.specs.Solutions.{HasRows, clock_of}
 use Rattle.prl_flow.proofs.Lists.{element_at}
 use Rattle.prl_plan.specs.declared.graphs.Edge.{Edge}
-use Rattle.prl_plan.specs.declared.graphs.Kind.{Kind}
 use Rattle.prl_plan.specs.declared.graphs.Kind.TheVariants as kinds
 use Rattle.prl_plan.specs.declared.graphs.Producer.{Producer}
 use Rattle.prl_plan.specs.declared.graphs.Producer.TheVariants as producers
@@ -36,7 +34,7 @@ use Rattle.prl_values.specs.JobValues.{body_of_task, word_of}
 use Rattle.prl_graph.specs.Edges.{IsEdgeOf, IsProducer}
 use Rattle.prl_graph.specs.Ports.{InputPort, node_no, ports_of}
 use Rattle.prl_graph.specs.TaskGraphs.{IsGraphOf}
-use Rattle.prl_graph.specs.Tasks.{IsActuatorTask, IsNodeTask, IsSensorTask, IsTaskOf, actuator, node, sensor}
+use Rattle.prl_graph.specs.Tasks.{IsNodeTask, IsTaskOf, actuator, node, sensor}
 use Rattle.prl_graph.proofs.Names.{word_of_node}
 use Rattle.prl_graph.proofs.Order.{Match}
 use Rattle.prl_graph.proofs.Ports.{port_within}
@@ -101,9 +99,7 @@ module _ (p : FlatProgram) (clocks : List Clock) (flat : IsFlat p) (g : TaskGrap
   -- each edge has a port, and the type of the port's flow
   port_of : (e : ℕ) (edge : Edge) → slice_get g.edges e ≡ Some edge → (port : InputPort) × IsEdgeOf p clocks port edge
   port_of e edge found =
-      let below = slice_get_within g.edges e edge found in
-      let count = of.edges.count in
-      let port = element_at (ports_of p) e (omega (arith, below, count)) in
+      let port = element_at (ports_of p) e (omega (arith, slice_get_within g.edges e edge found, of.edges.count)) in
       (port.0, of.edges.each e port.0 edge port.1 found)
 
   port_type : (e : ℕ) (port : InputPort) (edge : Edge) → slice_get (ports_of p) e ≡ Some port → slice_get g.edges e ≡ Some edge
@@ -123,8 +119,7 @@ module _ (p : FlatProgram) (clocks : List Clock) (flat : IsFlat p) (g : TaskGrap
   output_type k source app body flow (definitions.Sensor j) from found types at defined is comes =
       let task : from ≡ producers.Port (record { 0 = j }) 0 = is in
       let number : j ≡ node_no p k = subst (λ (x : Producer). ComesFrom x (node_no p k)) task comes in
-      let within = slice_get_within p.ins j (record { 0 = source }) defined in
-      absurd (omega (arith, number, within))
+      absurd (omega (arith, number, slice_get_within p.ins j (record { 0 = source }) defined))
   output_type k source app body flow (definitions.Const v) from found types at defined is comes =
       absurd (subst (λ (x : Producer). ComesFrom x (node_no p k)) is comes)
   output_type k source app body flow (definitions.Apply a out) from found types at defined is comes =
@@ -145,14 +140,12 @@ module _ (p : FlatProgram) (clocks : List Clock) (flat : IsFlat p) (g : TaskGrap
   fits_node bodies all k app found has = record {
     typed = named_typed bodies app.name has.body all has.named;
     inputs =
-        let below = slice_get_within p.apps k app found in
         let read : HaveTypes p (argument_numbers app) (port_types g.edges (node_no p k)) =
-        subst (λ (flows : List FlowNo). HaveTypes p flows (port_types g.edges (node_no p k))) (node_reads p k app found below)
+        subst (λ (flows : List FlowNo). HaveTypes p flows (port_types g.edges (node_no p k))) (node_reads p k app found (slice_get_within p.apps k app found))
         (types_are p (node_no p k) (ports_of p) g.edges match port_type) in
         one_types p (argument_numbers app) (input_types has.body) (port_types g.edges (node_no p k)) has.fits.inputs read;
     outputs = λ e edge at comes.
-        let port = port_of e edge at in
-        let is = port.1 in
+        let is = (port_of e edge at).1 in
         subst (HasOutput edge.from (output_types has.body)) (sym is.ty)
         (output_type k is.source app has.body is.flow is.flow.def edge.from found has.fits.outputs is.found (flat.flows is.source is.flow is.found) is.from comes);
   }
@@ -200,8 +193,7 @@ module _ (p : FlatProgram) (clocks : List Clock) (flat : IsFlat p) (g : TaskGrap
       job_date : (i n : ℕ) → IsHorizonJob g until i n → date_at (task_at g i).clock n < until
       job_date i n job =
           let c = (task_at g i).clock in
-          let e : (pos c.start +ℤ (pos n *ℤ pos c.period)) <ℤ pos until = job.early in
-          let before : c.start + n * c.period < until = omega (arith, ints, e) in
+          let before : c.start + n * c.period < until = omega (arith, ints, job.early) in
           before
 
       by_task : (i k n : ℕ) → IsTaskOf p clocks i (task_at g i) → (task_at g i).kind ≡ kinds.Sensor k → IsHorizonJob g until i n
@@ -212,12 +204,10 @@ module _ (p : FlatProgram) (clocks : List Clock) (flat : IsFlat p) (g : TaskGrap
           let same : i ≡ k = (let e : kinds.Sensor i ≡ kinds.Sensor k = sym (ap (λ (t : Task). t.kind) is.is) ∙ kind in cc) in
           let date : date_at (clock_of clocks is.flow.0) n < until = subst (λ (t : Task). date_at t.clock n < until) is.is (job_date i n job) in
           let row = element_at (rows_of rows i) n (has i is.flow is.found n date) in
-          let below = slice_get_within p.ins i is.flow is.found in
           let edges : IsTypedFrom g i row.0 =
           λ e edge at comes.
-          let port = port_of e edge at in
-          let its = port.1 in
+          let its = (port_of e edge at).1 in
           row_type i its.source is.flow (type_of row.0) its.flow its.flow.def edge.from is.found (typed i is.flow is.found n row.0 row.1) its.found
-          (flat.flows its.source its.flow its.found) its.from comes below
+          (flat.flows its.source its.flow its.found) its.from comes (slice_get_within p.ins i is.flow is.found)
           ∙ sym its.ty in
           (row.0, ap (λ j. slice_get (rows_of rows j) n) (sym same) ∙ row.1, edges)

@@ -1,6 +1,6 @@
 -- The values of a solution at the dates of jobs are values by instance.
 use Rattle.std.proofs.Common.{◌≡◌, ◌<◌, ◌≤◌, ◌+◌, ◌*◌, ℕ, zero, suc, true, false, cond, List, [], ◌∷◌, ◌++◌, length, map, take, slice_get, Option, Some, refl, sym, ◌∙◌, ap, subst, arith, length-append}
-use Rattle.std.specs.Prelude.{◌+ℤ◌, ◌*ℤ◌, ◌<ℤ◌, decimal, pos, unwrap_or}
+use Rattle.std.specs.Prelude.{decimal, pos, unwrap_or}
 use Rattle.std.proofs.lemmas.Int.{ints}
 use Rattle.std.specs.List.{AllByRecursion}
 use Rattle.std.specs.Option.{option_map}
@@ -59,7 +59,6 @@ cancel_right [] [] zs same = refl
 cancel_right [] (y ∷ ys) zs same = absurd (let e = ap length same in let a = length-append ys zs in omega arith)
 cancel_right (x ∷ xs) [] zs same = absurd (let e = ap length same in let a = length-append xs zs in omega arith)
 cancel_right (x ∷ xs) (y ∷ ys) zs same =
-    let head : x ≡ y = cc in
     let rest : xs ≡ ys = cancel_right xs ys zs (let f : xs ++ zs ≡ ys ++ zs = cc in f) in
     cc
 
@@ -159,8 +158,7 @@ module _ (p : FlatProgram) (clocks : List Clock) (bodies : List CheckedBody) (ro
   job_date : (i n : ℕ) → IsHorizonJob g until i n → date_at (task_at g i).clock n < until
   job_date i n job =
       let c = (task_at g i).clock in
-      let e : (pos c.start +ℤ (pos n *ℤ pos c.period)) <ℤ pos until = job.early in
-      let before : c.start + n * c.period < until = omega (arith, ints, e) in
+      let before : c.start + n * c.period < until = omega (arith, ints, job.early) in
       before
 
   -- what a job reads is the values of its task's flows
@@ -179,11 +177,10 @@ module _ (p : FlatProgram) (clocks : List Clock) (bodies : List CheckedBody) (ro
   sensor_given i n flow found before =
       let is = flat.ins i flow found in
       let below = slice_get_within p.flows flow.0 is.0 is.1 in
-      let there = has_value flow.0 n below before in
       let xs = values_of flows flow.0 in
       let first : xs ≡ take (length xs) (rows_of rows i) = met p clocks bodies rows until flows flat are solves flow.0 is.0 (definitions.Sensor i) is.1 is.2 in
       let value = value_or_none clocks flows n flow in
-      let at : slice_get xs n ≡ Some value = sym (on_date flow.0 n below) ∙ there in
+      let at : slice_get xs n ≡ Some value = sym (on_date flow.0 n below) ∙ (has_value flow.0 n below before) in
       let row : slice_get (rows_of rows i) n ≡ Some value =
       sym (slice_get_take (length xs) (rows_of rows i) n (slice_get_within xs n value at)) ∙ ap (λ l. slice_get l n) (sym first) ∙ at in
       ap (λ (f : FlowNo). value_or_none clocks flows n f ∷ []) (get_or_from_slice_get p.ins i flow no_flow found) ∙ ap at_most_one (sym row)

@@ -1,5 +1,5 @@
 -- The least due of each application, flow after flow.
-use Rattle.std.proofs.Common.{◌≡◌, ◌<◌, ◌≤◌, ◌+◌, ◌≢◌, ℕ, List, [], ◌∷◌, ◌++◌, length, set, get_or, slice_get, Some, sym, ◌∙◌, ap, subst, arith, inl, inr, ⊎_elim, length-set, get_or-set_same, get_or-set_other}
+use Rattle.std.proofs.Common.{◌≡◌, ◌<◌, ◌≤◌, ◌+◌, ◌≢◌, ◌⊎◌, ℕ, List, [], ◌∷◌, ◌++◌, length, set, get_or, slice_get, Some, sym, ◌∙◌, ap, subst, arith, inl, inr, ⊎_elim, length-set, get_or-set_same, get_or-set_other}
 use Rattle.std.proofs.lemmas.Bool.{cases_lt}
 use Rattle.std.proofs.lemmas.List.{get_or_append_left, get_or_push}
 use Rattle.std.proofs.lemmas.Option.{slice_get_within, get_or_from_slice_get}
@@ -62,48 +62,36 @@ bound_within p flat i k due is =
     let defined = subst (λ d. IsWellDefined p is.binds.copies.of.0 output.0.ty d) output.2 (flat.flows is.binds.copies.of.0 output.0 output.1) in
     slice_get_within p.apps k defined.0 defined.1
 
+-- the least of the first flows with one flow more
+pub least_more : (p : FlatProgram) (n m k period due : ℕ) → m ≤ n + 1 → due ≤ period → ((i other : ℕ) → i < n → BindsApplication p k i other → due ≤ other) →
+    ((other : ℕ) → BindsApplication p k n other → due ≤ other) → (due ≡ period) ⊎ ((i : ℕ) × BindsApplication p k i due) → IsLeastOfFirst p m k period due
+least_more p n m k period due more within early last attained = record {
+  within = within;
+  least = λ i other low binds. ⊎_elim
+      (λ less. early i other less binds)
+      (λ not_less. (let here : i ≡ n = omega arith in last other (subst (λ j. BindsApplication p k j other) here binds)))
+      (cases_lt i n);
+  attained = attained;
+}
+
 -- a flow more that binds no application
 pub none_more : (p : FlatProgram) (clocks : List Clock) (dues : List ℕ) (n : ℕ) → AreLeastDues p clocks n dues → ((k due : ℕ) → BindsApplication p k n due → ⊥) → AreLeastDues p clocks (n + 1) dues
 none_more p clocks dues n are none = record {
   count = are.count;
   each = λ k app found.
       (let before = are.each k app found in
-      record {
-        within = before.within;
-        least = λ i other low binds. ⊎_elim
-            (λ less. before.least i other less binds)
-            (λ not_less. (let last : i ≡ n = omega arith in absurd (none k other (subst (λ m. BindsApplication p k m other) last binds))))
-            (cases_lt i n);
-        attained = before.attained;
-      });
+      least_more p n (n + 1) k (application_clock clocks app).period (get_or dues k 0) (omega arith) before.within before.least (λ other binds. absurd (none k other binds)) before.attained);
 }
 
 -- a flow more that binds an application
 module _ (p : FlatProgram) (clocks : List Clock) (dues : List ℕ) (n bound due : ℕ) (are : AreLeastDues p clocks n dues) (is : IsBinding p n bound due) where
   keeps : (k period other : ℕ) → other ≤ due → IsLeastOfFirst p n k period other → IsLeastOfFirst p (n + 1) k period other
-  keeps k period other lower before = record {
-    within = before.within;
-    least = λ i next low binds. ⊎_elim
-        (λ less. before.least i next less binds)
-        (λ not_less.
-        (let last : i ≡ n = omega arith in
-        let same = (is.only k next (subst (λ m. BindsApplication p k m next) last binds)).1 in
-        omega arith))
-        (cases_lt i n);
-    attained = before.attained;
-  }
+  keeps k period other lower before =
+      least_more p n (n + 1) k period other (omega arith) before.within before.least (λ next binds. (let same = (is.only k next binds).1 in omega arith)) before.attained
 
   others : (k period other : ℕ) → k ≢ bound → IsLeastOfFirst p n k period other → IsLeastOfFirst p (n + 1) k period other
-  others k period other apart before = record {
-    within = before.within;
-    least = λ i next low binds. ⊎_elim
-        (λ less. before.least i next less binds)
-        (λ not_less.
-        (let last : i ≡ n = omega arith in
-        absurd (apart (is.only k next (subst (λ m. BindsApplication p k m next) last binds)).0)))
-        (cases_lt i n);
-    attained = before.attained;
-  }
+  others k period other apart before =
+      least_more p n (n + 1) k period other (omega arith) before.within before.least (λ next binds. absurd (apart (is.only k next binds).0)) before.attained
 
   pub kept_more : get_or dues bound 0 ≤ due → AreLeastDues p clocks (n + 1) dues
   kept_more low = record {
@@ -117,18 +105,8 @@ module _ (p : FlatProgram) (clocks : List Clock) (dues : List ℕ) (n bound due 
   lowered_one : (k period : ℕ) → k ≡ bound → due < get_or dues bound 0 → IsLeastOfFirst p n k period (get_or dues k 0) → IsLeastOfFirst p (n + 1) k period due
   lowered_one k period same low before =
       let least : due < get_or dues k 0 = subst (λ m. due < get_or dues m 0) (sym same) low in
-      let within = before.within in
-      record {
-        within = omega arith;
-        least = λ i next less binds. ⊎_elim
-            (λ early. (let e = before.least i next early binds in omega arith))
-            (λ not_early.
-            (let last : i ≡ n = omega arith in
-            let e = (is.only k next (subst (λ m. BindsApplication p k m next) last binds)).1 in
-            omega arith))
-            (cases_lt i n);
-        attained = inr (n, subst (λ m. BindsApplication p m n due) (sym same) is.binds);
-      }
+      least_more p n (n + 1) k period due (omega arith) (omega (arith, before.within)) (λ i next early binds. (let e = before.least i next early binds in omega arith))
+      (λ next binds. (let e = (is.only k next binds).1 in omega arith)) (inr (n, subst (λ m. BindsApplication p m n due) (sym same) is.binds))
 
   pub lowered_more : bound < length dues → due < get_or dues bound 0 → AreLeastDues p clocks (n + 1) (set dues bound due)
   lowered_more there low = record {

@@ -83,7 +83,6 @@ hyper_more clocks n hyper multiple clock found before next = record {
   positive = next.positive;
   multiple = λ i other h.
       (let at = take_get (n + 1) clocks i other h in
-      let low = at.0 in
       ⊎_elim
       (λ less. divides_trans other.period hyper multiple (before.multiple i other (slice_get_take n clocks i less ∙ at.1)) next.first)
       (λ not_less.

@@ -1,5 +1,5 @@
 -- Names of tasks differ.
-use Rattle.std.proofs.Common.{◌≡◌, ◌≢◌, ◌<◌, ◌≤◌, ◌+◌, ◌^◌, ℕ, Bool, true, false, List, [], ◌∷◌, ◌++◌, length, Some, slice_get, refl, sym, ◌∙◌, ap, subst, arith, cond, eqb}
+use Rattle.std.proofs.Common.{◌≡◌, ◌≢◌, ◌<◌, ◌≤◌, ◌+◌, ◌^◌, ℕ, Bool, true, false, List, [], ◌∷◌, ◌++◌, length, refl, sym, ◌∙◌, ap, subst, arith, cond, eqb}
 use Rattle.std.specs.Prelude.{decimal, slice_index_or}
 use Rattle.std.specs.List.{list_all}
 use Rattle.std.specs.Str.Parse.{digits_value}
@@ -22,19 +22,18 @@ use Rattle.prl_graph.specs.Tasks.{AreTasks, IsActuatorTask, IsSensorTask, IsTask
 use Rattle.prl_graph.proofs.TaskFacts.{actuator_device, sensor_device}
 
 -- `@` is no byte of a word
-apart : (b : ℕ) → is_word_byte b ≡ true → eqb b 64 ≡ false
-apart b is = go (eqb b 64) refl
+apart_by : (word : ℕ → Bool) (b : ℕ) → word 64 ≡ false → word b ≡ true → eqb b 64 ≡ false
+apart_by word b apart is = go (eqb b 64) refl
   where
     go : (t : Bool) → eqb b 64 ≡ t → eqb b 64 ≡ false
     go false e = e
-    go true e = absurd (false≢true (subst (λ n. is_word_byte n ≡ true) (eqb-true b 64 e) is))
+    go true e = absurd (false≢true (sym apart ∙ subst (λ n. word n ≡ true) (eqb-true b 64 e) is))
+
+apart : (b : ℕ) → is_word_byte b ≡ true → eqb b 64 ≡ false
+apart b is = apart_by is_word_byte b refl is
 
 apart_start : (b : ℕ) → is_word_start b ≡ true → eqb b 64 ≡ false
-apart_start b is = go (eqb b 64) refl
-  where
-    go : (t : Bool) → eqb b 64 ≡ t → eqb b 64 ≡ false
-    go false e = e
-    go true e = absurd (false≢true (subst (λ n. is_word_start n ≡ true) (eqb-true b 64 e) is))
+apart_start b is = apart_by is_word_start b refl is
 
 -- the word before `@`
 word_before : (bytes rest : List ℕ) → list_all is_word_byte bytes ≡ true → word_of (bytes ++ 64 ∷ rest) ≡ bytes

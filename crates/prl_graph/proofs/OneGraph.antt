@@ -57,7 +57,6 @@ pub tasks_same : (p : FlatProgram) (clocks : List Clock) (a b : List Task) → A
 tasks_same p clocks a b one other =
     same_from_elements a b (one.count ∙ sym other.count) (λ i below.
     (let count_a = one.count in
-    let count_b = other.count in
     let s = element_at a i below in
     let t = element_at b i (omega arith) in
     s.1 ∙ ap Some (task_same p clocks i s.0 t.0 (one.each i s.0 s.1) (other.each i t.0 t.1)) ∙ sym t.1))
@@ -90,22 +89,18 @@ way_same p i j l ops others (ways.copy k n rest g by at def way) (ways.here m) o
     absurd (no_copy p g.def by other.from (subst (λ (f : Flow). IsProducer p f.def other.from) (same_flow p k other.flow g other.found at) other.produces) def)
 way_same p i j l ops others (ways.copy k n rest g by at def way) (ways.copy k' n' rest' h by' at' def' way') one other =
     let flows : g ≡ h = same_flow p k g h at at' in
-    let same : definitions.Copy by ≡ definitions.Copy by' = sym def ∙ ap (λ (f : Flow). f.def) flows ∙ def' in
     let of : by ≡ by' = cc in
     way_same p by.0 j l ops others way (subst (λ (f : FlowNo). LeadsBack p f.0 others l) (sym of) way') one other
 way_same p i j l ops others (ways.copy k n rest g by at def way) (ways.operator k' n' rest' h op by' at' def' way') one other =
     let flows : g ≡ h = same_flow p k g h at at' in
-    let same : definitions.Copy by ≡ definitions.Op op by' = sym def ∙ ap (λ (f : Flow). f.def) flows ∙ def' in
     cc
 way_same p i j l ops others (ways.operator k n rest g op by at def way) (ways.here m) one other =
     absurd (no_operator p g.def op by other.from (subst (λ (f : Flow). IsProducer p f.def other.from) (same_flow p k other.flow g other.found at) other.produces) def)
 way_same p i j l ops others (ways.operator k n rest g op by at def way) (ways.copy k' n' rest' h by' at' def' way') one other =
     let flows : g ≡ h = same_flow p k g h at at' in
-    let same : definitions.Op op by ≡ definitions.Copy by' = sym def ∙ ap (λ (f : Flow). f.def) flows ∙ def' in
     cc
 way_same p i j l ops others (ways.operator k n rest g op by at def way) (ways.operator k' n' rest' h op' by' at' def' way') one other =
     let flows : g ≡ h = same_flow p k g h at at' in
-    let same : definitions.Op op by ≡ definitions.Op op' by' = sym def ∙ ap (λ (f : Flow). f.def) flows ∙ def' in
     let of : by ≡ by' = cc in
     let first : op ≡ op' = cc in
     let more = way_same p by.0 j l rest rest' way (subst (λ (f : FlowNo). LeadsBack p f.0 rest' l) (sym of) way') one other in
@@ -147,7 +142,6 @@ edges_same : (p : FlatProgram) (clocks : List Clock) (a b : List Edge) → AreEd
 edges_same p clocks a b one other =
     same_from_elements a b (one.count ∙ sym other.count) (λ e below.
     (let count_a = one.count in
-    let count_b = other.count in
     let s = element_at a e below in
     let t = element_at b e (omega arith) in
     let port = element_at (ports_of p) e (omega arith) in

@@ -37,10 +37,9 @@ reads_are clocks flows v i n (port ∷ ports) (edge ∷ edges) match each =
         ≡ map (value_or_none clocks flows n) (cond (eqb port.task i) (record { 0 = port.flow } ∷ flows_read ports i) (flows_read ports i))
     go true test rest =
         let same : port.task ≡ i = eqb-true port.task i test in
-        let here = each zero port edge refl refl same in
         ap (λ x. cond (eqb x i) (read_on v edge n ∷ reads_over v edges i n) (reads_over v edges i n)) to
         ∙ ap (λ t. cond t (read_on v edge n ∷ reads_over v edges i n) (reads_over v edges i n)) test
-        ∙ ap (λ x. x ∷ reads_over v edges i n) here
+        ∙ ap (λ x. x ∷ reads_over v edges i n) (each zero port edge refl refl same)
         ∙ ap (λ l. value_or_none clocks flows n (record { 0 = port.flow }) ∷ l) rest
         ∙ ap (λ t. map (value_or_none clocks flows n) (cond t (record { 0 = port.flow } ∷ flows_read ports i) (flows_read ports i))) (sym test)
     go false test rest =

@@ -34,7 +34,7 @@ use Rattle.prl_graph.specs.code.Multiples.{IsLeastMultiple}
 use Rattle.prl_graph.specs.code.Steps.{HasProducer, StepsBack}
 use Rattle.prl_graph.specs.code.Steps as steps
 use Rattle.prl_graph.proofs.DueFacts.{all_placed, all_ranged, no_due, non_task, nowhere_allowed, of_noted, one_copied, out_of_range}
-use Rattle.prl_graph.proofs.LeastDues.{least_of_all}
+use Rattle.prl_graph.proofs.LeastDues.{least_more, least_of_all}
 use Rattle.prl_graph.proofs.Lists.{equal_or_not, push_cases}
 use Rattle.prl_graph.proofs.Multiples.{hyper_all, hyper_more, hyper_none, least_multiple_is, past_hyper}
 use Rattle.prl_graph.proofs.Ports.{port_within}
@@ -94,7 +94,6 @@ no_copies p i flow d found is fails k c = fails c.of (sym is ∙ ap (λ (f : Flo
 no_output : (p : FlatProgram) (i : ℕ) (flow : Flow) (of : FlowNo) (source : Flow) (d : Def) → slice_get p.flows i ≡ Some flow → flow.def ≡ definitions.Copy of → slice_get p.flows of.0 ≡ Some source → source.def ≡ d
     → ((app out : ℕ) → d ≡ definitions.Apply app out → ⊥) → (k : ℕ) → CopiesOutput p i k → ⊥
 no_output p i flow of source d found is at def fails k c =
-    let copied : definitions.Copy of ≡ definitions.Copy c.of = sym is ∙ ap (λ (f : Flow). f.def) (same_flow p i flow c.flow found c.found) ∙ c.copies in
     let same : of ≡ c.of = cc in
     let flows : source ≡ c.output.0 = same_flow p c.of.0 source c.output.0 (subst (λ (f : FlowNo). slice_get p.flows f.0 ≡ Some source) same at) c.output.1 in
     fails k c.out (sym def ∙ ap (λ (f : Flow). f.def) flows ∙ c.output.2)
@@ -226,49 +225,21 @@ least_first p flat k period zero = (period, record { within = omega arith; least
 least_first p flat k period (suc n) =
     let before = least_first p flat k period n in
     let old = before.1 in
-    let within = old.within in
     ⊎_elim
     (λ (due, binds). ⊎_elim
     (λ less. (
       due,
-      record {
-        within = omega arith;
-        least = λ i other low b. ⊎_elim
-            (λ early. (let e = old.least i other early b in omega arith))
-            (λ late. (let last : i ≡ n = omega arith in let same = due_same p k n due other binds (subst (λ m. BindsApplication p k m other) last b) in omega arith))
-            (cases_lt i n);
-        attained = inr (n, binds);
-      },
+      least_more p n (suc n) k period due (omega arith) (omega (arith, old.within)) (λ i other early b. (let e = old.least i other early b in omega arith))
+          (λ other b. (let same = due_same p k n due other binds b in omega arith)) (inr (n, binds)),
     ))
-    (λ not_less. (
-      before.0,
-      record {
-        within = within;
-        least = λ i other low b. ⊎_elim
-            (λ early. old.least i other early b)
-            (λ late. (let last : i ≡ n = omega arith in let same = due_same p k n due other binds (subst (λ m. BindsApplication p k m other) last b) in omega arith))
-            (cases_lt i n);
-        attained = old.attained;
-      },
-    ))
+    (λ not_less. (before.0, least_more p n (suc n) k period before.0 (omega arith) old.within old.least (λ other b. (let same = due_same p k n due other binds b in omega arith)) old.attained))
     (cases_lt due before.0))
-    (λ none. (
-      before.0,
-      record {
-        within = within;
-        least = λ i other low b. ⊎_elim
-            (λ early. old.least i other early b)
-            (λ late. (let last : i ≡ n = omega arith in absurd (none other (subst (λ m. BindsApplication p k m other) last b))))
-            (cases_lt i n);
-        attained = old.attained;
-      },
-    ))
+    (λ none. (before.0, least_more p n (suc n) k period before.0 (omega arith) old.within old.least (λ other b. absurd (none other b)) old.attained))
     (binds_or_not p flat k n)
   where
     due_same : (p : FlatProgram) (k n due other : ℕ) → BindsApplication p k n due → BindsApplication p k n other → due ≡ other
     due_same p k n due other a b =
         let same : a.notes.flow ≡ b.notes.flow = same_flow p n a.notes.flow b.notes.flow a.notes.found b.notes.found in
-        let e : Some due ≡ Some other = sym a.notes.noted ∙ ap (λ (f : Flow). f.due) same ∙ b.notes.noted in
         cc
 
 -- there is each task

@@ -64,12 +64,8 @@ numbered_by ins apps k ks go s n a phases (of_sensor below is) rest =
       }) (λ m x h. let e : s + n + a + 1 + m ≡ s + 1 + n + a + m = omega arith in subst (λ i. KindAt ins apps i x) e (rest m x h)),
     )
 numbered_by ins apps k ks go s n a phases (of_node j at below is) rest =
-    let p0 = phases.sensors in
-    let p1 = phases.before_nodes in
-    let p2 = phases.before_actuators in
-    let p3 = phases.after_nodes in
-    let full : s ≡ ins = not_below s ins p0 (λ h. (let x = p1 h in let y = p2 h in absurd (omega arith))) in
-    let nothing : a ≡ 0 = p3 (omega arith) in
+    let full : s ≡ ins = not_below s ins phases.sensors (λ h. (let x = phases.before_nodes h in let y = phases.before_actuators h in absurd (omega arith))) in
+    let nothing : a ≡ 0 = phases.after_nodes (omega arith) in
     let number : j ≡ n = omega arith in
     subst (λ x. AreNumbered s n a (x ∷ ks)) (sym is) (
       number,
@@ -83,13 +79,8 @@ numbered_by ins apps k ks go s n a phases (of_node j at below is) rest =
       }) (λ m x h. let e : s + n + a + 1 + m ≡ s + (n + 1) + a + m = omega arith in subst (λ i. KindAt ins apps i x) e (rest m x h)),
     )
 numbered_by ins apps k ks go s n a phases (of_actuator j at is) rest =
-    let p0 = phases.sensors in
-    let p1 = phases.before_nodes in
-    let p2 = phases.before_actuators in
-    let p3 = phases.after_nodes in
-    let p4 = phases.nodes in
-    let full : s ≡ ins = not_below s ins p0 (λ h. (let x = p1 h in let y = p2 h in absurd (omega arith))) in
-    let all : n ≡ apps = not_below n apps p4 (λ h. (let x = p3 h in absurd (omega arith))) in
+    let full : s ≡ ins = not_below s ins phases.sensors (λ h. (let x = phases.before_nodes h in let y = phases.before_actuators h in absurd (omega arith))) in
+    let all : n ≡ apps = not_below n apps phases.nodes (λ h. (let x = phases.after_nodes h in absurd (omega arith))) in
     let number : j ≡ a = omega arith in
     subst (λ x. AreNumbered s n a (x ∷ ks)) (sym is) (
       number,

@@ -22,14 +22,12 @@ module _ (p : FlatProgram) (clocks : List Clock) (flat : IsFlat p) (are : AreClo
   pub takes_clock : (hyper : ℕ) → IsCommonMultiple clocks hyper → (i j : ℕ) (ops : List Op) → LeadsBack p i ops j → i < length p.flows
       → TakeClock hyper ops (clock_of clocks j) (clock_of clocks i)
   takes_clock hyper multiple i j ops (ways.here k) below =
-      let count = are.count in
       (are.clock k (omega arith), multiple k (clock_of clocks k) (clock_found k below), refl)
   takes_clock hyper multiple i j ops (ways.copy k l rest g by at def way) below =
       let defined = subst (λ d. IsWellDefined p k g.ty d) def (flat.flows k g at) in
       let agrees = subst (λ d. AgreesClock clocks (clock_of clocks k) d) def (are.agree k g at) in
       subst (λ c. TakeClock hyper rest (clock_of clocks l) c) (sym agrees) (takes_clock hyper multiple by.0 l rest way (slice_get_within p.flows by.0 defined.0 defined.1))
   takes_clock hyper multiple i j ops (ways.operator k l rest g op by at def way) below =
-      let count = are.count in
       let defined = subst (λ d. IsWellDefined p k g.ty d) def (flat.flows k g at) in
       let agrees = subst (λ d. AgreesClock clocks (clock_of clocks k) d) def (are.agree k g at) in (
         are.clock k (omega arith),

@@ -98,11 +98,9 @@ module _ (p : FlatProgram) (clocks : List Clock) (flat : IsFlat p) (are : AreClo
         wcet = (flat.devices.0 i (slice_index_or p.in_devices i ([], 0)) (sensor_device p flat i is.flow is.found)).1;
       })
   right_task i task (node is) =
-      let right = application_right is.number is.app is.found in
-      let within = is.least.within in
       subst IsRightTask (sym is.is) (record {
-        clock = right;
-        due = (node_due is.number is.app is.due is.found is.least, within);
+        clock = application_right is.number is.app is.found;
+        due = (node_due is.number is.app is.due is.found is.least, is.least.within);
         wcet = (flat.apps is.number is.app is.found).wcet;
       })
   right_task i task (actuator is) =
@@ -128,7 +126,6 @@ module _ (p : FlatProgram) (clocks : List Clock) (flat : IsFlat p) (are : AreClo
   -- the task of a number, and what it is
   task_of : (i : ℕ) → i < task_count p → IsTaskOf p clocks i (task_at g i)
   task_of i below =
-      let count = of.tasks.count in
       let at = element_at g.tasks i (omega arith) in
       subst (λ t. IsTaskOf p clocks i t) (sym (get_or_from_slice_get g.tasks i at.0 no_task at.1)) (of.tasks.each i at.0 at.1)
 
@@ -270,7 +267,6 @@ module _ (p : FlatProgram) (clocks : List Clock) (flat : IsFlat p) (are : AreClo
           let index = length (application_ports (node_no p 0) p.apps) + a.number in
           let found = append_right (application_ports (node_no p 0) p.apps) (actuator_ports (actuator_no p 0) p.outs) a.number ∙ at in
           let task : actuator_no p 0 + a.number ≡ i = (let e = a.at in omega arith) in
-          let count = of.edges.count in
           let edge_below : index < length g.edges = (let w = slice_get_within (ports_of p) index (record { task = actuator_no p 0 + a.number; port = 0; flow = a.flow.0 }) found in omega arith) in
           let edge = element_at g.edges index edge_below in
           let edge_of = of.edges.each index (record { task = actuator_no p 0 + a.number; port = 0; flow = a.flow.0 }) edge.0 found edge.1 in
@@ -283,21 +279,13 @@ module _ (p : FlatProgram) (clocks : List Clock) (flat : IsFlat p) (are : AreClo
                 is.port_is
                 ∙ ⊎_elim
                 (λ (b : IsArgumentPort p port.0).
-                (let low = slice_get_within p.apps b.number b.app b.applied in
-                let h1 = b.task in
-                let h2 = is.to in
-                let h3 = a.at in
-                absurd (omega (arith, h1, h2, h3, to, low))))
+                absurd (omega (arith, b.task, is.to, a.at, to, slice_get_within p.apps b.number b.app b.applied)))
                 (λ (b : IsActuatorPort p port.0). b.port_is)
                 (port_is p e port.0 port.1));
           }
 
   pub well_formed : HasNoCycle p → IsWellFormed g
   well_formed causal =
-      let tasks = of.tasks.count in
-      let edges = of.edges.count in
-      let few_tasks = of.few_tasks in
-      let few_edges = of.few_edges in
       record {
         kinds = tasks_numbered p clocks g.tasks of.tasks;
         tasks = λ i task found. task_is i task found (named_rightly p clocks flat i task (of.tasks.each i task found));
@@ -306,8 +294,8 @@ module _ (p : FlatProgram) (clocks : List Clock) (flat : IsFlat p) (are : AreClo
         order = edges_in_order p g.edges match_edges;
         actuators = one_port;
         hyper = of.hyper.positive;
-        few_tasks = omega arith;
-        few_edges = omega arith;
+        few_tasks = omega (arith, of.few_tasks);
+        few_edges = omega (arith, of.few_edges);
         few_ticks = of.few_ticks;
         few_jobs = of.few_jobs;
       }

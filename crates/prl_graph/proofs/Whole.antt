@@ -12,7 +12,7 @@ use Rattle.prl_plan.specs.declared.limits.TheConstants.{MAX_EDGES, MAX_HYPER, MA
 use Rattle.prl_plan.specs.Graphs.{IsWellFormed}
 use Rattle.prl_graph.specs.declared.faults.GraphFault.{GraphFault}
 use Rattle.prl_graph.specs.declared.faults.GraphFault.TheVariants as faults
-use Rattle.prl_graph.specs.Hyperperiods.{IsHyperperiod, IsPastHyperperiod}
+use Rattle.prl_graph.specs.Hyperperiods.{IsHyperperiod}
 use Rattle.prl_graph.specs.Ports.{ports_of, task_count}
 use Rattle.prl_graph.specs.TaskGraphs.{AreSmallClocks, HasDues, IsGraphFault, IsGraphOf, jobs_within}
 use Rattle.prl_graph.specs.Edges.{AreEdgesOf}
@@ -42,9 +42,6 @@ module _ (p : FlatProgram) (clocks : List Clock) (flat : IsFlat p) (are : AreClo
       let jobs : jobs_within g.hyper g.tasks ≤ MAX_PERIOD_JOBS = subst (λ l. jobs_within g.hyper l ≤ MAX_PERIOD_JOBS) (sym tasks_are) few_jobs in
       let of : IsGraphOf p clocks g = is_graph g first second hyper few_ticks jobs in
       (of, well_formed p clocks flat are small g of causal)
-
-  pub past_hyperperiod : (found : ℕ) (fault : GraphFault) → fault ≡ faults.Limit (record { what = limits.Hyperperiod; found = found }) → IsPastHyperperiod clocks found → IsGraphFault p clocks fault
-  past_hyperperiod found fault same past = subst (IsGraphFault p clocks) (sym same) (dues, (few_tasks, few_edges, past))
 
   pub past_jobs : (found hyper : ℕ) (tasks : List Task) (fault : GraphFault) → fault ≡ faults.Limit (record { what = limits.PeriodJobs; found = found }) → IsHyperperiod clocks hyper → hyper ≤ MAX_HYPER
       → AreFirstTasks p clocks (task_count p) tasks → found ≡ jobs_within hyper tasks → MAX_PERIOD_JOBS < found → IsGraphFault p clocks fault

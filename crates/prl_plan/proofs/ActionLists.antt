@@ -1,6 +1,6 @@
 -- The actions of a job, edge by edge: those on the first edges stand first.
 use Rattle.std.proofs.Common.{◌≡◌, ◌+◌, ◌<◌, ◌≤◌, ◌++◌, ℕ, zero, suc, Bool, List, [], ◌∷◌, Some, length, length-append, take, drop, get_or, refl, sym, ◌∙◌, ap, arith, append_assoc, append-nil}
-use Rattle.std.specs.Prelude.{◌==◌, is_some, slice_get, if◌then◌else◌}
+use Rattle.std.specs.Prelude.{if◌then◌else◌, ◌==◌, is_some, slice_get}
 use Rattle.prl_plan.specs.declared.events.Action.{Action}
 use Rattle.prl_plan.specs.declared.events.Action.TheVariants as actions
 use Rattle.prl_plan.specs.declared.graphs.Edge.{Edge}
@@ -107,20 +107,17 @@ module _ (plan : PlanView) (i n : ℕ) where
         left ≡ length (reading plan e (edge_at plan.graph e) (operand_of (edge_at plan.graph e) n)) + rest → place ≡ length (reads_of plan i n 0 (take (e + 1) plan.graph.edges)) + rest
     read_passed place left rest to at more =
         let l = ap length next_reads ∙ length-append (reads_of plan i n 0 (take e plan.graph.edges)) (read_part e (edge_at plan.graph e)) in
-        let h = ap length (read_here to) in
-        omega (arith, l, h, at, more)
+        omega (arith, l, ap length (read_here to), at, more)
 
     pub read_other : (place left : ℕ) → ((edge_at plan.graph e).to.0 ≡ i → ⊥) → place ≡ length (reads_of plan i n 0 (take e plan.graph.edges)) + left →
         place ≡ length (reads_of plan i n 0 (take (e + 1) plan.graph.edges)) + left
     read_other place left differs at =
         let l = ap length next_reads ∙ length-append (reads_of plan i n 0 (take e plan.graph.edges)) (read_part e (edge_at plan.graph e)) in
-        let h = ap length (read_none differs) in
-        omega (arith, l, h, at)
+        omega (arith, l, ap length (read_none differs), at)
 
     pub write_found : (place left : ℕ) (a : Action) → ComesFrom (edge_at plan.graph e).from i → place ≡ length (writes_of plan i n 0 (take e plan.graph.edges)) + left →
         slice_get (if is_some (place_on plan e n) then both_writes plan e n else []) left ≡ Some a → slice_get (writes_of plan i n 0 plan.graph.edges) place ≡ Some a
     write_found place left a comes at got =
-        let part : List Action = writing plan i n e (edge_at plan.graph e).from in
         let front : slice_get (writes_of plan i n 0 (take e plan.graph.edges) ++ writing plan i n e (edge_at plan.graph e).from) place ≡ Some a =
         get_right (writes_of plan i n 0 (take e plan.graph.edges)) (writing plan i n e (edge_at plan.graph e).from) place left at
         ∙ ap (λ (l : List Action). slice_get l left) (write_here (edge_at plan.graph e).from comes) ∙ got in
@@ -134,44 +131,37 @@ module _ (plan : PlanView) (i n : ℕ) where
         left ≡ length (if is_some (place_on plan e n) then both_writes plan e n else []) + rest → place ≡ length (writes_of plan i n 0 (take (e + 1) plan.graph.edges)) + rest
     write_passed place left rest comes at more =
         let l = ap length next_writes ∙ length-append (writes_of plan i n 0 (take e plan.graph.edges)) (writing plan i n e (edge_at plan.graph e).from) in
-        let h = ap length (write_here (edge_at plan.graph e).from comes) in
-        omega (arith, l, h, at, more)
+        omega (arith, l, ap length (write_here (edge_at plan.graph e).from comes), at, more)
 
     pub write_other : (place left : ℕ) → (ComesFrom (edge_at plan.graph e).from i → ⊥) → place ≡ length (writes_of plan i n 0 (take e plan.graph.edges)) + left →
         place ≡ length (writes_of plan i n 0 (take (e + 1) plan.graph.edges)) + left
     write_other place left never at =
         let l = ap length next_writes ∙ length-append (writes_of plan i n 0 (take e plan.graph.edges)) (writing plan i n e (edge_at plan.graph e).from) in
-        let h = ap length (write_none (edge_at plan.graph e).from never) in
-        omega (arith, l, h, at)
+        omega (arith, l, ap length (write_none (edge_at plan.graph e).from never), at)
 
     pub reads_more : (edge_at plan.graph e).to.0 ≡ i → length (reads_of plan i n 0 (take (e + 1) plan.graph.edges))
         ≡ length (reads_of plan i n 0 (take e plan.graph.edges)) + length (reading plan e (edge_at plan.graph e) (operand_of (edge_at plan.graph e) n))
     reads_more to =
         let l = ap length next_reads ∙ length-append (reads_of plan i n 0 (take e plan.graph.edges)) (read_part e (edge_at plan.graph e)) in
-        let h = ap length (read_here to) in
-        omega (arith, l, h)
+        omega (arith, l, ap length (read_here to))
 
     pub reads_same : ((edge_at plan.graph e).to.0 ≡ i → ⊥) → length (reads_of plan i n 0 (take (e + 1) plan.graph.edges)) ≡ length (reads_of plan i n 0 (take e plan.graph.edges))
     reads_same differs =
         let l = ap length next_reads ∙ length-append (reads_of plan i n 0 (take e plan.graph.edges)) (read_part e (edge_at plan.graph e)) in
-        let h = ap length (read_none differs) in
-        omega (arith, l, h)
+        omega (arith, l, ap length (read_none differs))
 
     pub writes_more : ComesFrom (edge_at plan.graph e).from i → length (writes_of plan i n 0 (take (e + 1) plan.graph.edges))
         ≡ length (writes_of plan i n 0 (take e plan.graph.edges)) + length (if is_some (place_on plan e n) then both_writes plan e n else [])
     writes_more comes =
         let l = ap length next_writes ∙ length-append (writes_of plan i n 0 (take e plan.graph.edges)) (writing plan i n e (edge_at plan.graph e).from) in
-        let h = ap length (write_here (edge_at plan.graph e).from comes) in
-        omega (arith, l, h)
+        omega (arith, l, ap length (write_here (edge_at plan.graph e).from comes))
 
     pub writes_same : (ComesFrom (edge_at plan.graph e).from i → ⊥) → length (writes_of plan i n 0 (take (e + 1) plan.graph.edges)) ≡ length (writes_of plan i n 0 (take e plan.graph.edges))
     writes_same never =
         let l = ap length next_writes ∙ length-append (writes_of plan i n 0 (take e plan.graph.edges)) (writing plan i n e (edge_at plan.graph e).from) in
-        let h = ap length (write_none (edge_at plan.graph e).from never) in
-        omega (arith, l, h)
+        omega (arith, l, ap length (write_none (edge_at plan.graph e).from never))
 
   pub all_actions_long : length (actions_of plan i n) ≡ 1 + length (reads_of plan i n 0 plan.graph.edges) + length (writes_of plan i n 0 plan.graph.edges)
   all_actions_long =
-      let a = length-append (reads_of plan i n 0 plan.graph.edges ++ writes_of plan i n 0 plan.graph.edges) (actions.End ∷ []) in
       let b = length-append (reads_of plan i n 0 plan.graph.edges) (writes_of plan i n 0 plan.graph.edges) in
-      omega (arith, a, b)
+      omega (arith, length-append (reads_of plan i n 0 plan.graph.edges ++ writes_of plan i n 0 plan.graph.edges) (actions.End ∷ []), b)

@@ -225,7 +225,6 @@ module _ (plan : PlanView) (i n : ℕ) where
   -- a job ends after all its reads and writes
   pub ends_after : (place : ℕ) → get_or (actions_of plan i n) place actions.End ≡ actions.End → length (actions_of plan i n) ≤ place + 1
   ends_after place ends =
-      let all = reads_of plan i n 0 plan.graph.edges ++ writes_of plan i n 0 plan.graph.edges in
       let after = end_after (reads_of plan i n 0 plan.graph.edges ++ writes_of plan i n 0 plan.graph.edges)
       (each_both GoesOn (reads_of plan i n 0 plan.graph.edges) (writes_of plan i n 0 plan.graph.edges)
       (reads_on 0 plan.graph.edges) (writes_on 0 plan.graph.edges)) place ends in
@@ -281,17 +280,12 @@ module _ (plan : PlanView) (i n : ℕ) where
   length_writing : (e : ℕ) (from : Producer) → length (writing plan i n e from) ≤ 2
   length_writing e (producers.Constant value) = omega arith
   length_writing e (producers.Port task out) =
-      let a = length_test (eqb task.0 i) (cond (is_some (place_on plan e n)) (both_writes plan e n) []) in
-      let b = length_test (is_some (place_on plan e n)) (both_writes plan e n) in
-      omega (arith, a, b)
+      omega (arith, length_test (eqb task.0 i) (cond (is_some (place_on plan e n)) (both_writes plan e n) []), length_test (is_some (place_on plan e n)) (both_writes plan e n))
 
   length_writes : (e : ℕ) (edges : List Edge) → length (writes_of plan i n e edges) ≤ 2 * length edges
   length_writes e [] = omega arith
   length_writes e (edge ∷ edges) =
-      let a = length-append (writing plan i n e edge.from) (writes_of plan i n (e + 1) edges) in
-      let b = length_writing e edge.from in
-      let c = length_writes (e + 1) edges in
-      omega (arith, a, b, c)
+      omega (arith, length-append (writing plan i n e edge.from) (writes_of plan i n (e + 1) edges), length_writing e edge.from, length_writes (e + 1) edges)
 
   length_reading : (e : ℕ) (edge : Edge) (operand : Operand) → length (reading plan e edge operand) ≤ 2
   length_reading e edge (operands.Const c) = omega arith
@@ -300,18 +294,12 @@ module _ (plan : PlanView) (i n : ℕ) where
   length_reads : (e : ℕ) (edges : List Edge) → length (reads_of plan i n e edges) ≤ 2 * length edges
   length_reads e [] = omega arith
   length_reads e (edge ∷ edges) =
-      let a = length-append (cond (eqb edge.to.0 i) (reading plan e edge (operand_of edge n)) []) (reads_of plan i n (e + 1) edges) in
       let b = length_test (eqb edge.to.0 i) (reading plan e edge (operand_of edge n)) in
-      let d = length_reading e edge (operand_of edge n) in
       let c = length_reads (e + 1) edges in
-      omega (arith, a, b, c, d)
+      omega (arith, length-append (cond (eqb edge.to.0 i) (reading plan e edge (operand_of edge n)) []) (reads_of plan i n (e + 1) edges), b, c, length_reading e edge (operand_of edge n))
 
   pub length_actions : length (actions_of plan i n) ≤ 4 * length plan.graph.edges + 1
   length_actions =
-      let r = reads_of plan i n 0 plan.graph.edges in
-      let w = writes_of plan i n 0 plan.graph.edges in
-      let a = length-append (reads_of plan i n 0 plan.graph.edges ++ writes_of plan i n 0 plan.graph.edges) (actions.End ∷ []) in
       let b = length-append (reads_of plan i n 0 plan.graph.edges) (writes_of plan i n 0 plan.graph.edges) in
-      let c = length_reads 0 plan.graph.edges in
       let d = length_writes 0 plan.graph.edges in
-      omega (arith, a, b, c, d)
+      omega (arith, length-append (reads_of plan i n 0 plan.graph.edges ++ writes_of plan i n 0 plan.graph.edges) (actions.End ∷ []), b, length_reads 0 plan.graph.edges, d)

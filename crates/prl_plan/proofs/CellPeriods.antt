@@ -81,9 +81,7 @@ module _ (graph : TaskGraph) (good : IsWellFormed graph) (edge : Edge) (is : IsE
       let a : suc q * turn ≡ q * turn + turn = omega arith in
       let b : suc q * span_of graph edge ≡ q * span_of graph edge + span_of graph edge = omega arith in
       let e : n +ℤ pos (suc q * turn) ≡ (n +ℤ pos (q * turn)) +ℤ pos turn = omega (arith, ints, a) in
-      let x = once (n +ℤ pos (q * turn)) in
-      let y = often q n in
-      ap (λ (z : ℤ). preceding edge.ops z) e ∙ (omega (arith, ints, b, x, y))
+      ap (λ (z : ℤ). preceding edge.ops z) e ∙ (omega (arith, ints, b, once (n +ℤ pos (q * turn)), often q n))
 
   pub here : IsAskedFrom edge.ops (first_instance edge.ops) 0
   here = (pos (first_reader edge.ops), (let e = first_precedes edge.ty edge.ops is.operators in omega (arith, ints, e)))
@@ -93,10 +91,8 @@ module _ (graph : TaskGraph) (good : IsWellFormed graph) (edge : Edge) (is : IsE
     (λ h. (h.0 +ℤ pos turn, (let o = once h.0 in let at = h.1 in omega (arith, ints, o, at)))),
     (λ h.
         (let back : (h.0 -ℤ pos turn) +ℤ pos turn ≡ h.0 = omega (arith, ints) in
-        let o = once (h.0 -ℤ pos turn) in
         let b = ap (λ (z : ℤ). preceding edge.ops z) back in
-        let at = h.1 in
-        (h.0 -ℤ pos turn, omega (arith, ints, o, b, at)))),
+        (h.0 -ℤ pos turn, omega (arith, ints, once (h.0 -ℤ pos turn), b, h.1)))),
   )
 
   module _ (gaps : List ℕ) (lists : ListsGaps (IsAskedFrom edge.ops (first_instance edge.ops)) (span_of graph edge) gaps) where
@@ -117,9 +113,8 @@ module _ (graph : TaskGraph) (good : IsWellFormed graph) (edge : Edge) (is : IsE
           (used_is edge i comes is.operators (used_at used k)).1 ((omega (arith, a)), (subst (λ (x : ℕ). IsAsked edge.ops (pos x)) (sym a) asked)));
       all = λ m h.
           (let r = (used_is edge i comes is.operators m).0 h in
-          let late = r.0 in
           let x : ℕ = m - first_instance edge.ops in
-          let e : first_instance edge.ops + (m - first_instance edge.ops) ≡ m = omega (arith, late) in
+          let e : first_instance edge.ops + (m - first_instance edge.ops) ≡ m = omega (arith, r.0) in
           let at = offset_all (IsAskedFrom edge.ops (first_instance edge.ops)) (span_of graph edge) gaps some_span here again lists (m - first_instance edge.ops)
           (subst (λ (x : ℕ). IsAsked edge.ops (pos x)) (sym e) r.1) in
           (at.0, (let a = used_offset at.0 in let o = at.1 in omega (arith, a, o, e))));
@@ -127,10 +122,7 @@ module _ (graph : TaskGraph) (good : IsWellFormed graph) (edge : Edge) (is : IsE
 
     pub used_shift : (k q : ℕ) → used_at used (k + q * length gaps) ≡ used_at used k + q * span_of graph edge
     used_shift k q =
-        let s = offset_shift (IsAskedFrom edge.ops (first_instance edge.ops)) (span_of graph edge) gaps some_span here again lists k q in
-        let a = used_offset k in
-        let b = used_offset (k + q * length gaps) in
-        omega (arith, s, a, b)
+        omega (arith, offset_shift (IsAskedFrom edge.ops (first_instance edge.ops)) (span_of graph edge) gaps some_span here again lists k q, used_offset k, used_offset (k + q * length gaps))
 
     module _ (release deadline : Family) (releases : (m : ℤ) → release i (m +ℤ pos (span_of graph edge)) ≡ release i m +ℤ pos graph.hyper)
         (deadlines : (n : ℤ) → deadline edge.to.0 (n +ℤ pos turn) ≡ deadline edge.to.0 n +ℤ pos graph.hyper) (cells : ℕ) where
@@ -144,9 +136,7 @@ module _ (graph : TaskGraph) (good : IsWellFormed graph) (edge : Edge) (is : IsE
           let a : suc q * span_of graph edge ≡ q * span_of graph edge + span_of graph edge = omega arith in
           let b : suc q * graph.hyper ≡ q * graph.hyper + graph.hyper = omega arith in
           let e : m +ℤ pos (suc q * span_of graph edge) ≡ (m +ℤ pos (q * span_of graph edge)) +ℤ pos (span_of graph edge) = omega (arith, ints, a) in
-          let x = releases (m +ℤ pos (q * span_of graph edge)) in
-          let y = releases_often q m in
-          ap (λ (z : ℤ). release i z) e ∙ (omega (arith, ints, b, x, y))
+          ap (λ (z : ℤ). release i z) e ∙ (omega (arith, ints, b, releases (m +ℤ pos (q * span_of graph edge)), releases_often q m))
 
       deadlines_often : (q : ℕ) (n : ℤ) → deadline edge.to.0 (n +ℤ pos (q * turn)) ≡ deadline edge.to.0 n +ℤ pos (q * graph.hyper)
       deadlines_often zero n =
@@ -158,9 +148,7 @@ module _ (graph : TaskGraph) (good : IsWellFormed graph) (edge : Edge) (is : IsE
           let a : suc q * turn ≡ q * turn + turn = omega arith in
           let b : suc q * graph.hyper ≡ q * graph.hyper + graph.hyper = omega arith in
           let e : n +ℤ pos (suc q * turn) ≡ (n +ℤ pos (q * turn)) +ℤ pos turn = omega (arith, ints, a) in
-          let x = deadlines (n +ℤ pos (q * turn)) in
-          let y = deadlines_often q n in
-          ap (λ (z : ℤ). deadline edge.to.0 z) e ∙ (omega (arith, ints, b, x, y))
+          ap (λ (z : ℤ). deadline edge.to.0 z) e ∙ (omega (arith, ints, b, deadlines (n +ℤ pos (q * turn)), deadlines_often q n))
 
       -- the date that the reader n of the k-th instance has to keep, so many hyperperiods later
       moved : (k q : ℕ) (n : ℤ) → (deadline edge.to.0 n ≤ℤ release i (pos (used_at used (k + cells))))
@@ -168,9 +156,8 @@ module _ (graph : TaskGraph) (good : IsWellFormed graph) (edge : Edge) (is : IsE
       moved k q n =
           let d = deadlines_often q n in
           let r = releases_often q (pos (used_at used (k + cells))) in
-          let s = used_shift (k + cells) q in
           let order : k + q * length gaps + cells ≡ k + cells + q * length gaps = omega arith in
-          let u : used_at used (k + q * length gaps + cells) ≡ used_at used (k + cells) + q * span_of graph edge = ap (used_at used) order ∙ s in
+          let u : used_at used (k + q * length gaps + cells) ≡ used_at used (k + cells) + q * span_of graph edge = ap (used_at used) order ∙ (used_shift (k + cells) q) in
           let z : pos (used_at used (k + q * length gaps + cells)) ≡ pos (used_at used (k + cells)) +ℤ pos (q * span_of graph edge) = omega (arith, ints, u) in
           let e = ap (λ (y : ℤ). release i y) z in
           ((λ h. omega (arith, ints, d, r, e, h)), (λ h. omega (arith, ints, d, r, e, h)))
@@ -179,27 +166,23 @@ module _ (graph : TaskGraph) (good : IsWellFormed graph) (edge : Edge) (is : IsE
       fits_in_period once k n reads =
           let q : ℕ = k / length gaps in
           let r : ℕ = k % length gaps in
-          let s = split (IsAskedFrom edge.ops (first_instance edge.ops)) (span_of graph edge) gaps some_span here again lists k in
           let below = inside (IsAskedFrom edge.ops (first_instance edge.ops)) (span_of graph edge) gaps some_span here again lists k in
-          let order : k ≡ r + q * length gaps = omega (arith, s) in
+          let order : k ≡ r + q * length gaps = omega (arith, split (IsAskedFrom edge.ops (first_instance edge.ops)) (span_of graph edge) gaps some_span here again lists k) in
           let back : (pos n -ℤ pos (q * turn)) +ℤ pos (q * turn) ≡ pos n = omega (arith, ints) in
           let at : preceding edge.ops (pos n) ≡ pos (used_at used k) = ((reads_is edge i comes is.operators n (used_at used k)).0 reads).1 in
-          let o = often q (pos n -ℤ pos (q * turn)) in
           let b = ap (λ (z : ℤ). preceding edge.ops z) back in
           let u : used_at used k ≡ used_at used r + q * span_of graph edge = ap (used_at used) order ∙ used_shift r q in
-          let early : preceding edge.ops (pos n -ℤ pos (q * turn)) ≡ pos (used_at used r) = omega (arith, ints, at, o, b, u) in
-          let kept = (moved r q (pos n -ℤ pos (q * turn))).0 (once r below (pos n -ℤ pos (q * turn)) early) in
+          let early : preceding edge.ops (pos n -ℤ pos (q * turn)) ≡ pos (used_at used r) = omega (arith, ints, at, often q (pos n -ℤ pos (q * turn)), b, u) in
           let x = ap (λ (z : ℤ). deadline edge.to.0 z) back in
           let y : release i (pos (used_at used (r + q * length gaps + cells))) ≡ release i (pos (used_at used (k + cells))) =
           ap (λ (z : ℕ). release i (pos (used_at used (z + cells)))) (sym order) in
-          omega (arith, ints, kept, x, y)
+          omega (arith, ints, (moved r q (pos n -ℤ pos (q * turn))).0 (once r below (pos n -ℤ pos (q * turn)) early), x, y)
 
       -- far enough on, the number is one of a job that reads instances
       far : (n : ℤ) → (q : ℕ) × (job : ℕ) × (n +ℤ pos (q * turn) ≡ pos job) × (first_reader edge.ops ≤ job)
       far (pos n) =
           let p : ℕ = first_reader edge.ops in
-          let up : p ≤ p * turn = enough p turn some_turn in
-          (p, n + p * turn, (omega (arith, ints)), (omega (arith, up)))
+          (p, n + p * turn, (omega (arith, ints)), (omega (arith, enough p turn some_turn)))
         where
           enough : (p t : ℕ) → 1 ≤ t → p ≤ p * t
           enough p zero some = absurd (omega (arith, some))
@@ -218,11 +201,8 @@ module _ (graph : TaskGraph) (good : IsWellFormed graph) (edge : Edge) (is : IsE
           let f = far n in
           let q : ℕ = f.0 in
           let job : ℕ = f.1 in
-          let o = often q n in
           let b = ap (λ (z : ℤ). preceding edge.ops z) f.2 in
-          let u = used_shift k q in
-          let later : preceding edge.ops (pos job) ≡ pos (used_at used (k + q * length gaps)) = omega (arith, ints, at, o, b, u) in
+          let later : preceding edge.ops (pos job) ≡ pos (used_at used (k + q * length gaps)) = omega (arith, ints, at, often q n, b, used_shift k q) in
           let reads = (reads_is edge i comes is.operators job (used_at used (k + q * length gaps))).1 (f.3, later) in
-          let kept = fits (k + q * length gaps) job reads in
           let x = ap (λ (z : ℤ). deadline edge.to.0 z) f.2 in
-          (moved k q n).1 (omega (arith, ints, kept, x))
+          (moved k q n).1 (omega (arith, ints, fits (k + q * length gaps) job reads, x))

@@ -25,26 +25,17 @@ module _ (graph : TaskGraph) (windows : List (List Window)) (dates : AreEncodedD
       ≤ℤ (encoded_release graph windows (last_of first rest).task (last_of first rest).number +ℤ pos (task_at graph (last_of first rest).task).wcet)
   chain_within first [] chain = omega (arith, ints)
   chain_within first (next ∷ rest) chain =
-      let step = dates.releases.releases.along first next chain.1 in
-      let up = chain_within next rest chain.2 in
-      omega (arith, ints, step, up)
+      omega (arith, ints, dates.releases.releases.along first next chain.1, chain_within next rest chain.2)
 
   pub none_narrow : (first : Job) (rest : List Job) → IsNarrow graph first rest → ⊥
   none_narrow first rest narrow =
       let last : Job = last_of first rest in
       let inside : last.task < length graph.tasks = last_inside first rest narrow.chain in
-      let start = dates.releases.releases.above first.task first.number (first_inside first rest narrow.chain) in
-      let within = chain_within first rest narrow.chain in
       let has = room.room last.task last.number inside in
       let due = dates.deadlines.deadlines.below last.task last.number inside in
-      let late = narrow.late in
-      omega (arith, ints, start, within, has, due, late)
+      omega (arith, ints, dates.releases.releases.above first.task first.number (first_inside first rest narrow.chain), chain_within first rest narrow.chain, has, due, narrow.late)
 
 -- there is one best
 pub one_best : (graph : TaskGraph) (most : ℕ) (job : Job) (a b : ℤ) → IsBest graph most job a → IsBest graph most job b → a ≡ b
 one_best graph most job a b best other =
-    let up = other.none_above best.attained.0 best.attained.1 best.attained.2 in
-    let down = best.none_above other.attained.0 other.attained.1 other.attained.2 in
-    let here = best.attained.3 in
-    let there = other.attained.3 in
-    omega (arith, ints, up, down, here, there)
+    omega (arith, ints, other.none_above best.attained.0 best.attained.1 best.attained.2, best.none_above other.attained.0 other.attained.1 other.attained.2, best.attained.3, other.attained.3)

@@ -13,9 +13,8 @@ count_below s T until n some h =
     let x : ℕ = until - s + (T - 1) in
     let q : ℕ = x / T in
     let up : (n + 1) * T ≤ q * T = mul-le-mul_right T (let g : n + 1 ≤ q = omega arith in g) in
-    let down : q * T ≤ x = div-mul-le_self x T in
     let e : (n + 1) * T ≡ n * T + T = omega arith in
-    omega (arith, up, down, e)
+    omega (arith, up, div-mul-le_self x T, e)
 
 pub below_count : (s T until n : ℕ) → 1 ≤ T → s + n * T < until → n < (until - s + (T - 1)) / T
 below_count s T until n some h =
@@ -25,8 +24,7 @@ below_count s T until n some h =
       | inl below ↦ below
       | inr above ↦ absurd
           (let over : x < q * T + T = lt-div-mul-add some in
-          let up : q * T ≤ n * T = mul-le-mul_right T above in
-          omega (arith, over, up))
+          omega (arith, over, mul-le-mul_right T above))
     ]
 
 -- a task's horizon jobs are those with a number below their count
@@ -34,8 +32,7 @@ pub IsHorizonJob_count : (graph : TaskGraph) (until i n : ℕ) → i < length gr
     n < job_count (task_at graph i) until → IsHorizonJob graph until i n
 IsHorizonJob_count graph until i n task some h =
     let c = (task_at graph i).clock in
-    let below : c.start + n * c.period < until = count_below c.start c.period until n some h in
-    record { task = task; early = omega (arith, ints, below) }
+    record { task = task; early = omega (arith, ints, count_below c.start c.period until n some h) }
 
 pub job_count_horizon : (graph : TaskGraph) (until i n : ℕ) → 1 ≤ (task_at graph i).clock.period →
     IsHorizonJob graph until i n → n < job_count (task_at graph i) until

@@ -4,7 +4,7 @@ use Rattle.std.specs.Prelude.{ℤ, pos, ◌+ℤ◌, ◌≤ℤ◌, ◌<ℤ◌}
 use Rattle.std.proofs.lemmas.Int.{ints}
 use Rattle.prl_plan.specs.declared.graphs.Edge.{Edge}
 use Rattle.prl_plan.specs.declared.graphs.TaskGraph.{TaskGraph}
-use Rattle.prl_plan.specs.Jobs.{Job, task_at, release_of, deadline_of}
+use Rattle.prl_plan.specs.Jobs.{Job, task_at, release_of}
 use Rattle.prl_plan.specs.Graphs.{IsWellFormed, IsEdge}
 use Rattle.prl_plan.specs.Precedence.{Precedes, PrecedesAlong}
 use Rattle.prl_plan.specs.Dates.{encoded_release, encoded_deadline}
@@ -26,22 +26,15 @@ module _ (plan : PlanView) (is : IsPlan plan) where
   pub next_released : (i : ℕ) (m : ℤ) → i < length plan.graph.tasks →
       encoded_deadline plan.graph plan.windows i m ≤ℤ encoded_release plan.graph plan.windows i (m +ℤ pos 1)
   next_released i m inside =
-      let below : encoded_deadline plan.graph plan.windows i m ≤ℤ deadline_of (task_at plan.graph i) m = is.dates.deadlines.deadlines.below i m inside in
       let above : release_of (task_at plan.graph i) (m +ℤ pos 1) ≤ℤ encoded_release plan.graph plan.windows i (m +ℤ pos 1) = is.dates.releases.releases.above i (m +ℤ pos 1) inside in
-      let due = (task_is plan.graph is.graph i inside).due.1 in
-      let next = plus_mul m 1 (task_at plan.graph i).clock.period in
-      omega (arith, ints, below, above, due, next)
+      omega (arith, ints, is.dates.deadlines.deadlines.below i m inside, above, (task_is plan.graph is.graph i inside).due.1, plus_mul m 1 (task_at plan.graph i).clock.period)
 
   pub release_earlier : (before after : Job) → Precedes plan.graph before after →
       encoded_release plan.graph plan.windows before.task before.number <ℤ encoded_release plan.graph plan.windows after.task after.number
   release_earlier before after precedes =
-      let along = is.dates.releases.releases.along before after precedes in
-      let some = (task_is plan.graph is.graph before.task (both_inside plan.graph is.graph before after precedes).0).wcet.0 in
-      omega (arith, ints, along, some)
+      omega (arith, ints, is.dates.releases.releases.along before after precedes, (task_is plan.graph is.graph before.task (both_inside plan.graph is.graph before after precedes).0).wcet.0)
 
   pub deadline_earlier : (before after : Job) → Precedes plan.graph before after →
       encoded_deadline plan.graph plan.windows before.task before.number <ℤ encoded_deadline plan.graph plan.windows after.task after.number
   deadline_earlier before after precedes =
-      let along = is.dates.deadlines.deadlines.along before after precedes in
-      let some = (task_is plan.graph is.graph after.task (both_inside plan.graph is.graph before after precedes).1).wcet.0 in
-      omega (arith, ints, along, some)
+      omega (arith, ints, is.dates.deadlines.deadlines.along before after precedes, (task_is plan.graph is.graph after.task (both_inside plan.graph is.graph before after precedes).1).wcet.0)

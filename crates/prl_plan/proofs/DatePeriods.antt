@@ -78,9 +78,8 @@ module _ (graph : TaskGraph) (good : IsWellFormed graph) where
   moves_down = record {
     release = λ i m inside.
         (let back : (m +ℤ neg_ℤ (pos (jobs_of i))) +ℤ pos (jobs_of i) ≡ m = omega (arith, ints) in
-        let r = release_shift graph good i (jobs_of i) (jobs_are i inside) (m +ℤ neg_ℤ (pos (jobs_of i))) in
         let s = ap (λ (z : ℤ). release_of (task_at graph i) z) back in
-        omega (arith, ints, r, s));
+        omega (arith, ints, release_shift graph good i (jobs_of i) (jobs_are i inside) (m +ℤ neg_ℤ (pos (jobs_of i))), s));
     precede = λ before after h.
         (let edge : Edge = h.1 in
         let along : PrecedesAlong graph edge before after = h.3 in
@@ -92,8 +91,7 @@ module _ (graph : TaskGraph) (good : IsWellFormed graph) where
         (later_along edge is before.task along.from early) in
         let here : preceding edge.ops after.number ≡ preceding edge.ops early +ℤ pos (jobs_of before.task) =
         ap (λ (z : ℤ). preceding edge.ops z) (sym back) ∙ step in
-        let same : before.number ≡ preceding edge.ops after.number = along.number in
-        (h.0, edge, h.2, record { from = along.from; to = along.to; number = omega (arith, ints, here, same) }));
+        (h.0, edge, h.2, record { from = along.from; to = along.to; number = omega (arith, ints, here, along.number) }));
   }
 
   -- dates that are a hyperperiod later as many jobs later repeat

@@ -6,7 +6,7 @@ use Rattle.std.proofs.lemmas.Int.{ints}
 use Rattle.prl_plan.specs.declared.graphs.Edge.{Edge}
 use Rattle.prl_plan.specs.declared.graphs.TaskGraph.{TaskGraph}
 use Rattle.prl_plan.specs.declared.tables.Window.{Window}
-use Rattle.prl_plan.specs.Jobs.{Job, task_at, deadline_of}
+use Rattle.prl_plan.specs.Jobs.{task_at}
 use Rattle.prl_plan.specs.Graphs.{IsWellFormed, IsEdge}
 use Rattle.prl_plan.specs.Precedence.{preceding, Precedes, PrecedesAlong}
 use Rattle.prl_plan.specs.Dates.{Family, AreReleases, AreLeastReleases, AreEncodedDates, encoded_deadline}
@@ -66,12 +66,11 @@ module _ (graph : TaskGraph) (good : IsWellFormed graph) (date : Family) (is : A
   lower i inside m (suc fuel) y small =
       elim (cases_lt (jobs_of graph good i) y) [
         | inl far ↦
-            (let again = (least_repeat graph good date is).again i (jobs_of graph good i) inside (jobs_are graph good i inside) (m +ℤ pos (y - jobs_of graph good i)) in
-            let some : 1 ≤ jobs_of graph good i = positive (jobs_of graph good i) (task_at graph i).clock.period good.hyper (jobs_are graph good i inside) in
+            (let some : 1 ≤ jobs_of graph good i = positive (jobs_of graph good i) (task_at graph i).clock.period good.hyper (jobs_are graph good i inside) in
             let at : (m +ℤ pos (y - jobs_of graph good i)) +ℤ pos (jobs_of graph good i) ≡ m +ℤ pos y = omega (arith, ints, far) in
             let same = ap (λ (z : ℤ). date i z) at in
             let rest = lower i inside m fuel (y - jobs_of graph good i) (omega (arith, small, far, some)) in
-            omega (arith, ints, again, same, rest))
+            omega (arith, ints, (least_repeat graph good date is).again i (jobs_of graph good i) inside (jobs_are graph good i inside) (m +ℤ pos (y - jobs_of graph good i)), same, rest))
         | inr near ↦ (lowest i m (jobs_of graph good i)).2 y near
       ]
     where
@@ -83,20 +82,15 @@ module _ (graph : TaskGraph) (good : IsWellFormed graph) (date : Family) (is : A
   least_are = record {
     above = λ i m inside.
         (let x : ℕ = (lowest i m (jobs_of graph good i)).0 in
-        let up = is.releases.above i (m +ℤ pos (lowest i m (jobs_of graph good i)).0) inside in
-        let by = plus_mul m (lowest i m (jobs_of graph good i)).0 (task_at graph i).clock.period in
-        omega (arith, ints, up, by));
+        omega (arith, ints, is.releases.above i (m +ℤ pos (lowest i m (jobs_of graph good i)).0) inside, plus_mul m (lowest i m (jobs_of graph good i)).0 (task_at graph i).clock.period));
     along = λ before after precedes.
         (let edge : Edge = precedes.1 in
         let along : PrecedesAlong graph edge before after = precedes.3 in
         let at : IsEdge graph edge = good.edges precedes.0 edge precedes.2 in
         let inside = source_inside graph edge at edge.from refl before.task along.from in
-        let x : ℕ = (lowest after.task after.number (jobs_of graph good after.task)).0 in
         let rises = preceding_rises edge.ty edge.ops at.operators after.number (after.number +ℤ pos (lowest after.task after.number (jobs_of graph good after.task)).0) (omega (arith, ints)) in
         let number = along.number in
         let by = later_by before.number (preceding edge.ops (after.number +ℤ pos (lowest after.task after.number (jobs_of graph good after.task)).0)) (omega (arith, ints, rises, number)) in
-        let later : Job = record { task = before.task; number = before.number +ℤ pos by.0 } in
-        let reader : Job = record { task = after.task; number = after.number +ℤ pos (lowest after.task after.number (jobs_of graph good after.task)).0 } in
         let there : Precedes graph (record { task = before.task; number = before.number +ℤ pos by.0 }) (record { task = after.task; number = after.number +ℤ pos (lowest after.task after.number (jobs_of graph good after.task)).0 }) =
         (precedes.0, edge, precedes.2, record { from = along.from; to = along.to; number = sym by.1 }) in
         let kept = is.releases.along (record { task = before.task; number = before.number +ℤ pos by.0 }) (record { task = after.task; number = after.number +ℤ pos (lowest after.task after.number (jobs_of graph good after.task)).0 }) there in
@@ -107,25 +101,20 @@ module _ (graph : TaskGraph) (good : IsWellFormed graph) (date : Family) (is : A
   pub releases_rise : (i : ℕ) (a b : ℤ) → i < length graph.tasks → a ≤ℤ b → date i a ≤ℤ date i b
   releases_rise i a b inside le =
       let by = later_by a b le in
-      let least = is.least least_from least_are i a inside in
       let low = lower i inside a by.0 by.0 (omega arith) in
       let same = ap (λ (z : ℤ). date i z) by.1 in
-      omega (arith, ints, least, low, same)
+      omega (arith, ints, is.least least_from least_are i a inside, low, same)
 
 module _ (graph : TaskGraph) (good : IsWellFormed graph) (windows : List (List Window)) (dates : AreEncodedDates graph windows) where
   next_deadline : (i : ℕ) (a : ℤ) (y : ℕ) → i < length graph.tasks → encoded_deadline graph windows i a ≤ℤ encoded_deadline graph windows i (a +ℤ pos y)
   next_deadline i a zero inside =
       (let e : a +ℤ pos 0 ≡ a = omega (arith, ints) in let s = ap (λ (z : ℤ). encoded_deadline graph windows i z) e in omega (arith, ints, s))
   next_deadline i a (suc y) inside =
-      let below : encoded_deadline graph windows i a ≤ℤ deadline_of (task_at graph i) a = dates.deadlines.deadlines.below i a inside in
-      let due = (task_is graph good i inside).due.1 in
-      let by = plus_mul a (suc y) (task_at graph i).clock.period in
       let times : suc y * (task_at graph i).clock.period ≡ y * (task_at graph i).clock.period + (task_at graph i).clock.period = omega arith in
-      omega (arith, ints, below, due, by, times)
+      omega (arith, ints, dates.deadlines.deadlines.below i a inside, (task_is graph good i inside).due.1, plus_mul a (suc y) (task_at graph i).clock.period, times)
 
   pub deadlines_rise : (i : ℕ) (a b : ℤ) → i < length graph.tasks → a ≤ℤ b → encoded_deadline graph windows i a ≤ℤ encoded_deadline graph windows i b
   deadlines_rise i a b inside le =
       let by = later_by a b le in
-      let up = next_deadline i a by.0 inside in
       let same = ap (λ (z : ℤ). encoded_deadline graph windows i z) by.1 in
-      omega (arith, ints, up, same)
+      omega (arith, ints, next_deadline i a by.0 inside, same)

@@ -1,5 +1,5 @@
 -- A free list of events from the opening is no longer than the horizon has actions and ticks.
-use Rattle.std.proofs.Common.{◌≡◌, ◌≢◌, ◌+◌, ◌<◌, ◌≤◌, ◌++◌, ℕ, zero, suc, List, [], ◌∷◌, length, length-append, length-set, get_or, set, replicate, refl, sym, ◌∙◌, ap, subst, arith, inl, inr}
+use Rattle.std.proofs.Common.{◌≡◌, ◌≢◌, ◌+◌, ◌<◌, ◌≤◌, ◌++◌, ℕ, zero, suc, List, [], ◌∷◌, length, length-append, length-set, get_or, set, refl, sym, ◌∙◌, ap, subst, arith, inl, inr}
 use Rattle.std.proofs.lemmas.Bool.{cases_lt, cases_eq}
 use Rattle.std.proofs.lemmas.Grind.{get_or-set_at}
 use Rattle.std.proofs.lemmas.List.{get_or-set_other, get_or-replicate, length-replicate}
@@ -58,8 +58,7 @@ sum_grows f g i (suc n) inside grows most = elim (cases_eq n i) [
       omega (arith, a, b))
   | inr other ↦
       (let a = sum_grows f g i n (omega (arith, inside, other)) grows most in
-      let b = most n other in
-      omega (arith, a, b))
+      omega (arith, a, most n other))
 ]
 
 sum_none : (f : ℕ → ℕ) (n : ℕ) → ((k : ℕ) → k < n → f k ≡ 0) → sum_below f n ≡ 0
@@ -96,9 +95,8 @@ module _ (c : RunConstants) (ends : EndsLast c) where
     within = omega arith;
     counted = λ i inside. (let e = zero_at i inside in omega (arith, e));
     inside = λ i inside some.
-        (let e = zero_at i inside in
-        let job : IsJob c i (get_or (opening c).ended i 0) = record { task = inside; job = some } in
-        let l = long i (get_or (opening c).ended i 0) job in omega (arith, e, l));
+        (let job : IsJob c i (get_or (opening c).ended i 0) = record { task = inside; job = some } in
+        let l = long i (get_or (opening c).ended i 0) job in omega (arith, zero_at i inside, l));
     over = λ i inside all. zero_at i inside;
   }
 
@@ -153,10 +151,9 @@ module _ (c : RunConstants) (ends : EndsLast c) where
             let long = ap (λ (n : ℕ). length (c.actions j n)) e in
             elim (cases_eq j i) [
               | inl same ↦
-                  (let m = more none in
-                  let p : get_or t.places j 0 ≡ get_or s.places i 0 + 1 = ap (λ (k : ℕ). get_or t.places k 0) same ∙ here_place in
+                  (let p : get_or t.places j 0 ≡ get_or s.places i 0 + 1 = ap (λ (k : ℕ). get_or t.places k 0) same ∙ here_place in
                   let l : length (c.actions j (get_or t.ended j 0)) ≡ length (c.actions i (get_or s.ended i 0)) = long ∙ ap (λ (k : ℕ). length (c.actions k (get_or s.ended k 0))) same in
-                  omega (arith, m, p, l))
+                  omega (arith, more none, p, l))
               | inr other ↦ (let p = other_place j other in let at = fits.inside j inside below in omega (arith, p, at, long))
             ]);
         over = λ j inside all. (let e = same_ended j in elim (cases_eq j i) [
@@ -217,10 +214,9 @@ module _ (c : RunConstants) (ends : EndsLast c) where
         let sums : sum_below (λ j. actions_before c j (get_or s.ended j 0) + get_or s.places j 0) c.tasks
         < sum_below (λ j. actions_before c j (get_or after_end.ended j 0) + get_or after_end.places j 0) c.tasks =
         sum_grows (λ j. actions_before c j (get_or s.ended j 0) + get_or s.places j 0) (λ j. actions_before c j (get_or after_end.ended j 0) + get_or after_end.places j 0) i c.tasks has.task
-        (let at = fits.inside i has.task has.job in
-        let e : actions_before c i (get_or after_end.ended i 0) ≡ actions_before c i (suc (get_or s.ended i 0)) =
+        (let e : actions_before c i (get_or after_end.ended i 0) ≡ actions_before c i (suc (get_or s.ended i 0)) =
         ap (actions_before c i) (let u = end_ended in let v : get_or after_end.ended i 0 ≡ suc (get_or s.ended i 0) = omega (arith, u) in v) in
-        let p = end_place in omega (arith, e, p, at))
+        let p = end_place in omega (arith, e, p, fits.inside i has.task has.job))
         (λ j ne. let e = ap (actions_before c j) (else_ended j ne) in let p = else_place j ne in omega (arith, e, p)) in
         omega (arith, sums)
 
@@ -256,25 +252,20 @@ module _ (c : RunConstants) (ends : EndsLast c) where
       (let k = fits.counted i inside in
       elim (cases_lt (get_or s.ended i 0) (c.jobs i)) [
         | inl some ↦
-            (let at = fits.inside i inside some in
-            let one = sum_more (λ m. length (c.actions i m)) (suc (get_or s.ended i 0)) (c.jobs i) some in
-            omega (arith, at, one))
+            (let one = sum_more (λ m. length (c.actions i m)) (suc (get_or s.ended i 0)) (c.jobs i) some in
+            omega (arith, fits.inside i inside some, one))
         | inr none ↦
             (let all : get_or s.ended i 0 ≡ c.jobs i = omega (arith, k, none) in
             let p = fits.over i inside all in let e = ap (actions_before c i) all in omega (arith, p, e))
       ]) in
       let sums = sum_most (λ i. actions_before c i (get_or s.ended i 0) + get_or s.places i 0) (λ i. actions_before c i (c.jobs i)) c.tasks each in
-      let w = fits.within in
-      omega (arith, sums, w)
+      omega (arith, sums, fits.within)
 
   -- a free list from the opening has no more events than the horizon
   pub list_is_short : (list : List Event) → IsFree c (opening c) list → length list ≤ all_events c
   list_is_short list free =
       let all = list_counts list (opening c) opening_fits free in
-      let most = fits_within (after_events c (opening c) list) all.0 in
-      let none = opening_has_none in
-      let b = all.1 in
-      omega (arith, b, most, none)
+      omega (arith, all.1, fits_within (after_events c (opening c) list) all.0, opening_has_none)
 
 pub plan_counts_all : (plan : PlanView) (on : Placement) (h : Horizon) → IsHorizon plan h → all_events (constants_on plan on h) ≡ h.events
 plan_counts_all plan on h is = sym is.events

@@ -38,8 +38,7 @@ floor_rest (negsuc n) k some = (
   (let e : k * (n / k) + n % k ≡ n = omega arith in
       let s : k * suc (n / k) ≡ k * (n / k) + k = omega arith in
       let b : n % k < k = omega arith in
-      let z = pos-*ℤ-negsuc k (n / k) in
-      omega (arith, ints, e, s, b, z)),
+      omega (arith, ints, e, s, b, pos-*ℤ-negsuc k (n / k))),
 )
 
 pub floor_least : (n x : ℤ) (k : ℕ) → 1 ≤ k → (x ≤ℤ floor_div n k) ↔ ((pos k *ℤ x) ≤ℤ n)
@@ -49,7 +48,6 @@ floor_least n x k some =
       (λ h. (let g = mono k x q h in omega (arith, ints, g, rest.2))),
       (λ h. by_lt_z q x
           (λ below. (let g : (pos k *ℤ (q +ℤ pos 1)) ≤ℤ (pos k *ℤ x) = mono k (q +ℤ pos 1) x (omega (arith, ints, below)) in
-          let e = mul_next k q in
-          absurd (omega (arith, ints, g, e, h, rest.1, rest.2))))
+          absurd (omega (arith, ints, g, mul_next k q, h, rest.1, rest.2))))
           (λ above. above)),
     )

@@ -21,9 +21,7 @@ module _ (R : ℕ → Type 0) (span : ℕ) (gaps : List ℕ) (some : 1 ≤ span)
       let at : R span = subst R (let e : 0 + span ≡ span = omega arith in e) ((again 0).0 here) in
       let found = lists.all span (omega arith) at in
       let small : sum (take found.0 gaps) ≤ sum gaps = sum_by-take-le (λ y. y) gaps found.0 in
-      let is = found.2 in
-      let w = lists.within in
-      omega (arith, small, is, w)
+      omega (arith, small, found.2, lists.within)
 
   pub some_gaps : 1 ≤ length gaps
   some_gaps = go gaps full
@@ -34,10 +32,8 @@ module _ (R : ℕ → Type 0) (span : ℕ) (gaps : List ℕ) (some : 1 ≤ span)
 
   pub at_pair : (q r : ℕ) → r < length gaps → offset gaps (q * length gaps + r) ≡ q * span + sum (take r gaps)
   at_pair q r inside =
-      let d = div-mul-add q (length gaps) r inside in
-      let m = mod-mul-add q (length gaps) r inside in
-      ap (λ (x : ℕ). x * sum gaps + sum (take ((q * length gaps + r) % length gaps) gaps)) d
-      ∙ ap (λ (x : ℕ). q * sum gaps + sum (take x gaps)) m ∙ ap (λ (x : ℕ). q * x + sum (take r gaps)) full
+      ap (λ (x : ℕ). x * sum gaps + sum (take ((q * length gaps + r) % length gaps) gaps)) (div-mul-add q (length gaps) r inside)
+      ∙ ap (λ (x : ℕ). q * sum gaps + sum (take x gaps)) (mod-mul-add q (length gaps) r inside) ∙ ap (λ (x : ℕ). q * x + sum (take r gaps)) full
 
   pub split : (k : ℕ) → k ≡ k / length gaps * length gaps + k % length gaps
   split k = (let e : length gaps * (k / length gaps) + k % length gaps ≡ k = omega arith in let f : length gaps * (k / length gaps) ≡ k / length gaps * length gaps = omega arith in omega (arith, e, f))
@@ -72,9 +68,7 @@ module _ (R : ℕ → Type 0) (span : ℕ) (gaps : List ℕ) (some : 1 ≤ span)
             (let e : k + 1 ≡ (p + 1) * length gaps + 0 = (let s = split k in let d : (p + 1) * length gaps ≡ p * length gaps + length gaps = omega arith in omega (arith, s, d, below, last)) in
             let a : offset gaps (k + 1) ≡ (p + 1) * span + sum (take 0 gaps) = ap (offset gaps) e ∙ at_pair (p + 1) 0 some_gaps in
             let d : (p + 1) * span ≡ p * span + span = omega arith in
-            let up = sum_all gaps r below in
-            let f = full in
-            omega (arith, a, b, d, up, gap, f))
+            omega (arith, a, b, d, sum_all gaps r below, gap, full))
       ]
 
   up_again : (q x : ℕ) → R x → R (x + q * span)
@@ -105,8 +99,5 @@ module _ (R : ℕ → Type 0) (span : ℕ) (gaps : List ℕ) (some : 1 ≤ span)
       elim (cases_lt low.0 (length gaps)) [
         | inl below ↦ (q * length gaps + low.0, (let a = at_pair q low.0 below in let l = low.2 in omega (arith, a, l, e)))
         | inr above ↦ absurd
-            (let l = whole gaps low.0 above in
-            let at = low.2 in
-            let f = full in
-            omega (arith, l, at, f, small))
+            omega (arith, whole gaps low.0 above, low.2, full, small)
       ]

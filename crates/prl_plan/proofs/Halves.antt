@@ -22,16 +22,14 @@ paired_both xs ys first second k is =
       | inl below ↦
           (let e : get_or (xs ++ ys) k actions.End ≡ get_or xs k actions.End = get_or_append_left xs ys actions.End k below in
           let r = first k (subst (λ (a : Action). IsHigh a) e is) in
-          let at : k ≡ r.0 + 1 = r.1 in
-          (r.0, r.1, get_or_append_left xs ys actions.End r.0 (omega (arith, at, below)) ∙ r.2 ∙ ap (λ (a : Action). low_of a) (sym e)))
+          (r.0, r.1, get_or_append_left xs ys actions.End r.0 (omega (arith, r.1, below)) ∙ r.2 ∙ ap (λ (a : Action). low_of a) (sym e)))
       | inr above ↦
           (let m : ℕ = k - length xs in
           let same : length xs + (k - length xs) ≡ k = omega (arith, above) in
           let e : get_or (xs ++ ys) k actions.End ≡ get_or ys (k - length xs) actions.End =
           subst (λ (x : ℕ). get_or (xs ++ ys) x actions.End ≡ get_or ys (k - length xs) actions.End) same (get_or-append-add xs ys (k - length xs) actions.End) in
           let r = second (k - length xs) (subst (λ (a : Action). IsHigh a) e is) in
-          let at : k - length xs ≡ r.0 + 1 = r.1 in
-          (length xs + r.0, omega (arith, at, above), get_or-append-add xs ys r.0 actions.End ∙ r.2 ∙ ap (λ (a : Action). low_of a) (sym e)))
+          (length xs + r.0, omega (arith, r.1, above), get_or-append-add xs ys r.0 actions.End ∙ r.2 ∙ ap (λ (a : Action). low_of a) (sym e)))
     ]
 
 paired_none : IsPaired []

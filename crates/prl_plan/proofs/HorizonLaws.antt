@@ -135,8 +135,7 @@ module _ (plan : PlanView) (until : ℕ) (good : IsWellFormed plan.graph) where
       above : (end : ℕ) → IsGreatest task_end (length plan.graph.tasks) end → (i n : ℕ) → IsHorizonJob plan.graph until i n → deadline_at plan i n ≤ end
       above end h i n job =
           let lt = job_count_horizon plan.graph until i n (task_period i job.task) job in
-          let own = (greatest (deadline_at plan i) (count i)).1.above n lt in
-          let all = h.above i job.task in omega (arith, own, all)
+          let all = h.above i job.task in omega (arith, (greatest (deadline_at plan i) (count i)).1.above n lt, all)
 
       of_task : (end i : ℕ) → i < length plan.graph.tasks → end ≡ task_end i → (end ≡ 0) ⊎ ((j : ℕ) × (n : ℕ) × IsHorizonJob plan.graph until j n × (end ≡ deadline_at plan j n))
       of_task end i task e = elim (greatest (deadline_at plan i) (count i)).1.attained [

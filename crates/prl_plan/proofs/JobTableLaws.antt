@@ -39,7 +39,6 @@ reads_earlier plan is until table made k row at e i m inside to comes reads =
                 ]
             | inr under ↦
                 (let one : l ≡ k = omega (arith, above, under) in
-                let rows : Some earlier ≡ Some row = sym found.2 ∙ ap (λ (n : ℕ). slice_get table n) one ∙ at in
                 let is_row : earlier ≡ row = cc in
                 let r : release_at plan earlier.task earlier.job ≡ release_at plan row.task row.job = ap (λ (x : TableRow). release_at plan x.task x.job) is_row in
                 omega (arith, r, mine, same))

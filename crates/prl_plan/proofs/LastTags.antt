@@ -64,8 +64,7 @@ module _ (c : RunConstants) (facts : HasPlanFacts c) where
   left_action s tagged left j has (actions.Write e m h) is =
       let inside : j < length s.places = (let l = tagged.places in let t = has.task in omega (arith, l, t)) in
       let writes : WritesAt c j (get_or s.ended j 0) (get_or s.places j 0) m h.0 = record { job = record { task = has.task; job = has.job }; action = (e, is) } in
-      let in_slots : h.0 < c.slots = facts.write_cell j (get_or s.ended j 0) (get_or s.places j 0) m h.0 writes in
-      let in_tags : h.0 < length s.tags = (let l = tagged.tags in omega (arith, l, in_slots)) in
+      let in_tags : h.0 < length s.tags = (let l = tagged.tags in omega (arith, l, facts.write_cell j (get_or s.ended j 0) (get_or s.places j 0) m h.0 writes)) in
       record {
         left = λ i slot writer. moved_left s left j inside (set s.tags h.0 (m + 1)) i slot writer
             (λ at. elim (cases_eq h.0 slot) [
@@ -85,7 +84,6 @@ module _ (c : RunConstants) (facts : HasPlanFacts c) where
               | inl same ↦
                   (let ended : get_or (set s.ended j (get_or s.ended j 0 + 1)) i 0 ≡ get_or s.ended j 0 + 1 = get_or-set_at s.ended j i (get_or s.ended j 0 + 1) 0 same inside in
                   let place : get_or (set s.places j 0) i 0 ≡ 0 = get_or-set_at s.places j i 0 0 same inside_places in
-                  let n : ℕ = get_or s.ended j 0 in
                   let up : get_or s.ended j 0 + 1 ≡ suc (get_or s.ended j 0) = omega arith in
                   let whole : last_in slot (tag_of_jobs c j slot (get_or s.ended j 0)) (c.actions j (get_or s.ended j 0)) ≡ last_tag c j slot (get_or s.ended j 0) (get_or s.places j 0) =
                   last_all slot (tag_of_jobs c j slot (get_or s.ended j 0)) (c.actions j (get_or s.ended j 0)) (get_or s.places j 0)

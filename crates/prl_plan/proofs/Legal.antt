@@ -29,7 +29,6 @@ module _ (c : RunConstants) (facts : HasPlanFacts c) where
       let j : ℕ = before.0 in
       let k : ℕ = before.1 in
       let provides : Provides c m cell i n j k (before.2) = before.3 in
-      let own : m ≡ k = facts.own j k (before.2) m cell provides.writes in
       let early : c.release j k ≤ s.now = (let a : c.release j k < c.release i n = provides.release in let b : c.release i n ≤ s.now = released in omega (arith, a, b)) in
       elim (cases_lt k (get_or s.ended j 0)) [
         | inl ended ↦
@@ -38,9 +37,7 @@ module _ (c : RunConstants) (facts : HasPlanFacts c) where
             (elim (facts.across i n place m j k (before.2) cell reads provides.writes) [
               | inl together ↦
                   (let unfinished : IsUnfinished c s j k = record { task = provides.writes.job.task; job = provides.writes.job.job; unfinished = left } in
-                  let not_after : c.deadline i n ≤ c.deadline j k = first j k together unfinished early in
-                  let earlier : c.deadline j k < c.deadline i n = provides.deadline in
-                  omega (arith, not_after, earlier))
+                  omega (arith, first j k together unfinished early, provides.deadline))
               | inr due ↦
                   (let kept : k < get_or s.ended j 0 = sound.kept j k provides.writes.job (let b : c.release i n ≤ s.now = released in omega (arith, due, b)) in
                   omega (arith, kept, left))

@@ -22,23 +22,15 @@ sum_times : (m n : ℕ) (a : ℤ) → pos (m + n) *ℤ a ≡ (pos m *ℤ a) +ℤ
 sum_times zero n a = (let z = zero-*ℤ a in let e : 0 + n ≡ n = omega arith in ap (λ (k : ℕ). pos k *ℤ a) e ∙ omega (arith, ints, z))
 sum_times (suc m) n a =
     let e : suc m + n ≡ suc (m + n) = omega arith in
-    let g = sum_times m n a in
-    let x = suc_ℤ-*ℤ (pos (m + n)) a in
-    let y = suc_ℤ-*ℤ (pos m) a in
-    ap (λ (k : ℕ). pos k *ℤ a) e ∙ omega (arith, ints, g, x, y)
+    ap (λ (k : ℕ). pos k *ℤ a) e ∙ omega (arith, ints, sum_times m n a, suc_ℤ-*ℤ (pos (m + n)) a, suc_ℤ-*ℤ (pos m) a)
 
 product_times : (k t : ℕ) (a : ℤ) → pos (k * t) *ℤ a ≡ pos k *ℤ (pos t *ℤ a)
 product_times zero t a =
     let e : 0 * t ≡ 0 = omega arith in
-    let y = zero-*ℤ a in
-    let z = zero-*ℤ (pos t *ℤ a) in
-    ap (λ (k : ℕ). pos k *ℤ a) e ∙ omega (arith, ints, y, z)
+    ap (λ (k : ℕ). pos k *ℤ a) e ∙ omega (arith, ints, zero-*ℤ a, zero-*ℤ (pos t *ℤ a))
 product_times (suc k) t a =
     let e : suc k * t ≡ k * t + t = omega arith in
-    let g = product_times k t a in
-    let x = sum_times (k * t) t a in
-    let y = suc_ℤ-*ℤ (pos k) (pos t *ℤ a) in
-    ap (λ (k : ℕ). pos k *ℤ a) e ∙ omega (arith, ints, g, x, y)
+    ap (λ (k : ℕ). pos k *ℤ a) e ∙ omega (arith, ints, product_times k t a, sum_times (k * t) t a, suc_ℤ-*ℤ (pos k) (pos t *ℤ a))
 
 le_self : (a : ℤ) → a ≤ℤ a
 le_self a = omega (arith, ints)
@@ -60,46 +52,37 @@ not_later ty hyper [] are producer consumer takes n =
 not_later ty hyper (operators.Up k ∷ ops) are producer consumer takes n =
     let x : Clock = takes.2.0 in
     let rest = not_later ty hyper ops (λ j o is. are (suc j) o is) producer x takes.2.2 (floor_div n k) in
-    let down = mono consumer.period (pos k *ℤ floor_div n k) n ((floor_least n (floor_div n k) k (are 0 (operators.Up k) refl).0).0 (le_self (floor_div n k))) in
     let p : pos x.period *ℤ floor_div n k ≡ pos consumer.period *ℤ (pos k *ℤ floor_div n k) =
     ap (λ (c : ℕ). pos c *ℤ floor_div n k) (sym takes.2.1.0 ∙ (let e : k * consumer.period ≡ consumer.period * k = omega arith in e))
     ∙ product_times consumer.period k (floor_div n k) in
     let s : consumer.start ≡ x.start = takes.2.1.1 in
-    omega (arith, ints, rest, down, p, s)
+    omega (arith, ints, rest, mono consumer.period (pos k *ℤ floor_div n k) n ((floor_least n (floor_div n k) k (are 0 (operators.Up k) refl).0).0 (le_self (floor_div n k))), p, s)
 not_later ty hyper (operators.Down k ∷ ops) are producer consumer takes n =
     let x : Clock = takes.2.0 in
     let rest = not_later ty hyper ops (λ j o is. are (suc j) o is) producer x takes.2.2 (pos k *ℤ n) in
     let p : pos consumer.period *ℤ n ≡ pos x.period *ℤ (pos k *ℤ n) =
     ap (λ (c : ℕ). pos c *ℤ n) (takes.2.1.0 ∙ (let e : k * x.period ≡ x.period * k = omega arith in e)) ∙ product_times x.period k n in
-    let s : consumer.start ≡ x.start = takes.2.1.1 in
-    omega (arith, ints, rest, p, s)
+    omega (arith, ints, rest, p, takes.2.1.1)
 not_later ty hyper (operators.Shift q ∷ ops) are producer consumer takes n =
     let x : Clock = takes.2.0 in
     let rest = not_later ty hyper ops (λ j o is. are (suc j) o is) producer x takes.2.2 n in
     let p : pos consumer.period *ℤ n ≡ pos x.period *ℤ n = ap (λ (c : ℕ). pos c *ℤ n) takes.2.1.0 in
-    let s : x.start ≤ consumer.start = shift_later q.den x.start consumer.start (nat_abs q.num * x.period) (are 0 (operators.Shift q) refl).0 takes.2.1.1 in
-    omega (arith, ints, rest, p, s)
+    omega (arith, ints, rest, p, shift_later q.den x.start consumer.start (nat_abs q.num * x.period) (are 0 (operators.Shift q) refl).0 takes.2.1.1)
 not_later ty hyper (operators.Tail ∷ ops) are producer consumer takes n =
     let x : Clock = takes.2.0 in
     let rest = not_later ty hyper ops (λ j o is. are (suc j) o is) producer x takes.2.2 (suc_ℤ n) in
     let p : pos consumer.period *ℤ n ≡ pos x.period *ℤ n = ap (λ (c : ℕ). pos c *ℤ n) takes.2.1.0 in
-    let e = times_next x.period n in
-    let s : consumer.start ≡ x.start + x.period = takes.2.1.1 in
-    omega (arith, ints, rest, p, e, s)
+    omega (arith, ints, rest, p, times_next x.period n, takes.2.1.1)
 not_later ty hyper (operators.Cons c ∷ ops) are producer consumer takes n =
     let x : Clock = takes.2.0 in
     let rest = not_later ty hyper ops (λ j o is. are (suc j) o is) producer x takes.2.2 (pred_ℤ n) in
     let p : pos consumer.period *ℤ n ≡ pos x.period *ℤ n = ap (λ (c : ℕ). pos c *ℤ n) takes.2.1.0 in
-    let e = times_before x.period n in
-    let s : consumer.start + x.period ≡ x.start = takes.2.1.1 in
-    omega (arith, ints, rest, p, e, s)
+    omega (arith, ints, rest, p, times_before x.period n, takes.2.1.1)
 not_later ty hyper (operators.Fby c ∷ ops) are producer consumer takes n =
     let x : Clock = takes.2.0 in
     let rest = not_later ty hyper ops (λ j o is. are (suc j) o is) producer x takes.2.2 (pred_ℤ n) in
     let p : pos consumer.period *ℤ n ≡ pos x.period *ℤ n = ap (λ (c : ℕ). pos c *ℤ n) takes.2.1.0 in
-    let e = times_before x.period n in
-    let s : consumer.start ≡ x.start = takes.2.1.1 in
-    omega (arith, ints, rest, p, e, s)
+    omega (arith, ints, rest, p, times_before x.period n, takes.2.1.1)
 
 -- a job that precedes another is not released later
 pub released_first : (graph : TaskGraph) → IsWellFormed graph → (before after : Job) → Precedes graph before after →
@@ -113,8 +96,6 @@ released_first graph good before after h =
     let n : ℤ = after.number in
     let takes : TakeClock graph.hyper edge.ops first second =
     subst (λ (i : ℕ). TakeClock graph.hyper edge.ops first (task_at graph i).clock) along.to (edge_takes graph edge is before.task along.from) in
-    let rest = not_later edge.ty graph.hyper edge.ops is.operators first second takes n in
     let same : before.number ≡ preceding edge.ops n = along.number in
     let a : before.number *ℤ pos first.period ≡ pos first.period *ℤ preceding edge.ops n = *ℤ_comm before.number (pos first.period) ∙ ap (λ (z : ℤ). pos first.period *ℤ z) same in
-    let b : n *ℤ pos second.period ≡ pos second.period *ℤ n = *ℤ_comm n (pos second.period) in
-    omega (arith, ints, rest, a, b)
+    omega (arith, ints, not_later edge.ty graph.hyper edge.ops is.operators first second takes n, a, *ℤ_comm n (pos second.period))

@@ -25,7 +25,6 @@ words_are_one graph a b of_a of_b =
     ext_get_or (record { prefix = []; repeat = []; step_in = 0; step_out = 0 }) a b (of_a.long ∙ sym of_b.long)
     (λ e below.
     (let inside : e < length graph.edges = omega (arith, below, of_a.long) in
-    let edge : Edge = edge_at graph e in
     let found : slice_get graph.edges e ≡ Some (edge_at graph e) = slice_get-get_or graph.edges e no_edge inside in
     let x = of_a.each e (edge_at graph e) found in
     let y = of_b.each e (edge_at graph e) found in
@@ -43,11 +42,10 @@ window_is a b l t =
 module _ (graph : TaskGraph) (a b : List (List Window)) (of_a : AreEncodedDates graph a) (of_b : AreEncodedDates graph b) where
   same_window : (i : ℕ) (m : ℤ) → i < length graph.tasks → window_at a i m ≡ window_at b i m
   same_window i m inside =
-      let r_ab = of_a.releases.least (encoded_release graph b) of_b.releases.releases i m inside in
       let r_ba = of_b.releases.least (encoded_release graph a) of_a.releases.releases i m inside in
       let d_ab = of_a.deadlines.greatest (encoded_deadline graph b) of_b.deadlines.deadlines i m inside in
       let d_ba = of_b.deadlines.greatest (encoded_deadline graph a) of_a.deadlines.deadlines i m inside in
-      window_is (window_at a i m) (window_at b i m) (omega (arith, ints, r_ab, r_ba)) (omega (arith, ints, d_ab, d_ba))
+      window_is (window_at a i m) (window_at b i m) (omega (arith, ints, of_a.releases.least (encoded_release graph b) of_b.releases.releases i m inside, r_ba)) (omega (arith, ints, d_ab, d_ba))
 
   same_list : AreShortWindows a → AreShortWindows b → (i : ℕ) → i < length graph.tasks → slice_index_or a i [] ≡ slice_index_or b i []
   same_list short_a short_b i inside =
@@ -77,9 +75,7 @@ same_cells edge (producers.Constant value) release deadline before base count be
 same_cells edge (producers.Port task out) release deadline before base count before' base' count' used used' a b short short' =
     let same : used ≡ used' = one_used edge used used' a.1 b.1 short short' in
     let of_b : IsLeastCount edge task.0 release deadline used count' = subst (λ (u : Used). IsLeastCount edge task.0 release deadline u count') (sym same) b.2 in
-    let down = a.2.least count' of_b.some of_b.fits in
-    let up = of_b.least count a.2.some a.2.fits in
-    (omega (arith, down, up), same, (λ h. a.0 ∙ h ∙ sym b.0))
+    (omega (arith, a.2.least count' of_b.some of_b.fits, of_b.least count a.2.some a.2.fits), same, (λ h. a.0 ∙ h ∙ sym b.0))
 
 plan_is : (a b : PlanView) → a.graph ≡ b.graph → a.words ≡ b.words → a.windows ≡ b.windows → a.bases ≡ b.bases → a.counts ≡ b.counts → a.used ≡ b.used → a ≡ b
 plan_is a b g w d s c u =

@@ -35,13 +35,12 @@ floor_shift n k c some =
     let q : ℤ = floor_div n k in
     let p : ℤ = floor_div (n +ℤ pos (k * c)) k in
     let a : (pos k *ℤ q) ≤ℤ n = (floor_least n q k some).0 (le_self q) in
-    let b : (pos k *ℤ p) ≤ℤ (n +ℤ pos (k * c)) = (floor_least (n +ℤ pos (k * c)) p k some).0 (le_self p) in
     let up : (q +ℤ pos c) ≤ℤ p = (floor_least (n +ℤ pos (k * c)) (q +ℤ pos c) k some).1 (let g = mul_plus k c q in omega (arith, ints, a, g)) in
     let back : (p -ℤ pos c) +ℤ pos c ≡ p = omega (arith, ints) in
     let down : (p -ℤ pos c) ≤ℤ q =
     (floor_least n (p -ℤ pos c) k some).1
     (let g : pos k *ℤ p ≡ (pos k *ℤ (p -ℤ pos c)) +ℤ pos (k * c) = ap (λ (z : ℤ). pos k *ℤ z) (sym back) ∙ mul_plus k c (p -ℤ pos c) in
-    omega (arith, ints, b, g)) in
+    omega (arith, ints, (floor_least (n +ℤ pos (k * c)) p k some).0 (le_self p), g)) in
     omega (arith, ints, up, down)
 
 pub cancel_right : (a b p : ℕ) → 1 ≤ p → a * p ≡ b * p → a ≡ b

@@ -29,18 +29,13 @@ module _ (edge : Edge) (used : Used) (all : EnumeratesUsed edge used) where
 
   pub some_sum : 1 ≤ sum used.gaps
   some_sum =
-      let below = mod_below 0 (length used.gaps) some in
-      let next = next_gap used some 0 in
       let up = rising_to edge used all (0 + 1) 0 (omega arith) in
-      let least = sum_all used.gaps (0 % length used.gaps) below in
-      omega (arith, next, up, least)
+      omega (arith, next_gap used some 0, up, sum_all used.gaps (0 % length used.gaps) (mod_below 0 (length used.gaps) some))
 
   at_place : (q r : ℕ) → r < length used.gaps → used_at used (q * length used.gaps + r) ≡ used.first + q * sum used.gaps + sum (take r used.gaps)
   at_place q r below =
-      let d = div-mul-add q (length used.gaps) r below in
-      let m = mod-mul-add q (length used.gaps) r below in
-      ap (λ (x : ℕ). used.first + x * sum used.gaps + sum (take ((q * length used.gaps + r) % length used.gaps) used.gaps)) d
-      ∙ ap (λ (x : ℕ). used.first + q * sum used.gaps + sum (take x used.gaps)) m
+      ap (λ (x : ℕ). used.first + x * sum used.gaps + sum (take ((q * length used.gaps + r) % length used.gaps) used.gaps)) (div-mul-add q (length used.gaps) r below)
+      ∙ ap (λ (x : ℕ). used.first + q * sum used.gaps + sum (take x used.gaps)) (mod-mul-add q (length used.gaps) r below)
 
   not_below : (j k : ℕ) → j ≤ k → used_at used j ≤ used_at used k
   not_below j k order =
@@ -63,13 +58,12 @@ module _ (edge : Edge) (used : Used) (all : EnumeratesUsed edge used) where
       m < used.first + q * sum used.gaps + sum (take (r + 1) used.gaps) → place_of used m ≡ None
   place_between m q r below low high =
       let a = at_place q r below in
-      let next = next_gap used some (q * length used.gaps + r) in
       let part = mod-mul-add q (length used.gaps) r below in
       let gap : get_or used.gaps ((q * length used.gaps + r) % length used.gaps) 0 ≡ get_or used.gaps r 0 = ap (λ (x : ℕ). get_or used.gaps x 0) part in
       let more = sum_by_more (λ (y : ℕ). y) used.gaps r 0 below in
       no_place used m (λ k is.
       elim (cases_lt (q * length used.gaps + r) k) [
-        | inl later ↦ (let b = not_below (q * length used.gaps + r + 1) k (omega (arith, later)) in omega (arith, a, next, gap, more, b, is, high))
+        | inl later ↦ (let b = not_below (q * length used.gaps + r + 1) k (omega (arith, later)) in omega (arith, a, next_gap used some (q * length used.gaps + r), gap, more, b, is, high))
         | inr before ↦ (let b = not_below k (q * length used.gaps + r) before in omega (arith, a, b, is, low))
       ])
 
@@ -78,11 +72,9 @@ module _ (edge : Edge) (used : Used) (all : EnumeratesUsed edge used) where
       x < used.first + q * sum used.gaps + sum (take (r + 1) used.gaps) → CountsUsed used (x + 1) (q * length used.gaps + r + 1) × (q * length used.gaps + r ≤ x)
   counts_at x q r below low high =
       let a = at_place q r below in
-      let next = next_gap used some (q * length used.gaps + r) in
       let part = mod-mul-add q (length used.gaps) r below in
       let gap : get_or used.gaps ((q * length used.gaps + r) % length used.gaps) 0 ≡ get_or used.gaps r 0 = ap (λ (y : ℕ). get_or used.gaps y 0) part in
       let more = sum_by_more (λ (y : ℕ). y) used.gaps r 0 below in
-      let least = at_least edge used all (q * length used.gaps + r) in
       let long = some in (
         record {
           none = λ zero_gaps. absurd (omega (arith, zero_gaps, long));
@@ -91,21 +83,12 @@ module _ (edge : Edge) (used : Used) (all : EnumeratesUsed edge used) where
             (λ early.
                 elim (cases_lt k (q * length used.gaps + r + 1)) [
                   | inl inside ↦ inside
-                  | inr past ↦ absurd (let up = not_below (q * length used.gaps + r + 1) k past in omega (arith, up, a, next, gap, more, high, early))
+                  | inr past ↦ absurd (let up = not_below (q * length used.gaps + r + 1) k past in omega (arith, up, a, next_gap used some (q * length used.gaps + r), gap, more, high, early))
                 ]),
           );
         },
-        omega (arith, least, a, low),
+        omega (arith, at_least edge used all (q * length used.gaps + r), a, low),
       )
-
-  pub counts_none : (m : ℕ) → m ≤ used.first → CountsUsed used m 0
-  counts_none m less = record {
-    none = λ _. refl;
-    below = λ _ k. (
-      (λ inside. absurd (omega (arith, inside))),
-      (λ early. absurd (let a = first_number used some in let b = not_below 0 k (omega arith) in omega (arith, a, b, early, less))),
-    );
-  }
 
 pub enumerated : (used : Used) (gaps : ℕ) → IsOrdered used → gaps ≡ length used.gaps → (gaps ≡ 0 → ⊥) → (edge : Edge) × EnumeratesUsed edge used
 enumerated used gaps is long some = elim is.order [
@@ -154,8 +137,7 @@ module _ (used : Used) (m gaps total : ℕ) (k : Known used m gaps total) where
       let n = number (sum (take last used.gaps)) (sym is) in
       let g : (m - used.first) / total * gaps + last ≡ (m - used.first) / total * length used.gaps + last = ap (λ (x : ℕ). (m - used.first) / total * x + last) k.long in
       let p = place_at k.edge used k.all m ((m - used.first) / total) last below n in
-      let small = place_small k.edge used k.all m ((m - used.first) / total) last below n in
-      (ap (λ (x : ℕ). Some x) g ∙ sym p, omega (arith, g, small))
+      (ap (λ (x : ℕ). Some x) g ∙ sym p, omega (arith, g, place_small k.edge used k.all m ((m - used.first) / total) last below n))
 
   pub is_not : (last : ℕ) → last < length used.gaps → (sum (take last used.gaps) ≡ (m - used.first) % total → ⊥) → sum (take last used.gaps) ≤ (m - used.first) % total →
       (m - used.first) % total < sum (take (last + 1) used.gaps) → ◌≡◌ {A = Option ℕ} None (place_of used m)

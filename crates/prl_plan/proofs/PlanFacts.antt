@@ -20,7 +20,7 @@ use Rattle.prl_plan.specs.Operands.{walk, operand_of}
 use Rattle.prl_plan.specs.Precedence.{ComesFrom, Precedes}
 use Rattle.prl_plan.specs.Graphs.{IsWellFormed, IsTask, IsEdge}
 use Rattle.prl_plan.specs.Dates.{encoded_release, encoded_deadline}
-use Rattle.prl_plan.specs.Cells.{HasCells, EnumeratesUsed, IsLeastCount, used_at, no_used}
+use Rattle.prl_plan.specs.Cells.{EnumeratesUsed, IsLeastCount, used_at, no_used}
 use Rattle.prl_plan.specs.Plans.{PlanView, IsPlan, edge_at, no_edge, release_at, deadline_at, place_on, cell_of, IsHalfOf, actions_of, IsActionOf}
 use Rattle.prl_plan.specs.Facts.{ReadsAt, WritesAt, Provides, HasPlanFacts}
 use Rattle.prl_plan.specs.Horizons.{IsHorizon, constants_of}
@@ -31,6 +31,7 @@ use Rattle.prl_plan.proofs.Actions.{actions_fit}
 use Rattle.prl_plan.proofs.Halves.{actions_paired}
 use Rattle.prl_plan.proofs.ActionPlaces.{WritesTo, Stands, once_on, ends_last, write_stands, half_stands, length_actions}
 use Rattle.prl_plan.proofs.Counts.{count_below, below_count, IsHorizonJob_count, job_count_horizon}
+use Rattle.prl_plan.proofs.PlanParts.{cells_from}
 use Rattle.prl_plan.proofs.RoundLaws.{source_inside}
 use Rattle.prl_plan.proofs.UsedLaws.{sum_up_to, sum_all, rising_to, place_found, place_stands}
 use Rattle.prl_plan.proofs.WalkLaws.{walk_preceding, operand_walks, edge_back}
@@ -47,8 +48,7 @@ operand_job graph good until e i n m inside comes job walks =
     let there : IsTask graph.hyper (task_at graph edge.to.0) =
     good.tasks edge.to.0 (task_at graph edge.to.0) (slice_get-get_or graph.tasks edge.to.0 no_task fact.to) in
     let late = count_below (task_at graph edge.to.0).clock.start (task_at graph edge.to.0).clock.period until n there.period.0 job in
-    let back = edge_back graph edge fact i comes n m walks in
-    (task, below_count (task_at graph i).clock.start (task_at graph i).clock.period until m here.period.0 (omega (arith, late, back)))
+    (task, below_count (task_at graph i).clock.start (task_at graph i).clock.period until m here.period.0 (omega (arith, late, edge_back graph edge fact i comes n m walks)))
 
 pub operand_horizon : (graph : TaskGraph) → IsWellFormed graph → (until e i n m : ℕ) → e < length graph.edges → ComesFrom (edge_at graph e).from i →
     IsHorizonJob graph until (edge_at graph e).to.0 n → operand_of (edge_at graph e) n ≡ operands.From m → IsHorizonJob graph until i m
@@ -105,10 +105,9 @@ module _ (plan : PlanView) (is : IsPlan plan) where
       let t = task_at plan.graph i in
       let below : encoded_deadline plan.graph plan.windows i (pos m) ≤ℤ deadline_of (task_at plan.graph i) (pos m) =
       is.dates.deadlines.deadlines.below i (pos m) inside in
-      let due : t.due ≤ t.clock.period = (task_fact i inside).due.1 in
       let up : (m + 1) * t.clock.period ≤ n * t.clock.period = mul-le-mul_right t.clock.period (let g : m + 1 ≤ n = omega arith in g) in
       let e : (m + 1) * t.clock.period ≡ m * t.clock.period + t.clock.period = omega arith in
-      omega (arith, ints, below, due, up, e)
+      omega (arith, ints, below, (task_fact i inside).due.1, up, e)
 
   -- a later job is not released earlier
   pub later_at : (i m n : ℕ) → i < length plan.graph.tasks → m ≤ n → release_at plan i m ≤ release_at plan i n
@@ -129,9 +128,8 @@ module _ (plan : PlanView) (is : IsPlan plan) where
       (e, edge, edge_stands e inside, record { from = comes; to = refl; number = sym (walk_preceding edge.ops n m walks) }) in
       let first : 1 ≤ (task_at plan.graph i).wcet = (task_fact i task).wcet.0 in
       let second : 1 ≤ (task_at plan.graph edge.to.0).wcet = (task_fact edge.to.0 fact.to).wcet.0 in
-      let r = is.dates.releases.releases.along (record { task = i; number = pos m }) (record { task = edge.to.0; number = pos n }) precedes in
       let d = is.dates.deadlines.deadlines.along (record { task = i; number = pos m }) (record { task = edge.to.0; number = pos n }) precedes in
-      (omega (arith, ints, first, r), omega (arith, ints, second, d))
+      (omega (arith, ints, first, is.dates.releases.releases.along (record { task = i; number = pos m }) (record { task = edge.to.0; number = pos n }) precedes), omega (arith, ints, second, d))
 
   -- what is known of the cells of an edge from a task
   cells_of_edge : (e i : ℕ) → e < length plan.graph.edges → ComesFrom (edge_at plan.graph e).from i →
@@ -146,11 +144,7 @@ module _ (plan : PlanView) (is : IsPlan plan) where
           (slice_index_or plan.used e no_used) (slice_index plan.counts e)
       go (producers.Constant value) from = absurd (subst (λ (f : Producer). ComesFrom f i) from comes)
       go (producers.Port task out) from =
-          let has : HasCells (edge_at plan.graph e) (producers.Port task out) (encoded_release plan.graph plan.windows) (encoded_deadline plan.graph plan.windows)
-          (sum (take e plan.counts)) (slice_index plan.bases e) (slice_index plan.counts e) (slice_index_or plan.used e no_used) =
-          subst (λ (f : Producer). HasCells (edge_at plan.graph e) f (encoded_release plan.graph plan.windows) (encoded_deadline plan.graph plan.windows)
-          (sum (take e plan.counts)) (slice_index plan.bases e) (slice_index plan.counts e) (slice_index_or plan.used e no_used)) from
-          (is.cells.cells e (edge_at plan.graph e) (edge_stands e inside)) in
+          let has = cells_from plan is e inside (producers.Port task out) from in
           let at : task.0 ≡ i = subst (λ (f : Producer). ComesFrom f i) from comes in (
             has.0,
             has.1,
@@ -158,32 +152,30 @@ module _ (plan : PlanView) (is : IsPlan plan) where
                 (slice_index_or plan.used e no_used) (slice_index plan.counts e)) at has.2,
           )
 
+  -- the cell of an instance that has a place
+  cell_at : (e m k : ℕ) → place_on plan e m ≡ Some k → cell_of plan e m ≡ slice_index plan.bases e + k % slice_index plan.counts e
+  cell_at e m k at = ap (λ (o : Option ℕ). slice_index plan.bases e + unwrap_or o 0 % slice_index plan.counts e) at
+
   cell_range : (e i m : ℕ) → e < length plan.graph.edges → ComesFrom (edge_at plan.graph e).from i →
       (sum (take e plan.counts) ≤ cell_of plan e m) × (cell_of plan e m < sum (take e plan.counts) + slice_index plan.counts e)
   cell_range e i m inside comes =
       let c = cells_of_edge e i inside comes in
       let base : slice_index plan.bases e ≡ sum (take e plan.counts) = c.0 in
-      let some : 1 ≤ slice_index plan.counts e = c.2.some in
       let small : unwrap_or (place_on plan e m) 0 % slice_index plan.counts e < slice_index plan.counts e =
-      mod-lt (unwrap_or (place_on plan e m) 0) (omega (arith, some)) in
+      mod-lt (unwrap_or (place_on plan e m) 0) (omega (arith, c.2.some)) in
       (omega (arith, base), omega (arith, base, small))
 
   within_cells : (e i m : ℕ) → e < length plan.graph.edges → ComesFrom (edge_at plan.graph e).from i → cell_of plan e m < sum plan.counts
   within_cells e i m inside comes =
-      let r = cell_range e i m inside comes in
-      let l : length plan.counts ≡ length plan.graph.edges = is.cells.lengths.1 in
-      let s = sum_all plan.counts e (omega (arith, l, inside)) in
-      omega (arith, r.1, s)
+      let s = sum_all plan.counts e (omega (arith, is.cells.lengths.1, inside)) in
+      omega (arith, (cell_range e i m inside comes).1, s)
 
   -- the cells of two edges are apart
   before_edge : (e f i j m l : ℕ) → e < length plan.graph.edges → f < length plan.graph.edges → ComesFrom (edge_at plan.graph e).from i →
       ComesFrom (edge_at plan.graph f).from j → e < f → cell_of plan e m < cell_of plan f l
   before_edge e f i j m l in_e in_f from_e from_f before =
-      let r = cell_range e i m in_e from_e in
-      let s = cell_range f j l in_f from_f in
-      let l : length plan.counts ≡ length plan.graph.edges = is.cells.lengths.1 in
-      let up = sum_up_to plan.counts e f before (omega (arith, l, in_e)) in
-      omega (arith, r.1, s.0, up)
+      let up = sum_up_to plan.counts e f before (omega (arith, is.cells.lengths.1, in_e)) in
+      omega (arith, (cell_range e i m in_e from_e).1, (cell_range f j l in_f from_f).0, up)
 
   same_edge : (e f i j m l : ℕ) → e < length plan.graph.edges → f < length plan.graph.edges → ComesFrom (edge_at plan.graph e).from i →
       ComesFrom (edge_at plan.graph f).from j → cell_of plan e m ≡ cell_of plan f l → e ≡ f
@@ -219,17 +211,15 @@ module _ (plan : PlanView) (is : IsPlan plan) where
                   let f : m ≡ l = sym at_a ∙ ap (λ (x : ℕ). used_at u x) one ∙ at_b in omega (arith, f, before))
             ])
       ] in
-      let far : a + count ≤ b = mod_apart a b count order same in
       let next : used_at u (a + count) ≤ l =
       elim (cases_lt (a + count) b) [
         | inl below ↦ (let up = rising_to edge u c.1 b (a + count) below in omega (arith, up, at_b))
         | inr above ↦
-            (let one : a + count ≡ b = omega (arith, far, above) in
+            (let one : a + count ≡ b = omega (arith, mod_apart a b count order same, above) in
             let f : used_at u (a + count) ≡ l = ap (λ (x : ℕ). used_at u x) one ∙ at_b in omega (arith, f))
       ] in
       let fits = c.2.fits a k (subst (λ (x : ℕ). operand_of (edge_at plan.graph e) k ≡ operands.From x) (sym at_a) reads) in
-      let late = later_at i (used_at u (a + count)) l task next in
-      omega (arith, ints, fits, late)
+      omega (arith, ints, fits, later_at i (used_at u (a + count)) l task next)
 
   -- instances in one cell take turns
   pub turns_are_taken : (e i l m k : ℕ) → e < length plan.graph.edges → ComesFrom (edge_at plan.graph e).from i →
@@ -239,12 +229,8 @@ module _ (plan : PlanView) (is : IsPlan plan) where
     where
       turns : (o p : Option ℕ) → place_on plan e l ≡ o → place_on plan e m ≡ p → deadline_at plan (edge_at plan.graph e).to.0 k ≤ release_at plan i m
       turns (Some a) (Some b) at_l at_m =
-          let one : cell_of plan e l ≡ slice_index plan.bases e + a % slice_index plan.counts e =
-          ap (λ (o : Option ℕ). slice_index plan.bases e + unwrap_or o 0 % slice_index plan.counts e) at_l in
-          let two : cell_of plan e m ≡ slice_index plan.bases e + b % slice_index plan.counts e =
-          ap (λ (o : Option ℕ). slice_index plan.bases e + unwrap_or o 0 % slice_index plan.counts e) at_m in
           over_at e i k l m inside comes operand a b (place_stands (slice_index_or plan.used e no_used) l a at_l) (place_stands (slice_index_or plan.used e no_used) m b at_m)
-          (omega (arith, one, two, same)) before
+          (omega (arith, cell_at e l a at_l, cell_at e m b at_m, same)) before
       turns None p at_l at_m = absurd (let z : ◌≡◌ {A = Bool} false true = subst (λ (o : Option ℕ). IsSome o) at_l first in cc)
       turns (Some a) None at_l at_m = absurd (let z : ◌≡◌ {A = Bool} false true = subst (λ (o : Option ℕ). IsSome o) at_m second in cc)
 
@@ -287,10 +273,9 @@ module _ (plan : PlanView) (is : IsPlan plan) (h : Horizon) (horizon : IsHorizon
 
   one_writer : (i n place m j k other l cell : ℕ) → WritesAt (constants_of plan h) i n place m cell → WritesAt (constants_of plan h) j k other l cell → i ≡ j
   one_writer i n place m j k other l cell first second =
-      let a = write_fits i n place m cell first in
       let b = write_fits j k other l cell second in
       let e = one_edge i n place m j k other l cell first second in
-      comes_one (edge_at plan.graph second.action.0.0).from i j (subst (λ (x : ℕ). ComesFrom (edge_at plan.graph x).from i) e a.1) b.1
+      comes_one (edge_at plan.graph second.action.0.0).from i j (subst (λ (x : ℕ). ComesFrom (edge_at plan.graph x).from i) e (write_fits i n place m cell first).1) b.1
 
   one_place : (i n place m other l cell : ℕ) → WritesAt (constants_of plan h) i n place m cell → WritesAt (constants_of plan h) i n other l cell → place ≡ other
   one_place i n place m other l cell first second =
@@ -345,11 +330,7 @@ module _ (plan : PlanView) (is : IsPlan plan) (h : Horizon) (horizon : IsHorizon
       let a = c.1.all m (k, operand) in
       let at : place_on plan e m ≡ Some a.0 = place_found (edge_at plan.graph e) (slice_index_or plan.used e no_used) c.1 m a.0 a.1 in
       some_place (place_on plan e n) refl w.3 (λ b at_b.
-      let first : cell_of plan e m ≡ slice_index plan.bases e + a.0 % slice_index plan.counts e =
-      ap (λ (o : Option ℕ). slice_index plan.bases e + unwrap_or o 0 % slice_index plan.counts e) at in
-      let second : cell_of plan e n ≡ slice_index plan.bases e + b % slice_index plan.counts e =
-      ap (λ (o : Option ℕ). slice_index plan.bases e + unwrap_or o 0 % slice_index plan.counts e) at_b in
-      let equal : a.0 % slice_index plan.counts e ≡ b % slice_index plan.counts e = omega (arith, first, second, read_cell) in
+      let equal : a.0 % slice_index plan.counts e ≡ b % slice_index plan.counts e = omega (arith, cell_at plan is e m a.0 at, cell_at plan is e n b at_b, read_cell) in
       let over = over_at plan is e i k m n w.0 w.1 operand a.0 b a.1 (place_stands (slice_index_or plan.used e no_used) n b at_b) equal
       (let own : l ≡ n = w.2 in omega (arith, own, before)) in
       subst (λ (x : ℕ). deadline_at plan x k ≤ release_at plan i n) to over)
@@ -359,17 +340,12 @@ module _ (plan : PlanView) (is : IsPlan plan) (h : Horizon) (horizon : IsHorizon
       some_place (Some b) at some then = then b at
       some_place None at some then = absurd (let e : ◌≡◌ {A = Bool} false true = subst (λ (o : Option ℕ). IsSome o) at some in cc)
 
-  positive_at : (i n : ℕ) → i < length plan.graph.tasks → 1 ≤ deadline_at plan i n
-  positive_at i n inside =
-      let r = room_at plan is i n inside in
-      let w : 1 ≤ (task_at plan.graph i).wcet = (task_fact plan is i inside).wcet.0 in
-      omega (arith, r, w)
-
   window_of_job : (i n : ℕ) → i < length plan.graph.tasks → release_at plan i n < deadline_at plan i n
   window_of_job i n inside =
-      let r = room_at plan is i n inside in
-      let w : 1 ≤ (task_at plan.graph i).wcet = (task_fact plan is i inside).wcet.0 in
-      omega (arith, r, w)
+      omega (arith, room_at plan is i n inside, (task_fact plan is i inside).wcet.0)
+
+  positive_at : (i n : ℕ) → i < length plan.graph.tasks → 1 ≤ deadline_at plan i n
+  positive_at i n inside = omega (arith, window_of_job i n inside)
 
   edge_no : (a b : EdgeNo) → a.0 ≡ b.0 → a ≡ b
   edge_no a b same = ap (λ (x : ℕ). (let e : EdgeNo = record { 0 = x } in e)) same

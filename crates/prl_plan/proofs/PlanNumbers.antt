@@ -1,6 +1,6 @@
 -- The numbers of a graph and of its plans fit.
 use Rattle.std.proofs.Common.{◌≡◌, ◌+◌, ◌*◌, ◌<◌, ◌≤◌, ◌^◌, ℕ, List, [], ◌∷◌, length, subst, arith}
-use Rattle.std.specs.Prelude.{ℤ, pos, ◌≤ℤ◌}
+use Rattle.std.specs.Prelude.{ℤ, pos}
 use Rattle.std.proofs.Math.Nat.{mul-le-mul_left}
 use Rattle.std.proofs.lemmas.Int.{ints}
 use Rattle.std.proofs.lemmas.Option.{slice_get-get_or}
@@ -10,10 +10,10 @@ use Rattle.prl_plan.specs.declared.graphs.Edge.{Edge}
 use Rattle.prl_plan.specs.declared.graphs.TaskGraph.{TaskGraph}
 use Rattle.prl_plan.specs.declared.tables.Window.{Window}
 use Rattle.prl_plan.specs.declared.walks.Operand.TheVariants as operands
-use Rattle.prl_plan.specs.Jobs.{task_at, deadline_of, IsHorizonJob}
+use Rattle.prl_plan.specs.Jobs.{task_at, IsHorizonJob}
 use Rattle.prl_plan.specs.Graphs.{IsWellFormed, IsEdge, IsTask, TakeClock}
 use Rattle.prl_plan.specs.Operands.{walk, operand_of}
-use Rattle.prl_plan.specs.Dates.{AreEncodedDates, window_at, encoded_deadline}
+use Rattle.prl_plan.specs.Dates.{AreEncodedDates, window_at}
 use Rattle.prl_plan.specs.Plans.{PlanView, HaveRoom, IsPlan, edge_at, no_edge, release_at, deadline_at}
 use Rattle.prl_plan.proofs.WalkLaws.{walked_back, operand_walks}
 use Rattle.prl_plan.proofs.WalkNumbers.{divisor_within}
@@ -37,27 +37,22 @@ module _ (graph : TaskGraph) (good : IsWellFormed graph) where
   walked_within e n m inside reads =
       let edge : Edge = edge_at graph e in
       let is = edge_fact e inside in
-      let back = walked_back edge.ty graph.hyper edge.ops is.operators is.clocks.0 (task_at graph edge.to.0).clock is.clocks.3 n m reads in
       let some : 1 ≤ is.clocks.0.period = first_period graph.hyper edge.ops is.clocks.0 (task_at graph edge.to.0).clock is.clocks.3 in
-      let up = times_more m is.clocks.0.period some in
-      omega (arith, back, up)
+      omega (arith, walked_back edge.ty graph.hyper edge.ops is.operators is.clocks.0 (task_at graph edge.to.0).clock is.clocks.3 n m reads, times_more m is.clocks.0.period some)
 
 -- a job ends in its window: after its encoded release and its WCET, and by its deadline
 pub window_within : (graph : TaskGraph) (windows : List (List Window)) → AreEncodedDates graph windows → HaveRoom graph windows →
     (i : ℕ) (m : ℤ) → i < length graph.tasks →
     ((window_at windows i m).lead + (task_at graph i).wcet ≤ (window_at windows i m).tail) × ((window_at windows i m).tail ≤ (task_at graph i).due)
 window_within graph windows dates room i m inside =
-    let r = room.room i m inside in
-    let d : encoded_deadline graph windows i m ≤ℤ deadline_of (task_at graph i) m = dates.deadlines.deadlines.below i m inside in
-    (omega (arith, ints, r), omega (arith, ints, d))
+    (omega (arith, ints, room.room i m inside), omega (arith, ints, dates.deadlines.deadlines.below i m inside))
 
 -- what a job reads has no higher number than its encoded release
 pub operand_within : (plan : PlanView) → IsPlan plan → (e n m : ℕ) → e < length plan.graph.edges → operand_of (edge_at plan.graph e) n ≡ operands.From m →
     m ≤ release_at plan (edge_at plan.graph e).to.0 n
 operand_within plan is e n m inside reads =
     let w = operand_walks (edge_at plan.graph e) n m reads in
-    let up = walked_within plan.graph is.graph e n m inside w.2 in
-    omega (arith, up)
+    omega (arith, walked_within plan.graph is.graph e n m inside w.2)
 
 -- the dates of a horizon job
 pub horizon_dates : (plan : PlanView) → IsPlan plan → (until i n : ℕ) → until < 2 ^ 32 → IsHorizonJob plan.graph until i n →

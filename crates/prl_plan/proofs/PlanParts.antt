@@ -32,9 +32,13 @@ module _ (plan : PlanView) (is : IsPlan plan) (e : ℕ) (inside : e < length pla
   pub edge_fact : IsEdge plan.graph (edge_at plan.graph e)
   edge_fact = is.graph.edges e (edge_at plan.graph e) found
 
-  has_cells : HasCells (edge_at plan.graph e) (edge_at plan.graph e).from (encoded_release plan.graph plan.windows) (encoded_deadline plan.graph plan.windows)
+  -- what is known of its cells, by what it comes from
+  abbrev pub CellsFrom : Producer → Type 0
+  CellsFrom from = HasCells (edge_at plan.graph e) from (encoded_release plan.graph plan.windows) (encoded_deadline plan.graph plan.windows)
       (sum (take e plan.counts)) (slice_index plan.bases e) (slice_index plan.counts e) (slice_index_or plan.used e no_used)
-  has_cells = is.cells.cells e (edge_at plan.graph e) found
+
+  pub cells_from : (from : Producer) → (edge_at plan.graph e).from ≡ from → CellsFrom from
+  cells_from from is_from = subst CellsFrom is_from (is.cells.cells e (edge_at plan.graph e) found)
 
   abbrev used : Used
   used = slice_index_or plan.used e no_used
@@ -47,28 +51,18 @@ module _ (plan : PlanView) (is : IsPlan plan) (e : ℕ) (inside : e < length pla
     where
       go : (from : Producer) → (edge_at plan.graph e).from ≡ from → IsOrdered (slice_index_or plan.used e no_used)
       go (producers.Constant value) is_from =
-          (let h : HasCells (edge_at plan.graph e) (producers.Constant value) (encoded_release plan.graph plan.windows) (encoded_deadline plan.graph plan.windows)
-          (sum (take e plan.counts)) (slice_index plan.bases e) (slice_index plan.counts e) (slice_index_or plan.used e no_used) =
-          subst (λ (f : Producer). HasCells (edge_at plan.graph e) f (encoded_release plan.graph plan.windows) (encoded_deadline plan.graph plan.windows)
-          (sum (take e plan.counts)) (slice_index plan.bases e) (slice_index plan.counts e) (slice_index_or plan.used e no_used)) is_from has_cells in
+          (let h = cells_from (producers.Constant value) is_from in
           let none = h.3 in
           let l : length (slice_index_or plan.used e no_used).gaps ≡ 0 = ap length none in
-          let s : sum (slice_index_or plan.used e no_used).gaps ≡ 0 = ap sum none in
-          record { order = inl l; small = omega (arith, s) })
+          record { order = inl l; small = omega (arith, ap sum none) })
       go (producers.Port task out) is_from =
-          (let h : HasCells (edge_at plan.graph e) (producers.Port task out) (encoded_release plan.graph plan.windows) (encoded_deadline plan.graph plan.windows)
-          (sum (take e plan.counts)) (slice_index plan.bases e) (slice_index plan.counts e) (slice_index_or plan.used e no_used) =
-          subst (λ (f : Producer). HasCells (edge_at plan.graph e) f (encoded_release plan.graph plan.windows) (encoded_deadline plan.graph plan.windows)
-          (sum (take e plan.counts)) (slice_index plan.bases e) (slice_index plan.counts e) (slice_index_or plan.used e no_used)) is_from has_cells in
+          (let h = cells_from (producers.Port task out) is_from in
           let comes : ComesFrom (edge_at plan.graph e).from task.0 = subst (λ (f : Producer). ComesFrom f task.0) (sym is_from) refl in
-          let short = is.short_gaps e used_inside in
-          let within = (gaps_within plan.graph is.graph (edge_at plan.graph e) edge_fact task.0 comes (slice_index_or plan.used e no_used) h.1 short).1 in
-          let turn = spans plan.graph is.graph (edge_at plan.graph e) edge_fact task.0 comes in
+          let within = (gaps_within plan.graph is.graph (edge_at plan.graph e) edge_fact task.0 comes (slice_index_or plan.used e no_used) h.1 (is.short_gaps e used_inside)).1 in
           let some = (task_is plan.graph is.graph task.0 (inside_from plan.graph is.graph (edge_at plan.graph e) edge_fact task.0 comes)).period.0 in
           let up : span_of plan.graph (edge_at plan.graph e) * 1 ≤ span_of plan.graph (edge_at plan.graph e) * (task_at plan.graph task.0).clock.period = mul-le-mul_left (span_of plan.graph (edge_at plan.graph e)) some in
           let one : span_of plan.graph (edge_at plan.graph e) * 1 ≡ span_of plan.graph (edge_at plan.graph e) = omega arith in
-          let few = is.graph.few_ticks in
-          record { order = inr (edge_at plan.graph e, h.1); small = omega (arith, within, turn, up, one, few) })
+          record { order = inr (edge_at plan.graph e, h.1); small = omega (arith, within, spans plan.graph is.graph (edge_at plan.graph e) edge_fact task.0 comes, up, one, is.graph.few_ticks) })
 
   -- an instance is used exactly where it has a place
   pub used_place : (m : ℕ) → IsUsed (edge_at plan.graph e) m → (k : ℕ) × (place_on plan e m ≡ Some k)
@@ -78,10 +72,7 @@ module _ (plan : PlanView) (is : IsPlan plan) (e : ℕ) (inside : e < length pla
       go (producers.Constant value) is_from =
           absurd (let w = operand_walks (edge_at plan.graph e) h.0 m h.1 in subst (λ (f : Producer). ComesFrom f w.0) is_from w.1)
       go (producers.Port task out) is_from =
-          (let c : HasCells (edge_at plan.graph e) (producers.Port task out) (encoded_release plan.graph plan.windows) (encoded_deadline plan.graph plan.windows)
-          (sum (take e plan.counts)) (slice_index plan.bases e) (slice_index plan.counts e) (slice_index_or plan.used e no_used) =
-          subst (λ (f : Producer). HasCells (edge_at plan.graph e) f (encoded_release plan.graph plan.windows) (encoded_deadline plan.graph plan.windows)
-          (sum (take e plan.counts)) (slice_index plan.bases e) (slice_index plan.counts e) (slice_index_or plan.used e no_used)) is_from has_cells in
+          (let c = cells_from (producers.Port task out) is_from in
           let l = c.1.all m h in
           (l.0, place_found (edge_at plan.graph e) (slice_index_or plan.used e no_used) c.1 m l.0 l.1))
 
@@ -92,17 +83,11 @@ module _ (plan : PlanView) (is : IsPlan plan) (e : ℕ) (inside : e < length pla
       go : (from : Producer) → (edge_at plan.graph e).from ≡ from → IsUsed (edge_at plan.graph e) m × (1 ≤ slice_index plan.counts e)
           × (slice_index plan.bases e + slice_index plan.counts e ≤ sum plan.counts)
       go (producers.Constant value) is_from =
-          (let c : HasCells (edge_at plan.graph e) (producers.Constant value) (encoded_release plan.graph plan.windows) (encoded_deadline plan.graph plan.windows)
-          (sum (take e plan.counts)) (slice_index plan.bases e) (slice_index plan.counts e) (slice_index_or plan.used e no_used) =
-          subst (λ (f : Producer). HasCells (edge_at plan.graph e) f (encoded_release plan.graph plan.windows) (encoded_deadline plan.graph plan.windows)
-          (sum (take e plan.counts)) (slice_index plan.bases e) (slice_index plan.counts e) (slice_index_or plan.used e no_used)) is_from has_cells in
+          (let c = cells_from (producers.Constant value) is_from in
           let none = none_without_gaps (slice_index_or plan.used e no_used) m (ap length c.3) in
           absurd (let s : ◌≡◌ {A = Option ℕ} None (Some k) = sym none ∙ h in cc))
       go (producers.Port task out) is_from =
-          (let c : HasCells (edge_at plan.graph e) (producers.Port task out) (encoded_release plan.graph plan.windows) (encoded_deadline plan.graph plan.windows)
-          (sum (take e plan.counts)) (slice_index plan.bases e) (slice_index plan.counts e) (slice_index_or plan.used e no_used) =
-          subst (λ (f : Producer). HasCells (edge_at plan.graph e) f (encoded_release plan.graph plan.windows) (encoded_deadline plan.graph plan.windows)
-          (sum (take e plan.counts)) (slice_index plan.bases e) (slice_index plan.counts e) (slice_index_or plan.used e no_used)) is_from has_cells in
+          (let c = cells_from (producers.Port task out) is_from in
           let stands = place_stands (slice_index_or plan.used e no_used) m k h in
           let all = sum_all plan.counts e (let l = is.cells.lengths.1 in omega (arith, l, inside)) in
           let base = c.0 in (

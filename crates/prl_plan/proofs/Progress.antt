@@ -1,5 +1,5 @@
 -- A sound state in which some job has not ended goes on.
-use Rattle.std.proofs.Common.{◌≡◌, ◌+◌, ◌<◌, ◌≤◌, ◌⊎◌, ℕ, zero, suc, get_or, inl, inr, refl, ap, subst, arith}
+use Rattle.std.proofs.Common.{◌≡◌, ◌+◌, ◌<◌, ◌≤◌, ◌⊎◌, ℕ, zero, suc, get_or, inl, inr, refl, sym, ap, subst, arith}
 use Rattle.std.proofs.lemmas.Bool.{cases_lt}
 use Rattle.prl_plan.specs.declared.events.Action.{Action}
 use Rattle.prl_plan.specs.declared.events.Action.TheVariants as actions
@@ -16,9 +16,8 @@ module _ (c : RunConstants) (facts : HasPlanFacts c) where
       elim (cases_lt (get_or s.ended j 0) n) [
         | inl before ↦
             (let first : IsJob c j (get_or s.ended j 0) = record { task = left.task; job = (let h = left.job in omega (arith, h, before)) } in
-            let wide : c.release j (get_or s.ended j 0) < c.deadline j (get_or s.ended j 0) = facts.window j (get_or s.ended j 0) first in
             let after : c.deadline j (get_or s.ended j 0) ≤ c.release j n = facts.apart j (get_or s.ended j 0) n (record { task = left.task; job = left.job }) before in
-            omega (arith, wide, after))
+            omega (arith, facts.window j (get_or s.ended j 0) first, after))
         | inr not_before ↦
             (let u : get_or s.ended j 0 ≤ n = left.unfinished in
             let same : get_or s.ended j 0 ≡ n = omega (arith, u, not_before) in
@@ -50,7 +49,6 @@ module _ (c : RunConstants) (facts : HasPlanFacts c) where
       let k : ℕ = before.1 in
       let provides : Provides c m slot i n j k (before.2) = before.3 in
       let earlier : c.release j k < c.release i n = provides.release in
-      let now : c.release i n ≤ s.now = least.released in
       elim (cases_lt k (get_or s.ended j 0)) [
         | inl ended ↦
             (let lower : m + 1 ≤ get_or s.tags slot 0 = sound.tagged.written j k (before.2) m slot provides.writes (inl ended) in omega (arith, upper, lower))
@@ -58,7 +56,7 @@ module _ (c : RunConstants) (facts : HasPlanFacts c) where
             (let unfinished : IsUnfinished c s j k = record { task = provides.writes.job.task; job = provides.writes.job.job; unfinished = left } in
             let first : c.release j (first_unfinished s j) ≤ c.release j k = first_earlier s j k unfinished in
             let not_before : c.release i n ≤ c.release j (first_unfinished s j) =
-            least.least j (first_left s j k unfinished) (omega (arith, first, earlier, now)) in
+            least.least j (first_left s j k unfinished) (omega (arith, first, earlier, least.released)) in
             omega (arith, first, not_before, earlier))
       ]
 
@@ -71,16 +69,13 @@ module _ (c : RunConstants) (facts : HasPlanFacts c) where
     where
       ended : (i k : ℕ) → IsUnfinished c s i k → s.now + 1 < c.deadline i k
       ended i k unfinished =
-          let early : s.now < c.release i (first_unfinished s i) = none i (first_left s i k unfinished) in
-          let first : c.release i (first_unfinished s i) ≤ c.release i k = first_earlier s i k unfinished in
           let wide : c.release i k < c.deadline i k = facts.window i k (record { task = unfinished.task; job = unfinished.job }) in
-          omega (arith, early, first, wide)
+          omega (arith, none i (first_left s i k unfinished), first_earlier s i k unfinished, wide)
 
       within : s.now + 1 ≤ c.end
       within =
-          let due : s.now + 1 < c.deadline j n = ended j n left in
           let last : c.deadline j n ≤ c.end = facts.within j n (record { task = left.task; job = left.job }) in
-          omega (arith, due, last)
+          omega (arith, ended j n left, last)
 
   -- task i may act, as far as the tasks below k are looked at
   record LeastBelow (s : ExecState) (k i : ℕ) : Type 0 where
@@ -109,23 +104,25 @@ module _ (c : RunConstants) (facts : HasPlanFacts c) where
   below_or_at : (j k : ℕ) → j < suc k → (j < k) ⊎ (j ≡ k)
   below_or_at j k below = elim (cases_lt j k) [ inl less ↦ inl less | inr not_less ↦ inr (omega (arith, below, not_less)) ]
 
+  -- task i, where no task below k and not task k goes before it
+  least_to : (s : ExecState) (k i : ℕ) → HasJob c s i → ActsReleased c s i → ((j : ℕ) → j < k → Ready s j → c.release i (first_unfinished s i) ≤ c.release j (first_unfinished s j)) →
+      (Ready s k → c.release i (first_unfinished s i) ≤ c.release k (first_unfinished s k)) → LeastBelow s (suc k) i
+  least_to s k i job released below here = record {
+    job = job;
+    released = released;
+    least = λ j within has now. elim (below_or_at j k within) [
+      | inl less ↦ below j less (has, now)
+      | inr at ↦ subst (λ x. c.release i (first_unfinished s i) ≤ c.release x (first_unfinished s x)) (sym at) (here (subst (λ x. Ready s x) at (has, now)))
+    ];
+  }
+
   search : (s : ExecState) (k : ℕ) → k ≤ c.tasks → ((i : ℕ) × LeastBelow s k i) ⊎ ((j : ℕ) → j < k → Ready s j → ⊥)
   search s zero within = inr (λ j below ready. omega (arith, below))
   search s (suc k) within =
       elim (ready_or s k (omega (arith, within))) [
         | inr idle ↦
             (elim (search s k (omega (arith, within))) [
-              | inl found ↦ inl (
-                found.0,
-                record {
-                  job = found.1.job;
-                  released = found.1.released;
-                  least = λ j below has now. elim (below_or_at j k below) [
-                    | inl less ↦ found.1.least j less has now
-                    | inr at ↦ absurd (idle (subst (λ x. HasJob c s x) at has, subst (λ x. ActsReleased c s x) at now))
-                  ];
-                },
-              )
+              | inl found ↦ inl (found.0, least_to s k found.0 found.1.job found.1.released (λ j less ready. found.1.least j less ready.0 ready.1) (λ ready. absurd (idle ready)))
               | inr none ↦ inr (λ j below ready. elim (below_or_at j k below) [
                 | inl less ↦ none j less ready
                 | inr at ↦ idle (subst (λ x. Ready s x) at ready)
@@ -133,41 +130,11 @@ module _ (c : RunConstants) (facts : HasPlanFacts c) where
             ])
         | inl ready ↦
             (elim (search s k (omega (arith, within))) [
-              | inr none ↦ inl (
-                k,
-                record {
-                  job = ready.0;
-                  released = ready.1;
-                  least = λ j below has now. elim (below_or_at j k below) [
-                    | inl less ↦ absurd (none j less (has, now))
-                    | inr at ↦ (let e : c.release j (get_or s.ended j 0) ≡ c.release k (get_or s.ended k 0) = ap (λ x. c.release x (get_or s.ended x 0)) at in omega (arith, e))
-                  ];
-                },
-              )
+              | inr none ↦ inl (k, least_to s k k ready.0 ready.1 (λ j less other. absurd (none j less other)) (λ _. omega arith))
               | inl found ↦
                   (elim (cases_lt (c.release k (get_or s.ended k 0)) (c.release found.0 (get_or s.ended found.0 0))) [
-                    | inl earlier ↦ inl (
-                      k,
-                      record {
-                        job = ready.0;
-                        released = ready.1;
-                        least = λ j below has now. elim (below_or_at j k below) [
-                          | inl less ↦ (let h : c.release found.0 (get_or s.ended found.0 0) ≤ c.release j (get_or s.ended j 0) = found.1.least j less has now in omega (arith, h, earlier))
-                          | inr at ↦ (let e : c.release j (get_or s.ended j 0) ≡ c.release k (get_or s.ended k 0) = ap (λ x. c.release x (get_or s.ended x 0)) at in omega (arith, e))
-                        ];
-                      },
-                    )
-                    | inr not_earlier ↦ inl (
-                      found.0,
-                      record {
-                        job = found.1.job;
-                        released = found.1.released;
-                        least = λ j below has now. elim (below_or_at j k below) [
-                          | inl less ↦ found.1.least j less has now
-                          | inr at ↦ (let e : c.release j (get_or s.ended j 0) ≡ c.release k (get_or s.ended k 0) = ap (λ x. c.release x (get_or s.ended x 0)) at in omega (arith, e, not_earlier))
-                        ];
-                      },
-                    )
+                    | inl earlier ↦ inl (k, least_to s k k ready.0 ready.1 (λ j less other. (let h = found.1.least j less other.0 other.1 in omega (arith, h, earlier))) (λ _. omega arith))
+                    | inr not_earlier ↦ inl (found.0, least_to s k found.0 found.1.job found.1.released (λ j less other. found.1.least j less other.0 other.1) (λ _. omega (arith, not_earlier)))
                   ])
             ])
       ]

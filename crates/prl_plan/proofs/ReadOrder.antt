@@ -1,5 +1,5 @@
 -- Over a plan: what a job reads is of a job whose encoded release is earlier, and a task's releases rise.
-use Rattle.std.proofs.Common.{◌≡◌, ◌+◌, ◌*◌, ◌<◌, ◌≤◌, ℕ, zero, suc, List, [], ◌∷◌, length, refl, sym, ◌∙◌, ap, subst, arith}
+use Rattle.std.proofs.Common.{◌≡◌, ◌+◌, ◌<◌, ◌≤◌, ℕ, zero, suc, List, [], ◌∷◌, length, refl, sym, ◌∙◌, ap, subst, arith}
 use Rattle.std.specs.Prelude.{pos, Some, slice_get}
 use Rattle.std.proofs.lemmas.Int.{ints}
 use Rattle.std.proofs.Math.Nat.{mul-le-mul_right}
@@ -41,13 +41,8 @@ releases_rise = later_at
 -- a horizon job is released, by its encoded date, less than a hyperperiod after the horizon's date
 pub released_soon : (plan : PlanView) → IsPlan plan → (until i n : ℕ) → IsHorizonJob plan.graph until i n → release_at plan i n < until + plan.graph.hyper
 released_soon plan is until i n job =
-    let w = window_within plan.graph plan.windows is.dates is.room i (pos n) job.task in
     let t = task_is plan.graph is.graph i job.task in
-    let period = divisor_within _ plan.graph.hyper is.graph.hyper t.divides in
-    let due = t.due.1 in
-    let wcet = t.wcet.0 in
-    let early = job.early in
-    omega (arith, ints, w, period, due, wcet, early)
+    omega (arith, ints, window_within plan.graph plan.windows is.dates is.room i (pos n) job.task, divisor_within _ plan.graph.hyper is.graph.hyper t.divides, t.due.1, t.wcet.0, job.early)
 
 -- a constant that a walk gives has the type of its operators
 walk_typed : (ty : Ty) (ops : List Op) → ((k : ℕ) (op : Op) → slice_get ops k ≡ Some op → IsOperatorFor ty op) → (n : ℕ) (c : Value) →
@@ -99,10 +94,7 @@ read_of_horizon = operand_horizon
 -- an earlier job of a task with a horizon job is one
 pub earlier_horizon : (graph : TaskGraph) (until i m n : ℕ) → m ≤ n → IsHorizonJob graph until i n → IsHorizonJob graph until i m
 earlier_horizon graph until i m n before job =
-    let period : ℕ = (task_at graph i).clock.period in
-    let up : m * (task_at graph i).clock.period ≤ n * (task_at graph i).clock.period = mul-le-mul_right (task_at graph i).clock.period before in
-    let early = job.early in
-    record { task = job.task; early = omega (arith, ints, up, early) }
+    record { task = job.task; early = omega (arith, ints, mul-le-mul_right (task_at graph i).clock.period before, job.early) }
 
 -- the producer of an edge is a task of the graph
 pub source_task : (graph : TaskGraph) → IsWellFormed graph → (e i : ℕ) → e < length graph.edges → ComesFrom (edge_at graph e).from i → i < length graph.tasks

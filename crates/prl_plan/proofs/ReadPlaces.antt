@@ -39,7 +39,6 @@ module _ (plan : PlanView) (i n : ℕ) where
       (subst (λ (z : Edge). slice_get (reading plan e z (operand_of z n)) j ≡ Some x) (sym one)
       (subst (λ (f : ℕ). slice_get (reading plan f edge (operand_of edge n)) j ≡ Some x) (let z : e + 0 ≡ e = omega arith in z) h))))
   reads_split e (y ∷ edges) (suc k) edge is to j p x h at =
-      let first : List Action = cond (eqb y.to.0 i) (reading plan e y (operand_of y n)) [] in
       let both = length-append (cond (eqb y.to.0 i) (reading plan e y (operand_of y n)) []) (reads_of plan i n (e + 1) (take k edges)) in
       get_second (cond (eqb y.to.0 i) (reading plan e y (operand_of y n)) []) (reads_of plan i n (e + 1) edges) p
       (length (reads_of plan i n (e + 1) (take k edges)) + j) x (omega (arith, at, both))

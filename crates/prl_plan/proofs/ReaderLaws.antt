@@ -33,8 +33,7 @@ le_self a = omega (arith, ints)
 
 floor_rises : (a b : ℤ) (k : ℕ) → 1 ≤ k → a ≤ℤ b → floor_div a k ≤ℤ floor_div b k
 floor_rises a b k some h =
-    let low : (pos k *ℤ floor_div a k) ≤ℤ a = (floor_least a (floor_div a k) k some).0 (le_self (floor_div a k)) in
-    (floor_least b (floor_div a k) k some).1 (omega (arith, ints, low, h))
+    (floor_least b (floor_div a k) k some).1 (omega (arith, ints, (floor_least a (floor_div a k) k some).0 (le_self (floor_div a k)), h))
 
 -- a later job is preceded by no earlier one
 pub preceding_rises : (ty : Ty) (ops : List Op) → AreOperators ty ops → (a b : ℤ) → a ≤ℤ b → preceding ops a ≤ℤ preceding ops b
@@ -45,26 +44,19 @@ preceding_rises ty (operators.Down k ∷ ops) are a b h =
     preceding_rises ty ops (λ j o is. are (suc j) o is) (pos k *ℤ a) (pos k *ℤ b) (mono k a b h)
 preceding_rises ty (operators.Shift q ∷ ops) are a b h = preceding_rises ty ops (λ j o is. are (suc j) o is) a b h
 preceding_rises ty (operators.Tail ∷ ops) are a b h =
-    let x = suc_is a in
-    let y = suc_is b in
-    preceding_rises ty ops (λ j o is. are (suc j) o is) _ _ (omega (arith, ints, h, x, y))
+    preceding_rises ty ops (λ j o is. are (suc j) o is) _ _ (omega (arith, ints, h, suc_is a, suc_is b))
 preceding_rises ty (operators.Cons c ∷ ops) are a b h =
-    let x = pred_is a in
-    let y = pred_is b in
-    preceding_rises ty ops (λ j o is. are (suc j) o is) _ _ (omega (arith, ints, h, x, y))
+    preceding_rises ty ops (λ j o is. are (suc j) o is) _ _ (omega (arith, ints, h, pred_is a, pred_is b))
 preceding_rises ty (operators.Fby c ∷ ops) are a b h =
-    let x = pred_is a in
-    let y = pred_is b in
-    preceding_rises ty ops (λ j o is. are (suc j) o is) _ _ (omega (arith, ints, h, x, y))
+    preceding_rises ty ops (λ j o is. are (suc j) o is) _ _ (omega (arith, ints, h, pred_is a, pred_is b))
 
 up_most : (p n k : ℕ) → 1 ≤ k → k * p ≤ n → p ≤ n / k
 up_most p n k some h = le-div p n k some (let e : p * k ≡ k * p = omega arith in omega (arith, e, h))
 
 up_least : (p n k : ℕ) → p ≤ n / k → k * p ≤ n
 up_least p n k h =
-    let up : k * p ≤ k * (n / k) = mul-le-mul_left k h in
     let e : k * (n / k) + n % k ≡ n = omega arith in
-    omega (arith, up, e)
+    omega (arith, mul-le-mul_left k h, e)
 
 pub reads_from : (ty : Ty) (ops : List Op) → AreOperators ty ops → (n : ℕ) → first_reader ops ≤ n → (m : ℕ) × (walk ops n ≡ operands.From m)
 reads_from ty [] are n h = (n, refl)
@@ -128,9 +120,7 @@ module _ (edge : Edge) (i : ℕ) (comes : ComesFrom edge.from i) (are : AreOpera
     (λ h.
         (let r = (reads_is h.0 m).0 h.1 in
         let up = preceding_rises edge.ty edge.ops are (pos (first_reader edge.ops)) (pos h.0) (let g = r.0 in omega (arith, ints, g)) in
-        let e = first_precedes edge.ty edge.ops are in
-        let at = r.1 in
-        (omega (arith, ints, up, e, at), (pos h.0, r.1)))),
+        (omega (arith, ints, up, first_precedes edge.ty edge.ops are, r.1), (pos h.0, r.1)))),
     (λ h. go h.0 h.1.0 h.1.1),
   )
     where
@@ -139,9 +129,8 @@ module _ (edge : Edge) (i : ℕ) (comes : ComesFrom edge.from i) (are : AreOpera
         where
           early : first_instance edge.ops ≤ m → (n : ℤ) → preceding edge.ops n ≡ pos m → n ≤ℤ pos (first_reader edge.ops) → IsUsed edge m
           early late n at before =
-              let up = preceding_rises edge.ty edge.ops are n (pos (first_reader edge.ops)) before in
               let e = first_precedes edge.ty edge.ops are in
-              let same : first_instance edge.ops ≡ m = omega (arith, ints, up, e, at, late) in
+              let same : first_instance edge.ops ≡ m = omega (arith, ints, preceding_rises edge.ty edge.ops are n (pos (first_reader edge.ops)) before, e, at, late) in
               (first_reader edge.ops, (reads_is (first_reader edge.ops) m).1 (omega arith, e ∙ ap (λ (x : ℕ). pos x) same))
       go late (pos k) at =
           elim (cases_lt k (first_reader edge.ops)) [

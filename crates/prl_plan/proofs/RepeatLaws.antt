@@ -36,9 +36,8 @@ no_longer one other some same short =
 pub one_repeat : {A : Type 0} (one other : List A) → 1 ≤ length one → 1 ≤ length other → ((n : ℕ) → repeated one n ≡ repeated other n) →
     IsShortestRepeat one → IsShortestRepeat other → one ≡ other
 one_repeat one other some_one some_other same short_one short_other =
-    let down = no_longer one other some_one same short_other in
     let up = no_longer other one some_other (λ n. sym (same n)) short_one in
-    let long : length one ≡ length other = omega (arith, down, up) in
+    let long : length one ≡ length other = omega (arith, no_longer one other some_one same short_other, up) in
     same_lists one other long
     (λ k d below.
     (let here : slice_get one (k % length one) ≡ Some (get_or one k d) =
@@ -85,10 +84,9 @@ module _ (ops : List Op) (a b : Word) (of_a : IsWordOf ops a) (of_b : IsWordOf o
   own_step : Climbs ops (length a.prefix) a.step_in a.step_out
   own_step n m past reads =
       let here : number_at a (n - length a.prefix) ≡ m = same_instance (number_at a (n - length a.prefix)) m (sym (after_prefix a n past) ∙ of_a.at n ∙ reads) in
-      let next : number_at a (n - length a.prefix + 1 * a.step_in) ≡ number_at a (n - length a.prefix) + 1 * a.step_out = next_turns a of_a.word.some (n - length a.prefix) 1 in
       let place : n - length a.prefix + 1 * a.step_in ≡ n + a.step_in - length a.prefix = omega (arith, past) in
       let there : number_at a (n + a.step_in - length a.prefix) ≡ m + a.step_out =
-      (let e = ap (λ (k : ℕ). number_at a k) place in omega (arith, here, next, e)) in
+      (let e = ap (λ (k : ℕ). number_at a k) place in omega (arith, here, next_turns a of_a.word.some (n - length a.prefix) 1, e)) in
       sym (of_a.at (n + a.step_in)) ∙ after_prefix a (n + a.step_in) (omega (arith, past)) ∙ ap (λ (k : ℕ). operands.From k) there
 
 -- the number in the first turn
@@ -101,9 +99,8 @@ number_first w i within =
 -- the step is the rise over one turn
 step_is : (w : Word) → 1 ≤ w.step_in → number_at w w.step_in ≡ number_at w 0 + w.step_out
 step_is w some =
-    let next : number_at w (0 + 1 * w.step_in) ≡ number_at w 0 + 1 * w.step_out = next_turns w some 0 1 in
     let same : number_at w (0 + 1 * w.step_in) ≡ number_at w w.step_in = ap (λ (k : ℕ). number_at w k) (let e : 0 + 1 * w.step_in ≡ w.step_in = omega arith in e) in
-    omega (arith, next, same)
+    omega (arith, next_turns w some 0 1, same)
 
 -- operators have one word
 pub one_word : (ops : List Op) (a b : Word) → IsWordOf ops a → IsWordOf ops b → a ≡ b
@@ -138,7 +135,7 @@ one_word ops a b of_a of_b =
     let out : a.step_out ≡ b.step_out =
     (let x = step_is a of_a.word.some in let y = step_is b of_b.word.some in
     let z : number_at a a.step_in ≡ number_at b b.step_in = numbers a.step_in ∙ ap (λ (k : ℕ). number_at b k) step in
-    let o = numbers 0 in omega (arith, x, y, z, o)) in
+    omega (arith, x, y, z, numbers 0)) in
     word_is a b prefix repeat step out
 
 -- the next of the numbers that gaps list is a gap higher
@@ -187,10 +184,7 @@ no_later edge a b all_a all_b k same =
     let found = all_b.all (used_at a k) (all_a.each k) in
     elim (cases_lt found.0 k) [
       | inl below ↦ absurd
-          (let up = rising_to edge a all_a k found.0 below in
-          let e = same found.0 below in
-          let at = found.1 in
-          omega (arith, up, e, at))
+          omega (arith, rising_to edge a all_a k found.0 below, same found.0 below, found.1)
       | inr above ↦
           elim (cases_lt k found.0) [
             | inl past ↦ (let up = rising_to edge b all_b found.0 k past in let at = found.1 in omega (arith, up, at))
@@ -206,9 +200,8 @@ pub agree_below : (edge : Edge) (a b : Used) → EnumeratesUsed edge a → Enume
 agree_below edge a b all_a all_b zero j below = absurd (omega (arith, below))
 agree_below edge a b all_a all_b (suc n) j below =
     let before : (i : ℕ) → i < j → used_at a i ≡ used_at b i = λ i less. agree_below edge a b all_a all_b n i (omega (arith, less, below)) in
-    let down = no_later edge a b all_a all_b j before in
     let up = no_later edge b a all_b all_a j (λ i less. sym (before i less)) in
-    omega (arith, down, up)
+    omega (arith, no_later edge a b all_a all_b j before, up)
 
 used_is : (a b : Used) → a.first ≡ b.first → a.gaps ≡ b.gaps → a ≡ b
 used_is a b f g =
@@ -227,11 +220,7 @@ one_used edge a b all_a all_b short_a short_b =
     let same : (k : ℕ) → used_at a k ≡ used_at b k = λ k. agree_below edge a b all_a all_b (suc k) k (omega arith) in
     let first : a.first ≡ b.first = sym (first_number a some_a) ∙ same 0 ∙ first_number b some_b in
     let gaps : (k : ℕ) → repeated a.gaps k ≡ repeated b.gaps k =
-    λ k. (let x = next_gap a some_a k in
-    let y = next_gap b some_b k in
-    let here = same k in
-    let next = same (k + 1) in
-    let e : get_or a.gaps (k % length a.gaps) 0 ≡ get_or b.gaps (k % length b.gaps) 0 = omega (arith, x, y, here, next) in
+    λ k. (let e : get_or a.gaps (k % length a.gaps) 0 ≡ get_or b.gaps (k % length b.gaps) 0 = omega (arith, next_gap a some_a k, next_gap b some_b k, same k, same (k + 1)) in
     slice_get-get_or a.gaps (k % length a.gaps) 0 (mod_below k (length a.gaps) some_a) ∙ ap (λ (z : ℕ). Some z) e
     ∙ sym (slice_get-get_or b.gaps (k % length b.gaps) 0 (mod_below k (length b.gaps) some_b))) in
     used_is a b first (one_repeat a.gaps b.gaps some_a some_b gaps short_a short_b)

@@ -35,8 +35,7 @@ module _ (graph : TaskGraph) (good : IsWellFormed graph) where
 
   pub release_shift : (i c : ℕ) → Repeats i c → (m : ℤ) → release_of (task_at graph i) (m +ℤ pos c) ≡ release_of (task_at graph i) m +ℤ pos graph.hyper
   release_shift i c repeats m =
-      let e = plus_mul m c (task_at graph i).clock.period in
-      omega (arith, ints, e, repeats)
+      omega (arith, ints, plus_mul m c (task_at graph i).clock.period, repeats)
 
   pub edge_precedes : (edge : Edge) → IsEdge graph edge → (i c d : ℕ) → ComesFrom edge.from i → Repeats edge.to.0 c → Repeats i d → (n : ℤ) →
       preceding edge.ops (n +ℤ pos c) ≡ preceding edge.ops n +ℤ pos d

@@ -23,8 +23,6 @@ module _ {A : Type 0} (list : List A) where
   -- a divisor of the length that serves within the list serves without end
   pub comes_again : (step : ℕ) → 1 ≤ step → 1 ≤ length list → length list % step ≡ 0 → ComesWithin list step → ComesAgain list step
   comes_again step some long divides comes n =
-      let l : ℕ = length list in
-      let i : ℕ = n % length list in
       let below : n % length list < length list = mod_below n (length list) long in
       let turns : length list % step + length list / step * step ≡ length list = mod-add-div' (length list) step in
       let whole : n % length list + n / length list * length list ≡ n = mod-add-div' n (length list) in
@@ -37,7 +35,6 @@ module _ {A : Type 0} (list : List A) where
         | inr past ↦
             (let q : ℕ = length list / step in
             let more : 1 ≤ length list / step = some_turn (length list / step) step (length list) long (omega (arith, turns, divides)) in
-            let back : ℕ = n % length list + step - length list in
             let last : (length list / step - 1) * step + step ≡ length list / step * step = times_before (length list / step) step more in
             let small : n % length list + step - length list < length list = (let s : step ≤ length list = within step (length list / step) (length list) more (omega (arith, turns, divides)) in omega (arith, below, s)) in
             let at : n + step ≡ n % length list + step - length list + (n / length list + 1) * length list =
@@ -74,8 +71,7 @@ module _ {A : Type 0} (list : List A) where
   -- what is left of the length over a step that serves, serves
   rest_serves : (step : ℕ) → ComesAgain list step → ComesAgain list (length list % step)
   rest_serves step again n =
-      let turns : length list % step + length list / step * step ≡ length list = mod-add-div' (length list) step in
-      let at : n + length list % step + length list / step * step ≡ n + length list = omega (arith, turns) in
+      let at : n + length list % step + length list / step * step ≡ n + length list = omega (arith, mod-add-div' (length list) step) in
       sym (again_often step again (length list / step) (n + length list % step)) ∙ ap (λ (k : ℕ). repeated list k) at ∙ own_length n
 
   -- and a step that serves without end serves within the list
@@ -179,6 +175,5 @@ module _ {A : Type 0} (list : List A) where
       least = λ other positive again.
           (let long : length (take step list) ≡ step = length-take-le step list is.within in
           let mine : ComesAgain list other = λ n. sym (cut_repeats (n + other)) ∙ again n ∙ cut_repeats n in
-          let least = is.shortest.least other positive mine in
-          omega (arith, long, least));
+          omega (arith, long, is.shortest.least other positive mine));
     }

@@ -40,9 +40,7 @@ module _ (c : RunConstants) (facts : HasPlanFacts c) where
   held_written s sound i e m slot has released is j k place l other reads unfinished =
       let n : ℕ = get_or s.ended i 0 in
       let now_written : WritesAt c i (get_or s.ended i 0) (get_or s.places i 0) m slot = record { job = record { task = has.task; job = has.job }; action = (e, is) } in
-      let in_slots : slot < c.slots = facts.write_cell i n (get_or s.places i 0) m slot now_written in
-      let tags : length s.tags ≡ c.slots = sound.tagged.tags in
-      let in_tags : slot < length s.tags = omega (arith, tags, in_slots) in
+      let in_tags : slot < length s.tags = omega (arith, sound.tagged.tags, facts.write_cell i n (get_or s.places i 0) m slot now_written) in
       elim (get_set s.tags slot (m + 1) other in_tags) [
         | inl same ↦
             (elim (cases_lt l m) [

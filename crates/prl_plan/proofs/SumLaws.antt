@@ -1,6 +1,6 @@
 -- Sums over the jobs of a task: how many actions their reads and writes are, by counts.
 use Rattle.std.proofs.Common.{◌≡◌, ◌+◌, ◌-◌, ◌*◌, ◌<◌, ◌≤◌, ◌↔◌, ℕ, zero, suc, [], Option, Some, None, length, inl, inr, refl, sym, ◌∙◌, ap, subst, arith}
-use Rattle.std.specs.Prelude.{is_some, if◌then◌else◌}
+use Rattle.std.specs.Prelude.{if◌then◌else◌, is_some}
 use Rattle.std.proofs.lemmas.Bool.{cases_lt}
 use Rattle.prl_plan.specs.declared.graphs.Edge.{Edge}
 use Rattle.prl_plan.specs.declared.graphs.Producer.{Producer}
@@ -78,8 +78,7 @@ module _ (used : Used) where
                   ])),
               (λ early. (is k).1 (omega (arith, early))),
             )) in
-            let here : two_if (place_of used c) ≡ 0 = ap two_if none in
-            omega (arith, rest, here))
+            omega (arith, rest, ap two_if none))
         go (Some j) there shorter =
             (let at = place_stands used c j there in
             let in_count = (is j).1 (omega (arith, at)) in
@@ -98,8 +97,7 @@ module _ (used : Used) where
                 ])
               ]),
             )) in
-            let here : two_if (place_of used c) ≡ 2 = ap two_if there in
-            omega (arith, rest, here, in_count, last))
+            omega (arith, rest, ap two_if there, in_count, last))
 
     few_used : (c count : ℕ) → ((k : ℕ) → (k < count) ↔ (used_at used k < c)) → count ≤ c
     few_used c count is =

@@ -169,10 +169,7 @@ module _ (plan : PlanView) where
     -- a later job of a task is released later
     rising_releases : (i m n : ℕ) → i < length plan.graph.tasks → m < n → release_at plan i m < release_at plan i n
     rising_releases i m n inside before =
-        let apart = apart_at plan is i m n inside before in
-        let room = room_at plan is i m inside in
-        let some : 1 ≤ (task_at plan.graph i).wcet = (task_fact plan is i inside).wcet.0 in
-        omega (arith, apart, room, some)
+        omega (arith, apart_at plan is i m n inside before, room_at plan is i m inside, (task_fact plan is i inside).wcet.0)
 
     jobs_ordered : (i t n : ℕ) → i < length plan.graph.tasks → Ordered (ComesBefore plan) (jobs_at plan i t n)
     jobs_ordered i t zero inside = λ k l x y before at_x at_y. absurd (nothing x at_x)
@@ -181,11 +178,7 @@ module _ (plan : PlanView) where
         (λ k l x y before at_x at_y. (let a = at_first i t n k x at_x in let b = at_first i t n l y at_y in absurd (omega (arith, before, a, b))))
         (λ x y in_x in_y.
         (let first = jobs_each i t n in_x.0 x in_x.1 in
-        let second = in_single i t n in_y.0 y in_y.1 in
-        let later = rising_releases i first.job n inside first.below in
-        let d = first.date in
-        let f = second.1 in
-        absurd (omega (arith, later, d, f))))
+        absurd (omega (arith, rising_releases i first.job n inside first.below, first.date, (in_single i t n in_y.0 y in_y.1).1))))
 
     rows_each : (until t i : ℕ) → i ≤ length plan.graph.tasks → Each (IsRowAt until t i) (rows_at plan until t i)
     rows_each until t zero within k z h = absurd (nothing z h)
@@ -215,10 +208,9 @@ module _ (plan : PlanView) where
         (λ x y in_x in_y.
         (let row = rows_each until t i (omega (arith, within)) in_x.0 x in_x.1 in
         let at = jobs_each i t count in_y.0 y in_y.1 in
-        let d = row.date in
         let f : release_at plan y.task y.job ≡ t = ap (λ (r : TableRow). release_at plan r.task r.job) at.is ∙ at.date in
         let j : y.task ≡ i = ap (λ (r : TableRow). r.task) at.is in
-        inr ((omega (arith, d, f)), (let b = row.below in omega (arith, b, j)))))
+        inr ((omega (arith, row.date, f)), (let b = row.below in omega (arith, b, j)))))
 
     before_each : (until t : ℕ) → Each (IsRowBefore until t) (rows_before plan until t)
     before_each until zero k z h = absurd (nothing z h)
@@ -240,9 +232,7 @@ module _ (plan : PlanView) where
         (λ x y in_x in_y.
         (let row = before_each until t in_x.0 x in_x.1 in
         let next = rows_each until t (length plan.graph.tasks) (omega arith) in_y.0 y in_y.1 in
-        let d = row.date in
-        let f = next.date in
-        inl (omega (arith, d, f))))
+        inl (omega (arith, row.date, next.date))))
 
     -- a period is at most a hyperperiod
     period_within : (i : ℕ) → i < length plan.graph.tasks → (task_at plan.graph i).clock.period ≤ plan.graph.hyper
@@ -259,11 +249,7 @@ module _ (plan : PlanView) where
     released_within until i n job =
         let below : encoded_deadline plan.graph plan.windows i (pos n) ≤ℤ deadline_of (task_at plan.graph i) (pos n) =
         is.dates.deadlines.deadlines.below i (pos n) job.task in
-        let early = job.early in
-        let room = room_at plan is i n job.task in
-        let due : (task_at plan.graph i).due ≤ (task_at plan.graph i).clock.period = (task_fact plan is i job.task).due.1 in
-        let period = period_within i job.task in
-        omega (arith, ints, below, early, room, due, period)
+        omega (arith, ints, below, job.early, room_at plan is i n job.task, (task_fact plan is i job.task).due.1, period_within i job.task)
 
     pub table_made : (until : ℕ) → IsJobTable plan until (job_table plan until)
     table_made until = record {

@@ -149,6 +149,19 @@ module _ (c : RunConstants) (facts : HasPlanFacts c) where
         | inr other ↦ origin_stays s (record (moved s i) { tags = set s.tags cell (m + 1) }) slot (done_stays s i inside) other.1 before
       ]
 
+  -- who writes to the cell that task i writes to
+  record IsOwn (s : ExecState) (i cell j k place l : ℕ) : Type 0 where
+    pub here : WritesAt c j k place l cell
+    pub one : j ≡ i
+    pub own : l ≡ k
+    pub at : get_or s.ended j 0 ≡ get_or s.ended i 0
+
+  one_owner : (s : ExecState) (i n m cell : ℕ) → WritesAt c i n (get_or s.places i 0) m cell → (j k place l other : ℕ) → WritesAt c j k place l other → other ≡ cell → IsOwn s i cell j k place l
+  one_owner s i n m cell now j k place l other writes same =
+      let here = subst (λ x. WritesAt c j k place l x) same writes in
+      let one = facts.writer j k place l i n (get_or s.places i 0) m cell here now in
+      record { here = here; one = one; own = facts.own j k place l cell here; at = ap (λ x. get_or s.ended x 0) one }
+
   -- a job writes its instance to a cell
   tagged_write : (s : ExecState) → IsTagged c s → (i : ℕ) (e : EdgeNo) (m cell : ℕ) → HasJob c s i → ActsReleased c s i →
       next_action c s i ≡ actions.Write e m (record { 0 = cell }) → IsTagged c (record (moved s i) { tags = set s.tags cell (m + 1) })
@@ -157,8 +170,7 @@ module _ (c : RunConstants) (facts : HasPlanFacts c) where
       let job : IsJob c i n = record { task = has.task; job = has.job } in
       let now_written : WritesAt c i n (get_or s.places i 0) m cell = record { job = job; action = (e, is) } in
       let own : m ≡ get_or s.ended i 0 = facts.own i n (get_or s.places i 0) m cell now_written in
-      let in_cells : cell < c.slots = facts.write_cell i n (get_or s.places i 0) m cell now_written in
-      let in_tags : cell < length s.tags = omega (arith, tagged.tags, in_cells) in
+      let in_tags : cell < length s.tags = omega (arith, tagged.tags, facts.write_cell i n (get_or s.places i 0) m cell now_written) in
       let inside : i < length s.places = omega (arith, tagged.places, has.task) in
       record {
         ended = tagged.ended;
@@ -168,13 +180,10 @@ module _ (c : RunConstants) (facts : HasPlanFacts c) where
         written = λ j k place l other writes done.
             elim (get_set s.tags cell (m + 1) other in_tags) [
               | inl same ↦
-                  (let here : WritesAt c j k place l cell = subst (λ x. WritesAt c j k place l x) same.0 writes in
-                  let one : j ≡ i = facts.writer j k place l i n (get_or s.places i 0) m cell here now_written in
-                  let its : l ≡ k = facts.own j k place l cell here in
-                  let at : get_or s.ended j 0 ≡ get_or s.ended i 0 = ap (λ x. get_or s.ended x 0) one in
+                  (let its = one_owner s i n m cell now_written j k place l other writes same.0 in
                   elim done [
-                    | inl below ↦ omega (arith, same.1, its, at, own, below)
-                    | inr present ↦ omega (arith, same.1, its, at, own, present.0)
+                    | inl below ↦ omega (arith, same.1, its.own, its.at, own, below)
+                    | inr present ↦ omega (arith, same.1, its.own, its.at, own, present.0)
                   ])
               | inr differs ↦
                   elim (done_moved s i inside j k place done) [
@@ -187,15 +196,13 @@ module _ (c : RunConstants) (facts : HasPlanFacts c) where
         ahead = λ j k place l other writes ahead.
             elim (get_set s.tags cell (m + 1) other in_tags) [
               | inl same ↦
-                  (let here : WritesAt c j k place l cell = subst (λ x. WritesAt c j k place l x) same.0 writes in
-                  let one : j ≡ i = facts.writer j k place l i n (get_or s.places i 0) m cell here now_written in
-                  let its : l ≡ k = facts.own j k place l cell here in
-                  let at : get_or s.ended j 0 ≡ get_or s.ended i 0 = ap (λ x. get_or s.ended x 0) one in
+                  (let its = one_owner s i n m cell now_written j k place l other writes same.0 in
+                  let one = its.one in
                   elim ahead [
-                    | inl later ↦ omega (arith, same.1, its, at, own, later)
+                    | inl later ↦ omega (arith, same.1, its.own, its.at, own, later)
                     | inr present ↦
                         (let there : WritesAt c i n place l cell =
-                        subst (λ x. WritesAt c i x place l cell) (present.0 ∙ at) (subst (λ x. WritesAt c x k place l cell) one here) in
+                        subst (λ x. WritesAt c i x place l cell) (present.0 ∙ its.at) (subst (λ x. WritesAt c x k place l cell) one its.here) in
                         let where_now : place ≡ get_or s.places i 0 = facts.once i n place l (get_or s.places i 0) m cell there now_written in
                         let moved_on : get_or (set s.places i (get_or s.places i 0 + 1)) j 0 ≡ get_or s.places i 0 + 1 = get_or-set_at s.places i j (get_or s.places i 0 + 1) 0 one inside in
                         absurd (let p : get_or (set s.places i (get_or s.places i 0 + 1)) j 0 ≤ place = present.1 in omega (arith, p, moved_on, where_now)))
@@ -295,7 +302,6 @@ module _ (c : RunConstants) (facts : HasPlanFacts c) where
       IsTagged c (record s { ended = set s.ended i (get_or s.ended i 0 + 1); places = set s.places i 0 })
   tagged_finish s tagged i has is =
       let n : ℕ = get_or s.ended i 0 in
-      let job : IsJob c i n = record { task = has.task; job = has.job } in
       let inside : i < length s.ended = omega (arith, tagged.ended, has.task) in
       let inside_places : i < length s.places = omega (arith, tagged.places, has.task) in
       record {
@@ -370,9 +376,7 @@ module _ (c : RunConstants) (facts : HasPlanFacts c) where
               | inl below ↦ inl below
               | inr here ↦ inr (here.0, (let h : from.place < get_or s.places from.task 0 = here.1 in omega (arith, h, at)))
             ]) in
-            let up : from.instance + 1 ≤ get_or s.tags (low cell) 0 = tagged.written from.task from.job pair.0 from.instance (low cell) first done in
-            let holds : get_or s.tags (high cell) 0 ≡ from.instance + 1 = from.holds in
-            omega (arith, up, holds))
+            omega (arith, tagged.written from.task from.job pair.0 from.instance (low cell) first done, from.holds))
       ]
 
   -- so it is for lists

@@ -72,18 +72,15 @@ module _ (edge : Edge) (used : Used) (all : EnumeratesUsed edge used) where
 
   pub some_gaps : length used.gaps ≡ 0 → ⊥
   some_gaps none =
-      let a : used_at used 0 ≡ used.first = flat used.first 0 used.gaps none in
-      let b : used_at used 1 ≡ used.first = flat used.first 1 used.gaps none in
       let c : used_at used 0 < used_at used 1 = rising_to 1 0 (omega arith) in
-      omega (arith, a, b, c)
+      omega (arith, flat used.first 0 used.gaps none, flat used.first 1 used.gaps none, c)
 
   found : (m n k : ℕ) → used_at used k ≡ m → k < n → place_up_to used m n ≡ Some k
   found m zero k at before = absurd (omega arith)
   found m (suc j) k at before =
       elim (cases_lt k j) [
         | inl below ↦
-            (let up = rising_to j k below in
-            let other : eqb (used_at used j) m ≡ false = test_differs (used_at used j) m (λ e. omega (arith, up, at, e)) in
+            (let other : eqb (used_at used j) m ≡ false = test_differs (used_at used j) m (λ e. omega (arith, rising_to j k below, at, e)) in
             ap (λ (b : Bool). cond b (Some j) (place_up_to used m j)) other ∙ found m j k at below)
         | inr above ↦
             (let e : j ≡ k = omega arith in
@@ -95,8 +92,7 @@ module _ (edge : Edge) (used : Used) (all : EnumeratesUsed edge used) where
   pub place_found : (m k : ℕ) → used_at used k ≡ m → place_of used m ≡ Some k
   place_found m k at =
       let some : eqb (length used.gaps) 0 ≡ false = test_differs (length used.gaps) 0 some_gaps in
-      let small = at_least k in
-      ap (λ (b : Bool). cond b None (place_up_to used m (m + 1))) some ∙ found m (m + 1) k at (omega (arith, small, at))
+      ap (λ (b : Bool). cond b None (place_up_to used m (m + 1))) some ∙ found m (m + 1) k at (omega (arith, at_least k, at))
 
 -- what has a place stands there
 same_place : (used : Used) (m n k : ℕ) → place_up_to used m n ≡ Some k → used_at used k ≡ m
@@ -105,7 +101,6 @@ same_place used m (suc j) k h = go (eqb (used_at used j) m) refl (λ g. same_pla
   where
     go : (b : Bool) → eqb (used_at used j) m ≡ b → (place_up_to used m j ≡ Some k → used_at used k ≡ m) → used_at used k ≡ m
     go true test before =
-        let e : Some j ≡ Some k = sym (ap (λ (b : Bool). cond b (Some j) (place_up_to used m j)) test) ∙ h in
         let same : j ≡ k = cc in
         subst (λ (x : ℕ). used_at used x ≡ m) same (test_equal (used_at used j) m test)
     go false test before = before (sym (ap (λ (b : Bool). cond b (Some j) (place_up_to used m j)) test) ∙ h)

@@ -75,11 +75,9 @@ module _ (graph : TaskGraph) (good : IsWellFormed graph) (edge : Edge) (is : IsE
           let l_at = l.1 in
           let l_late : k + turn < l.0 = places_rise (k + turn) l.0 (omega (arith, before, here, l_at)) in
           let up = rises (suc k + turn) l.0 (omega (arith, l_late)) in
-          let low : first_instance edge.ops ≤ used_at used k = first_below (used_at used k) (all.each k) in
-          let m : ℕ = used_at used (suc k + turn) - span_of graph edge in
           let whole : used_at used (suc k + turn) - span_of graph edge + span_of graph edge ≡ used_at used (suc k + turn) = omega (arith, before, there) in
           let asked : IsUsed edge (used_at used (suc k + turn) - span_of graph edge) =
-          used_down (used_at used (suc k + turn) - span_of graph edge) (omega (arith, before, there, low))
+          used_down (used_at used (suc k + turn) - span_of graph edge) (omega (arith, before, there, first_below (used_at used k) (all.each k)))
           (subst (λ (x : ℕ). IsUsed edge x) (sym whole) (all.each (suc k + turn))) in
           let d = all.all (used_at used (suc k + turn) - span_of graph edge) asked in
           let d_at = d.1 in
@@ -89,12 +87,10 @@ module _ (graph : TaskGraph) (good : IsWellFormed graph) (edge : Edge) (is : IsE
 
       gaps_again : 1 ≤ length used.gaps → ComesAgain used.gaps turn
       gaps_again some n =
-          let a = next_gap used some n in
-          let b = next_gap used some (n + turn) in
           let c = turns n in
           let d = turns (n + 1) in
           let order : used_at used (n + 1 + turn) ≡ used_at used (n + turn + 1) = ap (λ (x : ℕ). used_at used x) (let e : n + 1 + turn ≡ n + turn + 1 = omega arith in e) in
-          let same : get_or used.gaps ((n + turn) % length used.gaps) 0 ≡ get_or used.gaps (n % length used.gaps) 0 = omega (arith, a, b, c, d, order) in
+          let same : get_or used.gaps ((n + turn) % length used.gaps) 0 ≡ get_or used.gaps (n % length used.gaps) 0 = omega (arith, next_gap used some n, next_gap used some (n + turn), c, d, order) in
           slice_get-get_or used.gaps ((n + turn) % length used.gaps) 0 (mod_below (n + turn) (length used.gaps) some) ∙ ap (λ (z : ℕ). Some z) same
           ∙ sym (slice_get-get_or used.gaps (n % length used.gaps) 0 (mod_below n (length used.gaps) some))
 
@@ -113,11 +109,6 @@ module _ (graph : TaskGraph) (good : IsWellFormed graph) (edge : Edge) (is : IsE
         let some : 1 ≤ length used.gaps = some_length (length used.gaps) (some_gaps edge used all) in
         let l = all.all (used_at used 0 + span_of graph edge) (used_up (used_at used 0) (all.each 0)) in
         let at = l.1 in
-        let span_some = some_span graph good edge is i comes in
-        let turn_some : 0 < l.0 = places_rise 0 l.0 (omega (arith, at, span_some)) in
+        let turn_some : 0 < l.0 = places_rise 0 l.0 (omega (arith, at, some_span graph good edge is i comes)) in
         let least : length used.gaps ≤ l.0 = short.least l.0 (omega (arith, turn_some)) (gaps_again l.0 at some) in
-        let up = rises (length used.gaps) l.0 least in
-        let grown = grows l.0 in
-        let whole = all_gaps some in
-        let start = first_number used some in
-        (omega (arith, least, grown, at), omega (arith, up, at, whole, start))
+        (omega (arith, least, grows l.0, at), omega (arith, rises (length used.gaps) l.0 least, at, all_gaps some, first_number used some))

@@ -56,47 +56,40 @@ walked_back ty hyper [] are producer consumer takes n m h =
 walked_back ty hyper (operators.Up k ∷ ops) are producer consumer takes n m h =
     let x : Clock = takes.2.0 in
     let rest = walked_back ty hyper ops (λ j o is. are (suc j) o is) producer x takes.2.2 (n / k) m h in
-    let down : n / k * k * consumer.period ≤ n * consumer.period = mul-le-mul_right consumer.period (div-mul-le_self n k) in
     let p : n / k * (k * consumer.period) ≡ n / k * x.period = ap (λ (y : ℕ). n / k * y) takes.2.1.0 in
     let a : n / k * (k * consumer.period) ≡ n / k * k * consumer.period = omega arith in
-    let s : consumer.start ≡ x.start = takes.2.1.1 in
-    omega (arith, rest, down, p, a, s)
+    omega (arith, rest, mul-le-mul_right consumer.period (div-mul-le_self n k), p, a, takes.2.1.1)
 walked_back ty hyper (operators.Down k ∷ ops) are producer consumer takes n m h =
     let x : Clock = takes.2.0 in
     let rest = walked_back ty hyper ops (λ j o is. are (suc j) o is) producer x takes.2.2 (k * n) m h in
     let p : n * consumer.period ≡ n * (k * x.period) = ap (λ (y : ℕ). n * y) takes.2.1.0 in
     let a : n * (k * x.period) ≡ k * n * x.period = omega arith in
-    let s : consumer.start ≡ x.start = takes.2.1.1 in
-    omega (arith, rest, p, a, s)
+    omega (arith, rest, p, a, takes.2.1.1)
 walked_back ty hyper (operators.Shift q ∷ ops) are producer consumer takes n m h =
     let x : Clock = takes.2.0 in
     let rest = walked_back ty hyper ops (λ j o is. are (suc j) o is) producer x takes.2.2 n m h in
     let p : n * consumer.period ≡ n * x.period = ap (λ (y : ℕ). n * y) takes.2.1.0 in
-    let s : x.start ≤ consumer.start = shift_later q.den x.start consumer.start (nat_abs q.num * x.period) (are 0 (operators.Shift q) refl).0 takes.2.1.1 in
-    omega (arith, rest, p, s)
+    omega (arith, rest, p, shift_later q.den x.start consumer.start (nat_abs q.num * x.period) (are 0 (operators.Shift q) refl).0 takes.2.1.1)
 walked_back ty hyper (operators.Tail ∷ ops) are producer consumer takes n m h =
     let x : Clock = takes.2.0 in
     let rest = walked_back ty hyper ops (λ j o is. are (suc j) o is) producer x takes.2.2 (n + 1) m h in
     let p : n * consumer.period ≡ n * x.period = ap (λ (y : ℕ). n * y) takes.2.1.0 in
     let a : (n + 1) * x.period ≡ n * x.period + x.period = omega arith in
-    let s : consumer.start ≡ x.start + x.period = takes.2.1.1 in
-    omega (arith, rest, p, a, s)
+    omega (arith, rest, p, a, takes.2.1.1)
 walked_back ty hyper (operators.Cons c ∷ ops) are producer consumer takes zero m h = cc
 walked_back ty hyper (operators.Cons c ∷ ops) are producer consumer takes (suc n) m h =
     let x : Clock = takes.2.0 in
     let rest = walked_back ty hyper ops (λ j o is. are (suc j) o is) producer x takes.2.2 n m h in
     let p : suc n * consumer.period ≡ suc n * x.period = ap (λ (y : ℕ). suc n * y) takes.2.1.0 in
     let a : suc n * x.period ≡ n * x.period + x.period = omega arith in
-    let s : consumer.start + x.period ≡ x.start = takes.2.1.1 in
-    omega (arith, rest, p, a, s)
+    omega (arith, rest, p, a, takes.2.1.1)
 walked_back ty hyper (operators.Fby c ∷ ops) are producer consumer takes zero m h = cc
 walked_back ty hyper (operators.Fby c ∷ ops) are producer consumer takes (suc n) m h =
     let x : Clock = takes.2.0 in
     let rest = walked_back ty hyper ops (λ j o is. are (suc j) o is) producer x takes.2.2 n m h in
     let p : suc n * consumer.period ≡ suc n * x.period = ap (λ (y : ℕ). suc n * y) takes.2.1.0 in
     let a : suc n * x.period ≡ n * x.period + x.period = omega arith in
-    let s : consumer.start ≡ x.start = takes.2.1.1 in
-    omega (arith, rest, p, a, s)
+    omega (arith, rest, p, a, takes.2.1.1)
 
 -- an operand that is an instance is one of a task, by the walk
 pub operand_walks : (edge : Edge) (n m : ℕ) → operand_of edge n ≡ operands.From m →

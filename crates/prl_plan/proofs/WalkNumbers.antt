@@ -72,13 +72,11 @@ next_fits : (hyper : ℕ) (ops : List Op) (producer consumer x : Clock) → 1 �
     Fits64 next × (nat_abs next * x.period ≤ room + hyper) × (room + hyper + length ops * hyper < 2 ^ 63)
 next_fits hyper ops producer consumer x some same takes n next room near is fits =
     let here = period_here hyper ops producer x some takes in
-    let up : nat_abs next * x.period ≤ (nat_abs n + 1) * x.period = mul-le-mul_right x.period near in
     let a : (nat_abs n + 1) * x.period ≡ nat_abs n * x.period + x.period = omega arith in
     let p : nat_abs n * consumer.period ≡ nat_abs n * x.period = ap (λ (y : ℕ). nat_abs n * y) same in
     let l : suc (length ops) * hyper ≡ length ops * hyper + hyper = omega arith in
-    let within : nat_abs next * x.period ≤ room + hyper = omega (arith, up, a, p, is, here.1) in
-    let w = number_within (nat_abs next) x.period (room + hyper) here.0 within in
-    (fits_64 next (omega (arith, w, fits, l)), within, omega (arith, l, fits))
+    let within : nat_abs next * x.period ≤ room + hyper = omega (arith, mul-le-mul_right x.period near, a, p, is, here.1) in
+    (fits_64 next (omega (arith, number_within (nat_abs next) x.period (room + hyper) here.0 within, fits, l)), within, omega (arith, l, fits))
 
 -- the same over all whole numbers
 pub preceding_fits : (hyper : ℕ) (ops : List Op) (producer consumer : Clock) → 1 ≤ hyper → TakeClock hyper ops producer consumer →
@@ -89,14 +87,13 @@ preceding_fits hyper (operators.Up k ∷ ops) producer consumer some takes n roo
     let here = period_here hyper ops producer x some takes.2.2 in
     let factor = factor_some k consumer.period x.period here.0 takes.2.1.0 in
     let q : ℕ = nat_abs (floor_div n k) in
-    let near : q * k * consumer.period ≤ (nat_abs n + k) * consumer.period = mul-le-mul_right consumer.period (size_floor n k factor) in
     let p : q * (k * consumer.period) ≡ q * x.period = ap (λ (y : ℕ). q * y) takes.2.1.0 in
     let a : q * (k * consumer.period) ≡ q * k * consumer.period = omega arith in
     let b : (nat_abs n + k) * consumer.period ≡ nat_abs n * consumer.period + k * consumer.period = omega arith in
     let l : suc (length ops) * hyper ≡ length ops * hyper + hyper = omega arith in (
       factor,
       preceding_fits hyper ops producer x some takes.2.2 (floor_div n k) (room + hyper)
-          (omega (arith, near, p, a, b, is, takes.2.1.0, here.1)) (omega (arith, l, fits)),
+          (omega (arith, mul-le-mul_right consumer.period (size_floor n k factor), p, a, b, is, takes.2.1.0, here.1)) (omega (arith, l, fits)),
     )
 preceding_fits hyper (operators.Down k ∷ ops) producer consumer some takes n room is fits =
     let x : Clock = takes.2.0 in

@@ -52,6 +52,4 @@ pub one_first : (ops : List Op) (p q : ℕ) → IsFirstReader ops p → IsFirstR
 one_first ops p q first other =
     let a = other.reads q (omega arith) in
     let b = first.reads p (omega arith) in
-    let up = first.first q a.0 a.1 in
-    let down = other.first p b.0 b.1 in
-    omega (arith, up, down)
+    omega (arith, first.first q a.0 a.1, other.first p b.0 b.1)

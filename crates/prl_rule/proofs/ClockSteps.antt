@@ -88,7 +88,6 @@ module _ (k : Constants) (c : RunConstants) (v : RunValues) where
       let mine = a.each_view id u at in
       let clock : AgreesClock c w.raised (reached c es) r = (mine.clock r has).2 in
       let wide : length r.looks ≡ c.tasks = clock.wide in
-      let found : get_or words (done_word i) 0 ≡ get_or (reached c es).ended i 0 = a.shows.done i task in
       keeps_state k c v w w es words words views id (with_clock (looked i (get_or words (done_word i) 0) r) u) a a.calm a.shows
       (clock_with w w (reached c es) (reached c es) id u r (looked i (get_or words (done_word i) 0) r) mine has (λ j. refl) refl (λ j p x. x)
       (record {
@@ -96,7 +95,7 @@ module _ (k : Constants) (c : RunConstants) (v : RunValues) where
         wide = length-set r.looks i (get_or words (done_word i) 0) ∙ wide;
         looks = λ j t. dite (ℕ_discrete j i)
             (λ e. let here : get_or (set r.looks i (get_or words (done_word i) 0)) i 0 ≡ get_or words (done_word i) 0 = get_or-set_same r.looks i (get_or words (done_word i) 0) 0 (omega (arith, wide, task)) in
-            subst (λ (z : ℕ). get_or (set r.looks i (get_or words (done_word i) 0)) z 0 ≤ get_or (reached c es).ended z 0) (sym e) (omega (arith, here, found)))
+            subst (λ (z : ℕ). get_or (set r.looks i (get_or words (done_word i) 0)) z 0 ≤ get_or (reached c es).ended z 0) (sym e) (omega (arith, here, a.shows.done i task)))
             (λ ne. let is = get_or-set_other r.looks i j (get_or words (done_word i) 0) 0 ne in let old = clock.looks j t in omega (arith, is, old));
         told = clock.told;
       }))

@@ -139,9 +139,7 @@ module _ (k : Constants) (c : RunConstants) (v : RunValues) where
       let next = next_of k c v (reached c es) i p.stand (actions.Read port e m (record { 0 = h })) part.stand opened is in
       let reads : ReadsAt c i (get_or (reached c es).ended i 0) (get_or (reached c es).places i 0) m h =
       record { job = record { task = next.has.task; job = next.has.job }; action = (port, e, next.is) } in
-      let held = laws.held c a.facts es (a.gated gate) i _ _ m h reads next.has in
-      let tag = loaded_tag w es words views h a (a.facts.read_cell i _ _ m h reads) in
-      omega (arith, held, tag)
+      omega (arith, laws.held c a.facts es (a.gated gate) i _ _ m h reads next.has, loaded_tag w es words views h a (a.facts.read_cell i _ _ m h reads))
 
   -- a part that has raised finds a later tag again
   raised_later : (w : Witness) (es : List Event) (words : List ℕ) (views : List View) (id i port : ℕ) (e : EdgeNo) (m h : ℕ) (u : View) (p : TaskPart) → AgreesWith k c v w es words views →
@@ -151,10 +149,9 @@ module _ (k : Constants) (c : RunConstants) (v : RunValues) where
       let part : AgreesTask c v w.raised (reached c es) i p = ((a.each_view id u at).task i p has).2 in
       let o = part.stop.overrun r in
       let same = same_read port e m h o.port o.edge o.instance p.kept.slot (sym is ∙ o.reads) in
-      let tag = loaded_tag w es words views h a inside in
       let kept : p.kept.word / 2 ^ 32 ≤ get_or (reached c es).tags h 0 = subst (λ (z : ℕ). p.kept.word / 2 ^ 32 ≤ get_or (reached c es).tags z 0) (sym same.1) part.kept.tag in
       let later = o.later in let one : m ≡ o.instance = same.0 in
-      omega (arith, later, one, kept, tag)
+      omega (arith, later, one, kept, loaded_tag w es words views h a inside)
 
   -- with the wanted tag, a high half completes the instance
   pub value_loaded : (w : Witness) (es : List Event) (words : List ℕ) (views : List View) (i port : ℕ) (e : EdgeNo) (m h : ℕ) (p : TaskPart) → AgreesWith k c v w es words views →

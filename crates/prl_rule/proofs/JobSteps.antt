@@ -36,7 +36,6 @@ module _ (k : Constants) (c : RunConstants) (v : RunValues) where
       let mine = a.each_view id u at in
       let part : AgreesTask c v w.raised (reached c es) i p = (mine.task i p has).2 in
       let place : p.stand.place ≡ 0 = part.stand.shut shut in
-      let same : get_or words now_word 0 ≡ (reached c es).now = a.shows.now in
       keeps_state k c v w w es words words views id (with_part i (now_loaded c i (get_or words now_word 0) p) u) a a.calm a.shows
       (view_with k c v w w (reached c es) (reached c es) id i u p (now_loaded c i (get_or words now_word 0) p) mine has (λ j. refl) refl (λ j r q x. x) (λ r x. x)
       (record {
@@ -48,7 +47,7 @@ module _ (k : Constants) (c : RunConstants) (v : RunValues) where
           job = λ e. (opens_only i p.stand.ended (get_or words now_word 0) e).0;
           released = λ e. (let h = (opens_only i p.stand.ended (get_or words now_word 0) e).1 in omega (arith, h));
           opened = λ n before. (let h = part.stand.opened n before in omega (arith, h));
-          seen = (let h = part.stand.seen in omega (arith, h, same));
+          seen = (let h = part.stand.seen in omega (arith, h, a.shows.now));
         };
         kept = record {
           tag = part.kept.tag;

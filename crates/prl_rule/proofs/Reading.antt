@@ -25,9 +25,6 @@ const_no_end port value is = cc
 pub read_no_end : (port : ℕ) (e : EdgeNo) (m : ℕ) (h : SlotNo) → actions.Read port e m h ≡ actions.End → ⊥
 read_no_end port e m h is = cc
 
-pub write_no_end : (e : EdgeNo) (m : ℕ) (h : SlotNo) → actions.Write e m h ≡ actions.End → ⊥
-write_no_end e m h is = cc
-
 -- one read is of one instance, and of one half
 pub same_read : (port : ℕ) (e : EdgeNo) (m h port' : ℕ) (e' : EdgeNo) (m' h' : ℕ) →
     actions.Read port e m (record { 0 = h }) ≡ actions.Read port' e' m' (record { 0 = h' }) → (m ≡ m') × (h ≡ h')
@@ -55,8 +52,7 @@ module _ (c : RunConstants) (facts : HasPlanFacts c) (i n : ℕ) (job : IsJob c 
       action_at c i n place ≡ actions.Read port e m (record { 0 = low cell })
   before_high place port e m cell is =
       let pair = facts.paired i n (place + 1) job (subst (λ (a : Action). IsHigh a) (sym is) (cell, λ j. high cell)) in
-      let at : place + 1 ≡ pair.0 + 1 = pair.1 in
-      let same : place ≡ pair.0 = omega (arith, at) in
+      let same : place ≡ pair.0 = omega (arith, pair.1) in
       ap (λ (x : ℕ). action_at c i n x) same ∙ pair.2 ∙ ap (λ (a : Action). low_of a) is
       ∙ ap (λ (x : ℕ). actions.Read port e m (record { 0 = x })) (let z : high cell - 1 ≡ low cell = omega arith in z)
 

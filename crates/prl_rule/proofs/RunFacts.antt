@@ -62,13 +62,13 @@ module _ (v : JobValues) (i n : ℕ) where
   past_edge y edges edge j to found =
       subst (λ (b : Bool). slice_get (cond b (read_on v y n ∷ reads_over v edges i n) (reads_over v edges i n)) j ≡ Some (read_on v edge n)) (sym (eq_no y.to.0 i to)) found
 
+  none_at : (edge : Edge) (k : ℕ) → slice_get [] k ≡ Some edge → ⊥
+  none_at edge zero e = cc
+  none_at edge (suc k) e = cc
+
   found_after : (x : Edge) (edges : List Edge) → PortsFollow x.to.0 x.port edges → (q : ℕ) → (x.to.0 ≡ i → q ≡ x.port + 1) → (x.to.0 < i → q ≡ 0) →
       (k : ℕ) (edge : Edge) → slice_get edges k ≡ Some edge → edge.to.0 ≡ i → FoundFrom q edges edge
-  found_after x [] follow q same less k edge at to = absurd (none k at)
-    where
-      none : (k : ℕ) → slice_get [] k ≡ Some edge → ⊥
-      none zero e = cc
-      none (suc k) e = cc
+  found_after x [] follow q same less k edge at to = absurd (none_at edge k at)
   found_after x (y ∷ edges) follow q same less zero edge at to =
       let one : y ≡ edge = cc at in
       let here : y.to.0 ≡ i = ap (λ (z : Edge). z.to.0) one ∙ to in
@@ -97,22 +97,16 @@ module _ (v : JobValues) (i n : ℕ) where
       ]
 
   found_all : (edges : List Edge) → AreInOrder edges → (k : ℕ) (edge : Edge) → slice_get edges k ≡ Some edge → edge.to.0 ≡ i → FoundFrom 0 edges edge
-  found_all [] order k edge at to = absurd (none k at)
-    where
-      none : (k : ℕ) → slice_get [] k ≡ Some edge → ⊥
-      none zero e = cc
-      none (suc k) e = cc
+  found_all [] order k edge at to = absurd (none_at edge k at)
   found_all (y ∷ edges) order zero edge at to =
       let one : y ≡ edge = cc at in
       let here : y.to.0 ≡ i = ap (λ (z : Edge). z.to.0) one ∙ to in
-      let port = order.0 in
       let P : Edge → Type 0 = λ z. FoundFrom 0 (y ∷ edges) z in
-      subst P one (0, omega (arith, port), first_edge y edges here)
+      subst P one (0, omega (arith, order.0), first_edge y edges here)
   found_all (y ∷ edges) order (suc k) edge at to =
-      let port = order.0 in
       elim (cases_eq y.to.0 i) [
         | inl here ↦
-            (let rest = found_after y edges order.1 1 (λ h. omega (arith, port)) (λ h. absurd (omega (arith, h, here))) k edge at to in
+            (let rest = found_after y edges order.1 1 (λ h. omega (arith, order.0)) (λ h. absurd (omega (arith, h, here))) k edge at to in
             (suc rest.0, (let r = rest.1 in omega (arith, r)), with_edge y edges edge rest.0 here rest.2))
         | inr other ↦
             (let rest = found_after y edges order.1 0 (λ h. absurd (other h)) (λ under. refl) k edge at to in
@@ -136,8 +130,7 @@ all_operands plan v i n e (edge ∷ edges) = go (all_operands plan v i n (e + 1)
         operands_in (cond b (reading plan e edge (operand_of edge n)) [] ++ reads_of plan i n (e + 1) edges)
         ≡ length (cond b (read_on v edge n ∷ reads_over v edges i n) (reads_over v edges i n))
     go rest true =
-        let one = reading_one plan e edge (operand_of edge n) in
-        let both = operands_of_two (reading plan e edge (operand_of edge n)) (reads_of plan i n (e + 1) edges) in omega (arith, rest, one, both)
+        let both = operands_of_two (reading plan e edge (operand_of edge n)) (reads_of plan i n (e + 1) edges) in omega (arith, rest, reading_one plan e edge (operand_of edge n), both)
     go rest false = rest
 
 taken_all : (xs ys : List Action) (place : ℕ) → length xs ≤ place → operands_in xs ≤ operands_in (take place (xs ++ ys))
@@ -169,8 +162,7 @@ module _ (k : Constants) (plan : IsPlan k.plan)
       (get_or k.plan.used e no_used) reads (plan.cells.cells e (edge_at k.plan.graph e) (edge_is e inside)) in
       let base = some.0 in
       let less : unwrap_or (place_on k.plan e m) 0 % get_or k.plan.counts e 0 < get_or k.plan.counts e 0 = mod-lt (unwrap_or (place_on k.plan e m) 0) some.1 in
-      let counts = plan.cells.lengths.1 in
-      edge_in_range k.plan.counts e (cell_of k.plan e m) (omega (arith, counts, inside)) (omega (arith, base)) (omega (arith, base, less))
+      edge_in_range k.plan.counts e (cell_of k.plan e m) (omega (arith, plan.cells.lengths.1, inside)) (omega (arith, base)) (omega (arith, base, less))
 
   -- the cell of a half
   cell_of_half : (cell slot : ℕ) → IsHalfOf cell slot → slot / 2 ≡ cell
@@ -212,9 +204,7 @@ module _ (k : Constants) (plan : IsPlan k.plan)
       slice_get (reads_of_job k.plan.graph (job_values_of k) i n) (operands_before (actions_of k.plan i n) place) ≡ Some (read_on (job_values_of k) (edge_at k.plan.graph e) n)
   at_port i n place port e inside to same is =
       let found = found_all (job_values_of k) i n k.plan.graph.edges plan.graph.order e (edge_at k.plan.graph e) (edge_is e inside) to in
-      let count : operands_before (actions_of k.plan i n) place ≡ port = ports i n place port is in
-      let one = found.1 in
-      let place_is : operands_before (actions_of k.plan i n) place ≡ found.0 = omega (arith, count, same, one) in
+      let place_is : operands_before (actions_of k.plan i n) place ≡ found.0 = omega (arith, ports i n place port is, same, found.1) in
       ap (λ (j : ℕ). slice_get (reads_of_job k.plan.graph (job_values_of k) i n) j) place_is ∙ found.2
 
   pub operand_read : (i n place port : ℕ) (e : EdgeNo) (m : ℕ) (slot : SlotNo) → IsJob (run_of k) i n → read_at i n place ≡ actions.Read port e m slot →
@@ -247,21 +237,17 @@ module _ (k : Constants) (plan : IsPlan k.plan)
   pub complete_run : (i n place : ℕ) → place_of_run k.plan i n ≤ place →
       length (reads_of_job k.plan.graph (job_values_of k) i n) ≤ operands_before (actions_of k.plan i n) place
   complete_run i n place h =
-      let reads : List Action = reads_of k.plan i n 0 k.plan.graph.edges in
-      let rest : List Action = writes_of k.plan i n 0 k.plan.graph.edges in
-      let count = all_operands k.plan (job_values_of k) i n 0 k.plan.graph.edges in
       let long = taken_all (reads_of k.plan i n 0 k.plan.graph.edges) (writes_of k.plan i n 0 k.plan.graph.edges ++ actions.End ∷ []) place (reads_by i n place h) in
       let same : operands_in (take place (reads_of k.plan i n 0 k.plan.graph.edges ++ (writes_of k.plan i n 0 k.plan.graph.edges ++ actions.End ∷ [])))
       ≡ operands_before (actions_of k.plan i n) place =
       ap (λ (l : List Action). operands_in (take place l)) (sym (append_assoc (reads_of k.plan i n 0 k.plan.graph.edges) (writes_of k.plan i n 0 k.plan.graph.edges) (actions.End ∷ []))) in
-      omega (arith, count, long, same)
+      omega (arith, all_operands k.plan (job_values_of k) i n 0 k.plan.graph.edges, long, same)
 
   pub run_by_end : (i n place : ℕ) → read_at i n place ≡ actions.End → place_of_run k.plan i n ≤ place + 1
   run_by_end i n place is =
-      let long = ends i n place is in
       let split = length-append (reads_of k.plan i n 0 k.plan.graph.edges ++ writes_of k.plan i n 0 k.plan.graph.edges) (actions.End ∷ []) in
       let again = length-append (reads_of k.plan i n 0 k.plan.graph.edges) (writes_of k.plan i n 0 k.plan.graph.edges) in
-      at_most (length (reads_of k.plan i n 0 k.plan.graph.edges)) place (omega (arith, long, split, again))
+      at_most (length (reads_of k.plan i n 0 k.plan.graph.edges)) place (omega (arith, ends i n place is, split, again))
     where
       at_most : (a b : ℕ) → a ≤ b → max a 1 ≤ b + 1
       at_most a b h = omega (arith, h)

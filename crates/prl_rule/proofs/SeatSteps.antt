@@ -85,29 +85,27 @@ module _ (k : Constants) (c : RunConstants) (v : RunValues) where
     clock = a.clock;
   }
 
+  -- where the state stays, only the views and their owners matter
+  owners_keep : (w : Witness) (owner : ℕ → ℕ) (clock_owner : ℕ) (es : List Event) (words : List ℕ) (views after : List View) → AgreesWith k c v w es words views →
+      ((j : ℕ) (x : View) → get_elem? after j ≡ some x → AgreesView k c v (record { owner = owner; clock_owner = clock_owner; raised = w.raised }) (reached c es) j x) →
+      AgreesWith k c v (record { owner = owner; clock_owner = clock_owner; raised = w.raised }) es words after
+  owners_keep w owner clock_owner es words views after a each =
+      record { facts = a.facts; values = a.values; free = a.free; gated = a.gated; calm = a.calm; shows = a.shows; each_view = each }
+
   pub split_keeps : (w : Witness) (es : List Event) (words : List ℕ) (views : List View) (id i : ℕ) (u : View) (p : TaskPart) → AgreesWith k c v w es words views →
       get_elem? views id ≡ some u → get_elem? u.tasks i ≡ some (Some p) →
       AgreesWith k c v (given_to i (length views) w) es words (set views id (without_part i u) ++ only_part i u ∷ [])
   split_keeps w es words views id i u p a at has =
       let mine = a.each_view id u at in
       let there = mine.task i p has in
-      let within : id < length views = at_within views id u at in
-      record {
-        facts = a.facts;
-        values = a.values;
-        free = a.free;
-        gated = a.gated;
-        calm = a.calm;
-        shows = a.shows;
-        each_view = λ j x e. ⊎_elim
-            (λ old. ⊎_elim
-            (λ t. let P : ℕ × View → Type 0 = λ z. AgreesView k c v (given_to i (length views) w) (reached c es) z.0 z.1 in subst P (λ h. (sym t.0 h, t.1 h)) (left mine))
-            (λ t. others_keep w (reached c es) i (length views) j x (λ same. t.0 (sym same ∙ there.0)) (a.each_view j x t.1))
-            (at_set views id j (without_part i u) x old))
-            (λ new. let place : j ≡ length views = new.0 ∙ length-set views id (without_part i u) in
-            let P : ℕ × View → Type 0 = λ z. AgreesView k c v (given_to i (length views) w) (reached c es) z.0 z.1 in subst P (λ h. (sym place h, new.1 h)) (right mine there))
-            (at_grown (set views id (without_part i u)) (only_part i u) x j e);
-      }
+      owners_keep w (given_to i (length views) w).owner w.clock_owner es words views (set views id (without_part i u) ++ only_part i u ∷ []) a (λ j x e. ⊎_elim
+      (λ old. ⊎_elim
+      (λ t. let P : ℕ × View → Type 0 = λ z. AgreesView k c v (given_to i (length views) w) (reached c es) z.0 z.1 in subst P (λ h. (sym t.0 h, t.1 h)) (left mine))
+      (λ t. others_keep w (reached c es) i (length views) j x (λ same. t.0 (sym same ∙ there.0)) (a.each_view j x t.1))
+      (at_set views id j (without_part i u) x old))
+      (λ new. let place : j ≡ length views = new.0 ∙ length-set views id (without_part i u) in
+      let P : ℕ × View → Type 0 = λ z. AgreesView k c v (given_to i (length views) w) (reached c es) z.0 z.1 in subst P (λ h. (sym place h, new.1 h)) (right mine there))
+      (at_grown (set views id (without_part i u)) (only_part i u) x j e))
     where
       left : AgreesView k c v w (reached c es) id u → AgreesView k c v (given_to i (length views) w) (reached c es) id (without_part i u)
       left mine = record {
@@ -150,23 +148,14 @@ module _ (k : Constants) (c : RunConstants) (v : RunValues) where
       get_elem? views id ≡ some u → (other ≡ id → ⊥) → get_elem? views other ≡ some x → u.constants ≡ Some k →
       AgreesWith k c v (taken_in id other w) es words (set (set views id (joined u x)) other spent)
   join_keeps w es words views id other u x a at apart at_other known =
-      let mine = a.each_view id u at in
       let theirs = a.each_view other x at_other in
-      record {
-        facts = a.facts;
-        values = a.values;
-        free = a.free;
-        gated = a.gated;
-        calm = a.calm;
-        shows = a.shows;
-        each_view = λ j y e. ⊎_elim
-            (λ t. subst (AgreesView k c v (taken_in id other w) (reached c es) j) t.1 (spent_agrees (taken_in id other w) (reached c es) j))
-            (λ t. ⊎_elim
-            (λ s. let P : ℕ × View → Type 0 = λ z. AgreesView k c v (taken_in id other w) (reached c es) z.0 z.1 in subst P (λ h. (sym s.0 h, s.1 h)) (both mine theirs))
-            (λ s. rest j y t.0 (a.each_view j y s.1))
-            (at_set views id j (joined u x) y t.1))
-            (at_set (set views id (joined u x)) other j spent y e);
-      }
+      owners_keep w (taken_in id other w).owner (taken_in id other w).clock_owner es words views (set (set views id (joined u x)) other spent) a (λ j y e. ⊎_elim
+      (λ t. subst (AgreesView k c v (taken_in id other w) (reached c es) j) t.1 (spent_agrees (taken_in id other w) (reached c es) j))
+      (λ t. ⊎_elim
+      (λ s. let P : ℕ × View → Type 0 = λ z. AgreesView k c v (taken_in id other w) (reached c es) z.0 z.1 in subst P (λ h. (sym s.0 h, s.1 h)) (both (a.each_view id u at) theirs))
+      (λ s. rest j y t.0 (a.each_view j y s.1))
+      (at_set views id j (joined u x) y t.1))
+      (at_set (set views id (joined u x)) other j spent y e))
     where
       both : AgreesView k c v w (reached c es) id u → AgreesView k c v w (reached c es) other x → AgreesView k c v (taken_in id other w) (reached c es) id (joined u x)
       both mine theirs = record {
@@ -188,20 +177,16 @@ module _ (k : Constants) (c : RunConstants) (v : RunValues) where
         clock = λ r t. let m = b.clock r t in (owner_kept id other w.clock_owner (λ h. ne (sym m.0 ∙ h)) ∙ m.0, m.1, m.2);
       }
 
+  -- a seat enters that agrees wherever it stands
+  grown_keeps : (w : Witness) (es : List Event) (words : List ℕ) (views : List View) (fresh : View) → AgreesWith k c v w es words views →
+      ((j : ℕ) → AgreesView k c v w (reached c es) j fresh) → AgreesWith k c v w es words (views ++ fresh ∷ [])
+  grown_keeps w es words views fresh a agrees =
+      owners_keep w w.owner w.clock_owner es words views (views ++ fresh ∷ []) a
+      (λ j y e. ⊎_elim (λ old. a.each_view j y old) (λ new. subst (AgreesView k c v w (reached c es) j) new.1 (agrees j)) (at_grown views fresh y j e))
+
   -- a spent seat enters
   pub enter_keeps : (w : Witness) (es : List Event) (words : List ℕ) (views : List View) → AgreesWith k c v w es words views → AgreesWith k c v w es words (views ++ spent ∷ [])
-  enter_keeps w es words views a = record {
-    facts = a.facts;
-    values = a.values;
-    free = a.free;
-    gated = a.gated;
-    calm = a.calm;
-    shows = a.shows;
-    each_view = λ j y e. ⊎_elim
-        (λ old. a.each_view j y old)
-        (λ new. subst (AgreesView k c v w (reached c es) j) new.1 (spent_agrees w (reached c es) j))
-        (at_grown views spent y j e);
-  }
+  enter_keeps w es words views a = grown_keeps w es words views spent a (spent_agrees w (reached c es))
 
   bare_agrees : (w : Witness) (s : ExecState) (id : ℕ) → AgreesView k c v w s id (bare k)
   bare_agrees w s id = record {
@@ -212,18 +197,7 @@ module _ (k : Constants) (c : RunConstants) (v : RunValues) where
 
   -- and so does one that has no part
   pub bare_keeps : (w : Witness) (es : List Event) (words : List ℕ) (views : List View) → AgreesWith k c v w es words views → AgreesWith k c v w es words (views ++ bare k ∷ [])
-  bare_keeps w es words views a = record {
-    facts = a.facts;
-    values = a.values;
-    free = a.free;
-    gated = a.gated;
-    calm = a.calm;
-    shows = a.shows;
-    each_view = λ j y e. ⊎_elim
-        (λ old. a.each_view j y old)
-        (λ new. subst (AgreesView k c v w (reached c es) j) new.1 (bare_agrees w (reached c es) j))
-        (at_grown views (bare k) y j e);
-  }
+  bare_keeps w es words views a = grown_keeps w es words views (bare k) a (bare_agrees w (reached c es))
 
   -- no part is lost in a join
   pub join_has_task : (w : Witness) (es : List Event) (words : List ℕ) (views : List View) (id other i : ℕ) (u x : View) (p : TaskPart) → AgreesWith k c v w es words views →

@@ -56,9 +56,8 @@ module _ (k : Constants) (c : RunConstants) (v : RunValues) where
       let next = next_of k c v (reached c es) i p.stand (actions.Read o.port o.edge o.instance (record { 0 = p.kept.slot })) part.stand o.opened o.reads in
       let reads : ReadsAt c i (get_or (reached c es).ended i 0) (get_or (reached c es).places i 0) o.instance p.kept.slot =
       record { job = record { task = next.has.task; job = next.has.job }; action = (o.port, o.edge, next.is) } in
-      let held = laws.held c a.facts es (a.gated gate) i _ _ o.instance p.kept.slot reads next.has in
       let kept = part.kept.tag in let later = o.later in
-      omega (arith, held, kept, later)
+      omega (arith, laws.held c a.facts es (a.gated gate) i _ _ o.instance p.kept.slot reads next.has, kept, later)
 
   pub raise_keeps : PlanLaws → (w : Witness) (es : List Event) (words : List ℕ) (views : List View) (id i : ℕ) (u : View) (p : TaskPart) → AgreesWith k c v w es words views →
       get_elem? views id ≡ some u → get_elem? u.tasks i ≡ some (Some p) → IsOverrun c i p.stand p.kept →
@@ -67,7 +66,6 @@ module _ (k : Constants) (c : RunConstants) (v : RunValues) where
       let mine = a.each_view id u at in
       let there = mine.task i p has in
       let part : AgreesTask c v w.raised (reached c es) i p = there.2 in
-      let wide = a.shows.wide in
       keeps_state k c v w (raised_by i w) es words (set words (stop_word c) (i + 1)) views id (with_part i (part_raised p) u) a
       (λ gate. absurd (no_overrun laws w es words views id i u p a gate at has o))
       (record {
@@ -76,7 +74,7 @@ module _ (k : Constants) (c : RunConstants) (v : RunValues) where
         done = λ j t. get_or-set_other words (stop_word c) (done_word j) (i + 1) 0 (λ e. absurd (omega (arith, e, t))) ∙ a.shows.done j t;
         slot = λ j t. get_or-set_other words (stop_word c) (slot_word c j) (i + 1) 0 (λ e. absurd (omega (arith, e, t))) ∙ a.shows.slot j t;
         fits = a.shows.fits;
-        stop = inr (i, part.stand.task, get_or-set_same words (stop_word c) (i + 1) 0 (omega (arith, wide)), raised_here w i);
+        stop = inr (i, part.stand.task, get_or-set_same words (stop_word c) (i + 1) 0 (omega (arith, a.shows.wide)), raised_here w i);
       })
       (view_with k c v w (raised_by i w) (reached c es) (reached c es) id i u p (part_raised p) mine has (λ j. refl) refl
       (λ j r ne x. other_task w (reached c es) i j r ne x) (λ r x. clock_stays w (reached c es) i r x)

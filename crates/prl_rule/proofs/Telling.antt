@@ -77,10 +77,8 @@ module _ (k : Constants) (c : RunConstants) (v : RunValues) where
       let inside : h < c.slots = a.facts.write_cell i p.stand.ended p.stand.place m h writes in
       let tags : IsTagged c (reached c es) = laws.tagged c a.facts es a.free in
       let stands : get_or (reached c es).tags h 0 ≤ m = tags.ahead i p.stand.ended p.stand.place m h writes (inr (part.stand.ended, (let q = part.stand.place in omega (arith, q)))) in
-      let found = loaded_tag k c v w es words views h a inside in
-      let over = a.facts.over j n place l i p.stand.ended p.stand.place m h reads writes (omega (arith, stands, found, tag)) in
-      let released = part.stand.released opened in
-      omega (arith, over, released)
+      let over = a.facts.over j n place l i p.stand.ended p.stand.place m h reads writes (omega (arith, stands, loaded_tag k c v w es words views h a inside, tag)) in
+      omega (arith, over, part.stand.released opened)
 
   -- no part stands in two views
   pub parts_apart : (w : Witness) (es : List Event) (words : List ℕ) (views : List View) (id other i : ℕ) (u x : View) (p q : TaskPart) → AgreesWith k c v w es words views →
@@ -102,9 +100,8 @@ module _ (k : Constants) (c : RunConstants) (v : RunValues) where
         | inl ended ↦ ended
         | inr open_ ↦ absurd
             (let done : get_or words (done_word i) 0 ≡ get_or (reached c es).ended i 0 = a.shows.done i job.task in
-            let now : get_or words now_word 0 ≡ (reached c es).now = a.shows.now in
             let early = kept es (a.gated gate) i n (record { task = job.task; job = job.job; unfinished = omega (arith, open_, done) }) in
-            omega (arith, early, due, now))
+            omega (arith, early, due, a.shows.now))
       ]
 
   pub part_agrees : (w : Witness) (es : List Event) (words : List ℕ) (views : List View) (id i : ℕ) (u : View) (p : TaskPart) → AgreesWith k c v w es words views →
@@ -120,8 +117,7 @@ module _ (k : Constants) (c : RunConstants) (v : RunValues) where
   pub count_in_jobs : PlanLaws → (w : Witness) (es : List Event) (words : List ℕ) (views : List View) (i : ℕ) → AgreesWith k c v w es words views → i < c.tasks →
       get_or words (done_word i) 0 ≤ c.jobs i
   count_in_jobs laws w es words views i a task =
-      let done : get_or words (done_word i) 0 ≡ get_or (reached c es).ended i 0 = a.shows.done i task in
-      let counted = (laws.tagged c a.facts es a.free).counted i task in omega (arith, counted, done)
+      let counted = (laws.tagged c a.facts es a.free).counted i task in omega (arith, counted, a.shows.done i task)
 
 -- what a write replaces, no job reads, of the horizon or not, that is due after the `now` that its task has loaded; and its task has left it there
 module _ (k : Constants) (v : RunValues) (laws : PlanLaws) (whole : IsPlan k.plan) (horizon : IsHorizon k.plan k.horizon)
@@ -137,10 +133,9 @@ module _ (k : Constants) (v : RunValues) (laws : PlanLaws) (whole : IsPlan k.pla
   held_is_read : (l : ℕ) → get_or (reached (run_of k) es).tags slot.0 0 ≡ l + 1 → IsReadBy k.plan e.0 l p.stand.now
   held_is_read l holds n reads =
       let next = next_of k (run_of k) v (reached (run_of k) es) i p.stand (actions.Write e m slot) part.stand opened is in
-      let over = laws.replaced k.plan whole k.horizon horizon (reached (run_of k) es) (laws.tagged (run_of k) a.facts es a.free) i e.0 m slot.0 l n next.has next.is holds reads in
       let own : m ≡ p.stand.ended = a.facts.own i p.stand.ended p.stand.place m slot.0 writes in
       let released : (run_of k).release i m ≤ p.stand.now = subst (λ (x : ℕ). (run_of k).release i x ≤ p.stand.now) (sym own) (part.stand.released opened) in
-      omega (arith, over, released)
+      omega (arith, laws.replaced k.plan whole k.horizon horizon (reached (run_of k) es) (laws.tagged (run_of k) a.facts es a.free) i e.0 m slot.0 l n next.has next.is holds reads, released)
 
   pub replaced_is_read : (l : ℕ) → get_or words (slot_word (run_of k) slot.0) 0 / 2 ^ 32 ≡ l + 1 → IsReadBy k.plan e.0 l p.stand.now
   replaced_is_read l tag =

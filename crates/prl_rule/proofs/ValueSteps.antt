@@ -39,8 +39,7 @@ module _ (c : RunConstants) (i : ℕ) (at : Standing) (operands : List Value) wh
   pub grows_by_none : (held : List Value) → held ≡ take (operands_before (c.actions i at.ended) at.place) operands → completes (action_at c i at.ended at.place) ≡ 0 →
       held ++ [] ≡ take (operands_before (c.actions i at.ended) (at.place + 1)) operands
   grows_by_none held same none =
-      let step = operands_step (c.actions i at.ended) at.place in
-      let count : operands_before (c.actions i at.ended) at.place ≡ operands_before (c.actions i at.ended) (at.place + 1) = omega (arith, step, none) in
+      let count : operands_before (c.actions i at.ended) at.place ≡ operands_before (c.actions i at.ended) (at.place + 1) = omega (arith, operands_step (c.actions i at.ended) at.place, none) in
       append-nil held ∙ same ∙ ap (λ (n : ℕ). take n operands) count
 
   -- an action that completes the next operand
@@ -48,8 +47,7 @@ module _ (c : RunConstants) (i : ℕ) (at : Standing) (operands : List Value) wh
       slice_get operands (operands_before (c.actions i at.ended) at.place) ≡ Some value →
       held ++ value ∷ [] ≡ take (operands_before (c.actions i at.ended) (at.place + 1)) operands
   grows_by_one held value same one there =
-      let step = operands_step (c.actions i at.ended) at.place in
-      let count : operands_before (c.actions i at.ended) at.place + 1 ≡ operands_before (c.actions i at.ended) (at.place + 1) = omega (arith, step, one) in
+      let count : operands_before (c.actions i at.ended) at.place + 1 ≡ operands_before (c.actions i at.ended) (at.place + 1) = omega (arith, operands_step (c.actions i at.ended) at.place, one) in
       ap (λ (l : List Value). l ++ value ∷ []) same ∙ one_more operands (operands_before (c.actions i at.ended) at.place) value there ∙ ap (λ (n : ℕ). take n operands) count
 
 le_yes : (a b : ℕ) → a ≤ b → nat_le a b ≡ true
@@ -131,8 +129,7 @@ module _ (c : RunConstants) (v : RunValues) (facts : HasValueFacts c v) where
         outputs = given i at held (held.operands ++ []) a job before full ∙ ap (outputs_before (v.outputs i)) (sym after);
       }))
       (λ ne. subst Q (sym (ne_eqb (at.place + 1) (v.runs_at i at.ended) ne))
-      (let latest = facts.by_end i at.ended at.place job end in
-      let made : steps_at v i at ≡ at.ended + 1 = steps_ran i at (omega (arith, latest, ne)) in
+      (let made : steps_at v i at ≡ at.ended + 1 = steps_ran i at (omega (arith, facts.by_end i at.ended at.place job end, ne)) in
       record {
         operands = refl;
         registers = a.registers ∙ ap (v.registers i) (made ∙ sym after);

@@ -19,12 +19,9 @@ class_is_early plan is i c inside below = record {
   task = inside;
   early =
       (let start = (task_is plan.graph is.graph i inside).start in
-      let some = (task_is plan.graph is.graph i inside).period.0 in
       let m = mul-le-mul_right (task_at plan.graph i).clock.period (let g : c + 1 ≤ classes plan.graph i = omega (arith, below) in g) in
       let e : (c + 1) * (task_at plan.graph i).clock.period ≡ c * (task_at plan.graph i).clock.period + (task_at plan.graph i).clock.period = omega arith in
-      let h = jobs_are plan.graph is.graph i inside in
-      let z = pos-*ℤ-pos c (task_at plan.graph i).clock.period in
-      omega (arith, ints, start, some, m, e, h, z));
+      omega (arith, ints, start, (task_is plan.graph is.graph i inside).period.0, m, e, jobs_are plan.graph is.graph i inside, pos-*ℤ-pos c (task_at plan.graph i).clock.period));
 }
 
 pub hyper_small : (plan : PlanView) → IsPlan plan → 2 ^ 31 + plan.graph.hyper < 2 ^ 32
@@ -33,14 +30,10 @@ hyper_small plan is = (let few = is.graph.hyper in omega (arith, few))
 -- a window is at most a hyperperiod long
 pub short_window : (plan : PlanView) → IsPlan plan → (i m : ℕ) → i < length plan.graph.tasks → deadline_at plan i m ≤ release_at plan i m + plan.graph.hyper
 short_window plan is i m inside =
-    let above = is.dates.releases.releases.above i (pos m) inside in
     let below : encoded_deadline plan.graph plan.windows i (pos m) ≤ℤ deadline_of (task_at plan.graph i) (pos m) = is.dates.deadlines.deadlines.below i (pos m) inside in
-    let due = (task_is plan.graph is.graph i inside).due.1 in
-    let many = some_classes plan is i inside in
-    let e = jobs_are plan.graph is.graph i inside in
-    let one = mul-le-mul_right (task_at plan.graph i).clock.period many in
+    let one = mul-le-mul_right (task_at plan.graph i).clock.period (some_classes plan is i inside) in
     let self : 1 * (task_at plan.graph i).clock.period ≡ (task_at plan.graph i).clock.period = omega arith in
-    omega (arith, ints, above, below, due, e, one, self)
+    omega (arith, ints, is.dates.releases.releases.above i (pos m) inside, below, (task_is plan.graph is.graph i inside).due.1, jobs_are plan.graph is.graph i inside, one, self)
 
 pub piece_ends : (plan : PlanView) (entry : Entry) → IsPiece plan entry → deadline_at plan entry.task.0 entry.job < 2 ^ 33 → entry.at + entry.units < 2 ^ 33
 piece_ends plan entry piece small = (let to = piece.to in omega (arith, to, small))

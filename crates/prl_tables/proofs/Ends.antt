@@ -16,8 +16,7 @@ has_ends c one = record {
   some = λ i n job. (let l = (one.last i n job).1 in omega (arith, l));
   end = λ i n place job at.
       (let last = one.last i n job in
-      let l = last.1 in
-      let same : place ≡ last.0 = omega (arith, l, at) in
+      let same : place ≡ last.0 = omega (arith, last.1, at) in
       ap (λ (p : ℕ). action_at c i n p) same ∙ last.2);
   before = λ i n place job more is. (let e = one.only i n place job is in omega (arith, e, more));
 }

@@ -97,9 +97,8 @@ module _ (plan : PlanView) (is : IsPlan plan) (h : Horizon) (horizon : IsHorizon
   -- the entry in which a job has its last unit
   ends : (i n : ℕ) → i < length plan.graph.tasks → Is entries i (n % classes plan.graph i)
   ends i n inside =
-      let whole = good.whole i (n % classes plan.graph i) inside (below plan is i n inside) in
       let wcet = (task_is plan.graph is.graph i inside).wcet.0 in
-      last_entry entries i (n % classes plan.graph i) (some_end entries i (n % classes plan.graph i) (omega (arith, whole, wcet)))
+      last_entry entries i (n % classes plan.graph i) (some_end entries i (n % classes plan.graph i) (omega (arith, good.whole i (n % classes plan.graph i) inside (below plan is i n inside), wcet)))
 
   within : (i n : ℕ) → i < length plan.graph.tasks →
       (release_at plan i n ≤ last_unit plan.graph entries i n) × (last_unit plan.graph entries i n < deadline_at plan i n)
@@ -118,42 +117,32 @@ module _ (plan : PlanView) (is : IsPlan plan) (h : Horizon) (horizon : IsHorizon
       (n % classes plan.graph i) (n / classes plan.graph i) inside in
       let rs = ap (λ (x : ℕ). encoded_release plan.graph plan.windows i (pos x)) (split plan is i n) in
       let ds = ap (λ (x : ℕ). encoded_deadline plan.graph plan.windows i (pos x)) (split plan is i n) in
-      let first = is.dates.releases.releases.above i (pos (n % classes plan.graph i)) inside in
       (omega (arith, ints, release, end, units, r, rs), omega (arith, ints, deadline, end, units, d, ds))
 
   earlier : (e i j n k : ℕ) → e < length plan.graph.edges → ComesFrom (edge_at plan.graph e).from i → (edge_at plan.graph e).to.0 ≡ j →
       i < length plan.graph.tasks → j < length plan.graph.tasks → preceding (edge_at plan.graph e).ops (pos k) ≡ pos n →
       last_unit plan.graph entries i n < last_unit plan.graph entries j k
   earlier e i j n k inside comes to from_in to_in precedes =
-      let x : ℕ = n / classes plan.graph i in
-      let y : ℕ = k / classes plan.graph (edge_at plan.graph e).to.0 in
       let to_edge : (edge_at plan.graph e).to.0 < length plan.graph.tasks = subst (λ (z : ℕ). z < length plan.graph.tasks) (sym to) to_in in
-      let q : ℕ = n % classes plan.graph i in
-      let c : ℕ = k % classes plan.graph (edge_at plan.graph e).to.0 in
       let moved = preceding_shifted plan is e i (k % classes plan.graph (edge_at plan.graph e).to.0) (k / classes plan.graph (edge_at plan.graph e).to.0) to_edge from_in inside comes in
       let ks = ap (λ (z : ℕ). preceding (edge_at plan.graph e).ops (pos z)) (split plan is (edge_at plan.graph e).to.0 k) in
-      let ns = split plan is i n in
       let z : ℤ = pos (n / classes plan.graph i) -ℤ pos (k / classes plan.graph (edge_at plan.graph e).to.0) in
       let back : z +ℤ pos (k / classes plan.graph (edge_at plan.graph e).to.0) ≡ pos (n / classes plan.graph i) = omega (arith, ints) in
-      let by_class = plus_mul z (k / classes plan.graph (edge_at plan.graph e).to.0) (classes plan.graph i) in
       let by_class_is = ap (λ (v : ℤ). v *ℤ pos (classes plan.graph i)) back in
       let class_times = pos-*ℤ-pos (n / classes plan.graph i) (classes plan.graph i) in
-      let by_hyper = plus_mul z (k / classes plan.graph (edge_at plan.graph e).to.0) plan.graph.hyper in
       let by_hyper_is = ap (λ (v : ℤ). v *ℤ pos plan.graph.hyper) back in
       let hyper_times = pos-*ℤ-pos (n / classes plan.graph i) plan.graph.hyper in
       let its : preceding (edge_at plan.graph e).ops (pos (k % classes plan.graph (edge_at plan.graph e).to.0)) ≡ pos (n % classes plan.graph i) +ℤ (z *ℤ pos (classes plan.graph i)) =
-      omega (arith, ints, moved, ks, ns, precedes, by_class, by_class_is, class_times) in
+      omega (arith, ints, moved, ks, split plan is i n, precedes, plus_mul z (k / classes plan.graph (edge_at plan.graph e).to.0) (classes plan.graph i), by_class_is, class_times) in
       let one = ends i n from_in in
       let other = ends (edge_at plan.graph e).to.0 k to_edge in
       let order = good.order e (k % classes plan.graph (edge_at plan.graph e).to.0) inside (below plan is (edge_at plan.graph e).to.0 k to_edge) i (n % classes plan.graph i) z comes
       (below plan is i n from_in) its
       one.k other.k one.entry other.entry one.stands other.stands (one.task, one.job) (other.task, other.job) in
-      let one_end = one.last in
-      let other_end = other.last in
       let one_units = (good.pieces one.k one.entry one.stands).units in
       let other_units = (good.pieces other.k other.entry other.stands).units in
       let result : last_unit plan.graph entries i n < last_unit plan.graph entries (edge_at plan.graph e).to.0 k =
-      omega (arith, ints, order, one_end, other_end, one_units, other_units, by_hyper, by_hyper_is, hyper_times) in
+      omega (arith, ints, order, one.last, other.last, one_units, other_units, plus_mul z (k / classes plan.graph (edge_at plan.graph e).to.0) plan.graph.hyper, by_hyper_is, hyper_times) in
       subst (λ (v : ℕ). last_unit plan.graph entries i n < last_unit plan.graph entries v k) to result
 
   pub good_is_placing : IsPlacing (constants_of plan h) (last_unit plan.graph entries)

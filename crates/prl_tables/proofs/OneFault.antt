@@ -63,9 +63,7 @@ one_clash hyper entries a b c d h k =
     let there = h.least k.k k.l k.ordered k.clash in
     let back = k.least h.k h.l h.ordered h.clash in
     let first : h.k ≡ k.k = omega (arith, there.0, back.0) in
-    let one = there.1 (sym first) in
-    let other = back.1 first in
-    let second : h.l ≡ k.l = omega (arith, one, other) in
+    let second : h.l ≡ k.l = omega (arith, there.1 (sym first), back.1 first) in
     (h.first_line ∙ ap (λ (n : ℕ). n + 3) first ∙ sym k.first_line, h.second_line ∙ ap (λ (n : ℕ). n + 3) second ∙ sym k.second_line)
 
 same_task : (a b : TaskNo) → a.0 ≡ b.0 → a ≡ b

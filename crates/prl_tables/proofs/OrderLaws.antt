@@ -56,11 +56,9 @@ module _ (plan : PlanView) (is : IsPlan plan) where
   reads_late precede e i n inside comes late =
       let each = is.words.each e (edge_at plan.graph e) (slice_get-get_or plan.graph.edges e no_edge inside) in
       let first = first_after_prefix (edge_at plan.graph e).ops each.0 each.2 in
-      let within = slice_get_within plan.words e each.0 each.1 in
-      let most = get_or-le-sum_by (λ (w : Word). length w.prefix) plan.words e each.0 within in
+      let most = get_or-le-sum_by (λ (w : Word). length w.prefix) plan.words e each.0 (slice_get_within plan.words e each.0 each.1) in
       let same = ap (λ (w : Word). length w.prefix) (get_or_from_slice_get plan.words e each.0 each.0 each.1) in
-      let few = is.words.few in
-      let read = first.reads n (omega (arith, most, same, few, late)) in (
+      let read = first.reads n (omega (arith, most, same, is.words.few, late)) in (
         read.0,
         from_port (edge_at plan.graph e).from i comes (walk (edge_at plan.graph e).ops n) ∙ read.1,
         precede (edge_at plan.graph e).ops n read.0 read.1,
@@ -68,8 +66,7 @@ module _ (plan : PlanView) (is : IsPlan plan) where
 
   pub release_later : (i c k : ℕ) → i < length plan.graph.tasks → release_at plan i (c + k * classes plan.graph i) ≡ release_at plan i c + k * plan.graph.hyper
   release_later i c k inside =
-      let r = shifted plan is (encoded_release plan.graph plan.windows) (least_repeat plan.graph is.graph (encoded_release plan.graph plan.windows) is.dates.releases) i c k inside in
-      omega (arith, ints, r)
+      omega (arith, ints, shifted plan is (encoded_release plan.graph plan.windows) (least_repeat plan.graph is.graph (encoded_release plan.graph plan.windows) is.dates.releases) i c k inside)
 
   pub in_time : ((before after : Job) → Precedes plan.graph before after →
       encoded_release plan.graph plan.windows before.task before.number <ℤ encoded_release plan.graph plan.windows after.task after.number) →
@@ -78,27 +75,21 @@ module _ (plan : PlanView) (is : IsPlan plan) where
   in_time earlier e i n m inside comes number =
       let order = earlier (record { task = i; number = pos m }) (record { task = (edge_at plan.graph e).to.0; number = pos n })
       (e, edge_at plan.graph e, slice_get-get_or plan.graph.edges e no_edge inside, record { from = comes; to = refl; number = sym number }) in
-      let later = release_later i (m % classes plan.graph i) (m / classes plan.graph i) (from_in e i inside comes) in
       let whole = ap (λ (x : ℕ). release_at plan i x) (split plan is i m) in
-      omega (arith, ints, order, later, whole)
+      omega (arith, ints, order, release_later i (m % classes plan.graph i) (m / classes plan.graph i) (from_in e i inside comes), whole)
 
   module _ (entries : List Entry) (pieces : ArePieces plan entries) (whole : AreWhole plan entries)
       (short : (entry : Entry) → IsPiece plan entry → entry.at + entry.units < 2 ^ 33) where
     last_of : (i c : ℕ) → i < length plan.graph.tasks → c < classes plan.graph i → Is entries i c
     last_of i c i_in c_in =
-        let units = whole i c i_in c_in in
-        let wcet = (task_is plan.graph is.graph i i_in).wcet.0 in
-        last_entry entries i c (some_end entries i c (omega (arith, units, wcet)))
+        last_entry entries i c (some_end entries i c (omega (arith, whole i c i_in c_in, (task_is plan.graph is.graph i i_in).wcet.0)))
 
     pub small_sums : (i c : ℕ) → i < length plan.graph.tasks → c < classes plan.graph i → ((sums_of entries i c).first < 2 ^ 33) × ((sums_of entries i c).end < 2 ^ 33)
     small_sums i c i_in c_in =
         let last = last_of i c i_in c_in in
         let w = within_sums entries i c last.k last.entry last.stands last.task last.job in
         let s = short last.entry (pieces last.k last.entry last.stands) in
-        let l = last.last in
-        let e = end_is entries i c in
-        let w0 = w.0 in
-        (omega (arith, w0, s), omega (arith, l, e, s))
+        (omega (arith, w.0, s), omega (arith, last.last, end_is entries i c, s))
 
     first_of : (i c : ℕ) → i < length plan.graph.tasks → c < classes plan.graph i → IsFirst entries i c
     first_of i c i_in c_in =
@@ -111,9 +102,8 @@ module _ (plan : PlanView) (is : IsPlan plan) where
     order_broken e i c k m inside comes c_in number not_before =
         let i_in = from_in e i inside comes in
         let to_in = (edge_is e inside).to in
-        let some = some_classes plan is i i_in in
         broken plan is entries e i c k m inside comes to_in i_in number
-        (last_of i (m % classes plan.graph i) i_in (omega (arith, some))) (first_of (edge_at plan.graph e).to.0 c to_in c_in) not_before
+        (last_of i (m % classes plan.graph i) i_in (omega (arith, some_classes plan is i i_in))) (first_of (edge_at plan.graph e).to.0 c to_in c_in) not_before
 
   pub order_kept : (entries : List Entry) (e i c k m : ℕ) → e < length plan.graph.edges → ComesFrom (edge_at plan.graph e).from i →
       preceding (edge_at plan.graph e).ops (pos (c + k * classes plan.graph (edge_at plan.graph e).to.0)) ≡ pos m →
@@ -124,6 +114,4 @@ module _ (plan : PlanView) (is : IsPlan plan) where
 pub class_end : (plan : PlanView) → IsPlan plan → (entries : List Entry) → IsGood plan entries → (i c : ℕ) → i < length plan.graph.tasks →
     c < classes plan.graph i → 1 ≤ end_of entries i c
 class_end plan is entries good i c i_in c_in =
-    (let units = good.whole i c i_in c_in in
-    let wcet = (task_is plan.graph is.graph i i_in).wcet.0 in
-    some_end entries i c (omega (arith, units, wcet)))
+    some_end entries i c (omega (arith, good.whole i c i_in c_in, (task_is plan.graph is.graph i i_in).wcet.0))

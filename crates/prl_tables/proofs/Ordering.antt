@@ -140,26 +140,22 @@ module _ (plan : PlanView) (is : IsPlan plan) (entries : List Entry) (e i c k m 
       by = plus_mul z k (classes plan.graph i)
 
       m_is : pos m ≡ pos q +ℤ ((z +ℤ pos k) *ℤ pos (classes plan.graph i))
-      m_is = (let moved = preceding_shifted plan is e i c k to_in i_in edge comes in
-          let b = plus_mul z k (classes plan.graph i) in omega (arith, ints, moved, number, is_q, b))
+      m_is = (let b = plus_mul z k (classes plan.graph i) in omega (arith, ints, preceding_shifted plan is e i c k to_in i_in edge comes, number, is_q, b))
 
       go : (w : ℤ) → (z +ℤ pos k) ≡ w → (m % classes plan.graph i ≡ q) × ((z +ℤ pos k) ≡ pos (m / classes plan.graph i))
       go (pos s) is_w =
           let w = ap (λ (x : ℤ). x *ℤ pos (classes plan.graph i)) is_w in
-          let product = pos-*ℤ-pos s (classes plan.graph i) in
           let moved = preceding_shifted plan is e i c k to_in i_in edge comes in
           let b = plus_mul z k (classes plan.graph i) in
-          let one = one_division m q s (classes plan.graph i) (some_classes plan is i i_in) below (omega (arith, ints, moved, number, is_q, b, w, product)) in
+          let one = one_division m q s (classes plan.graph i) (some_classes plan is i i_in) below (omega (arith, ints, moved, number, is_q, b, w, pos-*ℤ-pos s (classes plan.graph i))) in
           (one.0, is_w ∙ ap pos (sym one.1))
       go (negsuc s) is_w =
           absurd (let w : (z +ℤ pos (k + s + 1)) ≡ pos 0 = omega (arith, ints, is_w) in
-          let b = plus_mul z (k + s + 1) (classes plan.graph i) in
           let zero_product = ap (λ (x : ℤ). x *ℤ pos (classes plan.graph i)) w in
-          let product = pos-*ℤ-pos 0 (classes plan.graph i) in
           let split : (k + s + 1) * classes plan.graph i ≡ k * classes plan.graph i + s * classes plan.graph i + classes plan.graph i = omega arith in
           let none : 0 * classes plan.graph i ≡ 0 = omega arith in
           let moved = preceding_shifted plan is e i c k to_in i_in edge comes in
-          omega (arith, ints, moved, number, is_q, b, zero_product, product, split, none, below))
+          omega (arith, ints, moved, number, is_q, plus_mul z (k + s + 1) (classes plan.graph i), zero_product, pos-*ℤ-pos 0 (classes plan.graph i), split, none, below))
 
   pub kept : Shown → KeepsOrder plan entries e c
   kept shown j q z from q_in is_q a b one other at_a at_b one_is other_is =
@@ -169,11 +165,9 @@ module _ (plan : PlanView) (is : IsPlan plan) (entries : List Entry) (e i c k m 
       subst (λ (x : ℕ). preceding (edge_at plan.graph e).ops (pos c) ≡ pos q +ℤ (z *ℤ pos (classes plan.graph x))) (sym same) is_q in
       let s = shift q z q_below its in
       let end = (within_sums entries i (m % classes plan.graph i) a one at_a (one_is.0 ∙ sym same) (one_is.1 ∙ sym s.0)).1 in
-      let first = (within_sums entries (edge_at plan.graph e).to.0 c b other at_b other_is.0 other_is.1).0 in
-      let h = plus_mul z k plan.graph.hyper in
       let hs = ap (λ (x : ℤ). x *ℤ pos plan.graph.hyper) s.1 in
       let product = pos-*ℤ-pos (m / classes plan.graph i) plan.graph.hyper in
-      omega (arith, ints, shown, end, first, h, hs, product)
+      omega (arith, ints, shown, end, (within_sums entries (edge_at plan.graph e).to.0 c b other at_b other_is.0 other_is.1).0, plus_mul z k plan.graph.hyper, hs, product)
     where
       one_producer : (p : Producer) → ComesFrom p i → ComesFrom p j → i ≡ j
       one_producer (producers.Port task out) x y = sym x ∙ y
@@ -181,23 +175,15 @@ module _ (plan : PlanView) (is : IsPlan plan) (entries : List Entry) (e i c k m 
 
   pub broken : (last : Is entries i (m % classes plan.graph i)) → IsFirst entries (edge_at plan.graph e).to.0 c → (Shown → ⊥) → KeepsOrder plan entries e c → ⊥
   broken last first not_shown keeps =
-      let per : ℕ = classes plan.graph i in
       let z : ℤ = pos (m / classes plan.graph i) -ℤ pos k in
-      let some = some_classes plan is i i_in in
       let back : z +ℤ pos k ≡ pos (m / classes plan.graph i) = omega (arith, ints) in
-      let moved = preceding_shifted plan is e i c k to_in i_in edge comes in
-      let b = plus_mul z k (classes plan.graph i) in
       let bs = ap (λ (x : ℤ). x *ℤ pos (classes plan.graph i)) back in
       let product = pos-*ℤ-pos (m / classes plan.graph i) (classes plan.graph i) in
       let split : m ≡ m % classes plan.graph i + m / classes plan.graph i * classes plan.graph i = omega arith in
       let its : preceding (edge_at plan.graph e).ops (pos c) ≡ pos (m % classes plan.graph i) +ℤ (z *ℤ pos (classes plan.graph i)) =
-      omega (arith, ints, moved, number, b, bs, product, split) in
-      let order = keeps i (m % classes plan.graph i) z comes (omega (arith, some)) its last.k first.k last.entry first.entry last.stands first.stands
+      omega (arith, ints, preceding_shifted plan is e i c k to_in i_in edge comes, number, plus_mul z k (classes plan.graph i), bs, product, split) in
+      let order = keeps i (m % classes plan.graph i) z comes (omega (arith, some_classes plan is i i_in)) its last.k first.k last.entry first.entry last.stands first.stands
       (last.task, last.job) (first.task, first.job) in
-      let h = plus_mul z k plan.graph.hyper in
       let hs = ap (λ (x : ℤ). x *ℤ pos plan.graph.hyper) back in
-      let hyper_product = pos-*ℤ-pos (m / classes plan.graph i) plan.graph.hyper in
-      let l = last.last in
-      let f = first.first in
       let e_is = end_is entries i (m % classes plan.graph i) in
-      not_shown (omega (arith, ints, order, h, hs, hyper_product, l, f, e_is))
+      not_shown (omega (arith, ints, order, plus_mul z k plan.graph.hyper, hs, pos-*ℤ-pos (m / classes plan.graph i) plan.graph.hyper, last.last, first.first, e_is))

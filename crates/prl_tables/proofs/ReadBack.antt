@@ -130,7 +130,6 @@ entry_back : (e : Entry) → FitsEntry e → entry_of (entry_line e) ≡ Some e
 entry_back e fits =
     let units : List ℕ = codes "units " ++ decimal e.units in
     let job : List ℕ = codes "job " ++ (decimal e.job ++ 32 ∷ units) in
-    let task : List ℕ = codes "task " ++ (decimal e.task.0 ++ 32 ∷ job) in
     ap (option_and_then by_task) (field_back (codes "at ") e.at (codes "task " ++ (decimal e.task.0 ++ 32 ∷ (codes "job " ++ (decimal e.job ++ 32 ∷ (codes "units " ++ decimal e.units))))) fits.at)
     ∙ ap (option_and_then (by_job e.at)) (field_back (codes "task ") e.task.0 (codes "job " ++ (decimal e.job ++ 32 ∷ (codes "units " ++ decimal e.units))) (let t = fits.task in omega (arith, t)))
     ∙ ap (option_and_then (by_units e.at e.task.0)) (field_back (codes "job ") e.job (codes "units " ++ decimal e.units) fits.job)
@@ -139,7 +138,6 @@ entry_back e fits =
 
 line_lacks : (e : Entry) → FitsEntry e → Lacks 10 (entry_line e)
 line_lacks e fits =
-    let low : 10 < 48 = omega arith in
     let digits : (n : ℕ) → n < 2 ^ 64 → Lacks 10 (decimal n) = λ n small. decimal_lacks 10 n (omega arith) small in
     let P : ℕ → Type 0 = λ x. (x == 10) ≡ false in
     All-append P (codes "at ") (decimal e.at ++ (codes " task " ++ (decimal e.task.0 ++ (codes " job " ++ (decimal e.job ++ (codes " units " ++ decimal e.units)))))) (by_test 10 (codes "at ") refl)
@@ -155,7 +153,6 @@ entries_back : (k : ℕ) (last : Option Entry) (entries : List Entry) → All Fi
 entries_back k last [] fits ordered = refl
 entries_back k last (e ∷ es) fits ordered =
     let e_fits : FitsEntry e = fits 0 e (omega arith) in
-    let rest : List ℕ = flat_map entry_text es in
     let lines : lines_of (flat_map entry_text (e ∷ es)) ≡ entry_line e ∷ lines_of (flat_map entry_text es) =
     ap lines_of (append_assoc (entry_line e) (codes "\n") (flat_map entry_text es)) ∙ slice_split_at is_line_feed (entry_line e) 10 (flat_map entry_text es) (line_lacks e e_fits) refl in
     let next : next_entry last (entry_line e) ≡ Some e =
@@ -168,8 +165,6 @@ entries_back k last (e ∷ es) fits ordered =
 pub text_back : (hyper : ℕ) (entries : List Entry) → hyper < 2 ^ 64 → All FitsEntry entries → AreOrdered None entries →
     entries_of hyper (text_of hyper entries) ≡ Ok entries
 text_back hyper entries small fits ordered =
-    let flat : List ℕ = flat_map entry_text entries in
-    let second : List ℕ = codes "hyperperiod " ++ decimal hyper in
     let first_line : lines_of (text_of hyper entries) ≡ codes "table 1" ∷ lines_of (codes "hyperperiod " ++ (decimal hyper ++ 10 ∷ flat_map entry_text entries)) =
     slice_split_at is_line_feed (codes "table 1") 10 (codes "hyperperiod " ++ (decimal hyper ++ 10 ∷ flat_map entry_text entries)) (by_test 10 (codes "table 1") refl) refl in
     let second_lacks : Lacks 10 (codes "hyperperiod " ++ decimal hyper) =

@@ -29,12 +29,10 @@ module _ (plan : PlanView) (is : IsPlan plan) where
       let z : 0 * plan.graph.hyper ≡ 0 = omega arith in
       omega (arith, ints, s, z))
   shifted date again i c (suc k) inside =
-      let rest = shifted date again i c k inside in
-      let once = again.again i (classes plan.graph i) inside (jobs_are plan.graph is.graph i inside) (pos (c + k * classes plan.graph i)) in
       let e : c + suc k * classes plan.graph i ≡ c + k * classes plan.graph i + classes plan.graph i = omega arith in
       let s = ap (λ (x : ℕ). date i (pos x)) e in
       let more : suc k * plan.graph.hyper ≡ k * plan.graph.hyper + plan.graph.hyper = omega arith in
-      omega (arith, ints, rest, once, s, more)
+      omega (arith, ints, shifted date again i c k inside, again.again i (classes plan.graph i) inside (jobs_are plan.graph is.graph i inside) (pos (c + k * classes plan.graph i)), s, more)
 
   pub preceding_shifted : (e i c k : ℕ) → (edge_at plan.graph e).to.0 < length plan.graph.tasks → i < length plan.graph.tasks → e < length plan.graph.edges →
       ComesFrom (edge_at plan.graph e).from i →
@@ -46,14 +44,13 @@ module _ (plan : PlanView) (is : IsPlan plan) where
       let y : 0 * classes plan.graph i ≡ 0 = omega arith in
       omega (arith, ints, s, y))
   preceding_shifted e i c (suc k) to from inside comes =
-      let rest = preceding_shifted e i c k to from inside comes in
       let edge : IsEdge plan.graph (edge_at plan.graph e) = is.graph.edges e (edge_at plan.graph e) (slice_get-get_or plan.graph.edges e no_edge inside) in
       let once = edge_precedes plan.graph is.graph (edge_at plan.graph e) edge i (classes plan.graph (edge_at plan.graph e).to.0) (classes plan.graph i) comes
       (jobs_are plan.graph is.graph (edge_at plan.graph e).to.0 to) (jobs_are plan.graph is.graph i from) (pos (c + k * classes plan.graph (edge_at plan.graph e).to.0)) in
       let z : c + suc k * classes plan.graph (edge_at plan.graph e).to.0 ≡ c + k * classes plan.graph (edge_at plan.graph e).to.0 + classes plan.graph (edge_at plan.graph e).to.0 = omega arith in
       let s = ap (λ (x : ℕ). preceding (edge_at plan.graph e).ops (pos x)) z in
       let more : suc k * classes plan.graph i ≡ k * classes plan.graph i + classes plan.graph i = omega arith in
-      omega (arith, ints, rest, once, s, more)
+      omega (arith, ints, preceding_shifted e i c k to from inside comes, once, s, more)
 
   -- the class of a job, and the hyperperiods before it
   pub split : (i n : ℕ) → n ≡ n % classes plan.graph i + n / classes plan.graph i * classes plan.graph i

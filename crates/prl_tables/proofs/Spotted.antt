@@ -27,9 +27,6 @@ pub record HaveSpots (hyper : ℕ) (entries : List Entry) (spots : List Spot) (k
   pub long : length spots ≡ k
   pub each : (p : ℕ) (spot : Spot) → slice_get spots p ≡ Some spot → (entry : Entry) × (slice_get entries p ≡ Some entry) × (spot ≡ spot_of hyper p entry)
 
-pub no_spots : (hyper : ℕ) (entries : List Entry) → HaveSpots hyper entries [] 0
-no_spots hyper entries = record { long = refl; each = λ p spot at. cc }
-
 pub one_more_spot : (hyper : ℕ) (entries : List Entry) (spots : List Spot) (k : ℕ) (entry : Entry) (spot : Spot) → HaveSpots hyper entries spots k → slice_get entries k ≡ Some entry →
     spot ≡ spot_of hyper k entry → HaveSpots hyper entries (spots ++ spot ∷ []) (k + 1)
 one_more_spot hyper entries spots k entry spot so_far at is = record {
@@ -119,17 +116,16 @@ module _ (hyper : ℕ) (entries : List Entry) (spots : List Spot) (short : AreSh
       let clash = tests.is_clash hyper (length spots) (λ q. (get_or spots q no_spot).from) (λ q. (get_or spots q no_spot).to) order long p inside test in
       (get_or spots p no_spot, slice_get-get_or spots p no_spot inside, (clash.0, get_or spots clash.0 no_spot, clash.2, slice_get-get_or spots clash.0 no_spot clash.1, clash.3))
 
+  -- one of the first spots ends past what the highest end is past
+  reaches : (n high low : ℕ) → IsHighest spots n high → low < high → (q : ℕ) × (q < n) × (low < (get_or spots q no_spot).to)
+  reaches n high low highest less = elim highest.attained [
+    | inl none ↦ absurd (omega (arith, none, less))
+    | inr there ↦ (let t = ap (λ (s : Spot). s.to) (get_or_from_slice_get spots there.0 there.1 no_spot there.3) in (there.0, there.2, omega (arith, less, t, there.4)))
+  ]
+
   -- the four tests, by the highest ends
   pub by_before : (p before : ℕ) → p < length spots → IsHighest spots p before → (get_or spots p no_spot).from < before → MeetsSome hyper spots p
-  by_before p before inside highest less =
-      elim highest.attained [
-        | inl none ↦ absurd (omega (arith, none, less))
-        | inr there ↦
-            (let is = get_or_from_slice_get spots there.0 there.1 no_spot there.3 in
-            let t = ap (λ (s : Spot). s.to) is in
-            let high = there.4 in
-            from_test p inside (inl (there.0, there.2, omega (arith, less, t, high))))
-      ]
+  by_before p before inside highest less = from_test p inside (inl (reaches p before (get_or spots p no_spot).from highest less))
 
   pub by_next : (p : ℕ) → p < length spots → p + 1 < length spots → (get_or spots (p + 1) no_spot).from < (get_or spots p no_spot).to → MeetsSome hyper spots p
   by_next p inside next less = from_test p inside (inr (inl (next, less)))
@@ -138,15 +134,7 @@ module _ (hyper : ℕ) (entries : List Entry) (spots : List Spot) (short : AreSh
   by_first p inside less = from_test p inside (inr (inr (inl less)))
 
   pub by_high : (p high : ℕ) → p < length spots → IsHighest spots (length spots) high → (get_or spots p no_spot).from + hyper < high → MeetsSome hyper spots p
-  by_high p high inside highest less =
-      elim highest.attained [
-        | inl none ↦ absurd (omega (arith, none, less))
-        | inr there ↦
-            (let is = get_or_from_slice_get spots there.0 there.1 no_spot there.3 in
-            let t = ap (λ (s : Spot). s.to) is in
-            let h = there.4 in
-            from_test p inside (inr (inr (inr (there.0, there.2, omega (arith, less, t, h))))))
-      ]
+  by_high p high inside highest less = from_test p inside (inr (inr (inr (reaches (length spots) high ((get_or spots p no_spot).from + hyper) highest less))))
 
   pub by_none : (p before high : ℕ) → p < length spots → IsHighest spots p before → IsHighest spots (length spots) high →
       before ≤ (get_or spots p no_spot).from → (p + 1 < length spots → (get_or spots p no_spot).to ≤ (get_or spots (p + 1) no_spot).from) →
@@ -154,14 +142,12 @@ module _ (hyper : ℕ) (entries : List Entry) (spots : List Spot) (short : AreSh
   by_none p before high inside is_before is_high first next around over some =
       elim (to_test p some) [
         | inl earlier ↦
-            (let below = earlier.1 in
-            let above = is_before.above earlier.0 (get_or spots earlier.0 no_spot) earlier.1 (slice_get-get_or spots earlier.0 no_spot (omega (arith, below, inside))) in
+            (let above = is_before.above earlier.0 (get_or spots earlier.0 no_spot) earlier.1 (slice_get-get_or spots earlier.0 no_spot (omega (arith, earlier.1, inside))) in
             let e = earlier.2 in omega (arith, above, e, first))
         | inr (inl later) ↦ (let n = next later.0 in let l = later.1 in omega (arith, n, l))
         | inr (inr (inl past)) ↦ omega (arith, past, around)
         | inr (inr (inr far)) ↦
-            (let above = is_high.above far.0 (get_or spots far.0 no_spot) far.1 (slice_get-get_or spots far.0 no_spot far.1) in
-            let f = far.2 in omega (arith, above, f, over))
+            (let f = far.2 in omega (arith, is_high.above far.0 (get_or spots far.0 no_spot) far.1 (slice_get-get_or spots far.0 no_spot far.1), f, over))
       ]
 
   -- a spot that meets another one, and its entry
@@ -208,12 +194,11 @@ module _ (hyper : ℕ) (entries : List Entry) (short : AreShort hyper entries) w
   pub meet_of_clash : (k l : ℕ) → Clash hyper entries k l → Meet hyper entries k l
   meet_of_clash k l clash =
       let a = short k clash.one clash.first in
-      let b = short l clash.other clash.second in
       let starts = clash.overlap.starts in
       let ends = clash.overlap.ends in
       let some = a.long.0 in
       let a_units = a.units.1 in
-      let b_units = b.units.1 in
+      let b_units = (short l clash.other clash.second).units.1 in
       let a_split : clash.one.at ≡ clash.one.at % hyper + clash.one.at / hyper * hyper = omega arith in
       let b_split : clash.other.at ≡ clash.other.at % hyper + clash.other.at / hyper * hyper = omega arith in
       let a_moved : (clash.a + clash.one.at / hyper) * hyper ≡ clash.a * hyper + clash.one.at / hyper * hyper = omega arith in
@@ -245,8 +230,6 @@ module _ (hyper : ℕ) (entries : List Entry) (short : AreShort hyper entries) w
       let some = (short k meet.one meet.first).long.0 in
       let a_low : meet.one.at % hyper < hyper = omega (arith, some) in
       let b_low : meet.other.at % hyper < hyper = omega (arith, some) in
-      let a_units = (short k meet.one meet.first).units.0 in
-      let b_units = (short l meet.other meet.second).units.0 in
       let a_next : (meet.one.at / hyper + 1) * hyper ≡ meet.one.at / hyper * hyper + hyper = omega arith in
       let b_next : (meet.other.at / hyper + 1) * hyper ≡ meet.other.at / hyper * hyper + hyper = omega arith in
       elim meet.meets [
@@ -256,11 +239,11 @@ module _ (hyper : ℕ) (entries : List Entry) (short : AreShort hyper entries) w
         | inr (inl over) ↦
             made (meet.other.at / hyper + 1) (meet.one.at / hyper) (record {
               starts = omega (arith, over, a_split, b_split, b_next);
-              ends = omega (arith, b_low, a_units, a_split, b_split, b_next);
+              ends = omega (arith, b_low, (short k meet.one meet.first).units.0, a_split, b_split, b_next);
             })
         | inr (inr over) ↦
             made (meet.other.at / hyper) (meet.one.at / hyper + 1) (record {
-              starts = omega (arith, a_low, b_units, a_split, b_split, a_next);
+              starts = omega (arith, a_low, (short l meet.other meet.second).units.0, a_split, b_split, a_next);
               ends = omega (arith, over, a_split, b_split, a_next);
             })
       ]
@@ -291,18 +274,17 @@ module _ (hyper : ℕ) (entries : List Entry) (short : AreShort hyper entries) w
     ];
   }
 
--- the highest end with one spot more
-pub none_highest : (spots : List Spot) → IsHighest spots 0 0
-none_highest spots = record { above = λ p spot below at. absurd (omega (arith, below)); attained = inl refl }
+earlier_or_last : (spots : List Spot) (n p : ℕ) (spot d : Spot) → p < n + 1 → slice_get spots p ≡ Some spot → (p < n) ⊎ (get_or spots n d ≡ spot)
+earlier_or_last spots n p spot d below at = elim (cases_lt p n) [
+  | inl earlier ↦ inl earlier
+  | inr not_earlier ↦ (let same : n ≡ p = omega (arith, below, not_earlier) in inr (ap (λ (k : ℕ). get_or spots k d) same ∙ get_or_from_slice_get spots p spot d at))
+]
 
 pub more_highest : (spots : List Spot) (n high : ℕ) (d : Spot) → n < length spots → IsHighest spots n high → IsHighest spots (n + 1) (max high (get_or spots n d).to)
 more_highest spots n high d inside so_far = record {
-  above = λ p spot below at. elim (cases_lt p n) [
+  above = λ p spot below at. elim (earlier_or_last spots n p spot d below at) [
     | inl earlier ↦ (let a = so_far.above p spot earlier at in omega (arith, a))
-    | inr not_earlier ↦
-        (let same : n ≡ p = omega (arith, below, not_earlier) in
-        let is : get_or spots n d ≡ spot = ap (λ (k : ℕ). get_or spots k d) same ∙ get_or_from_slice_get spots p spot d at in
-        let t = ap (λ (s : Spot). s.to) is in omega (arith, t))
+    | inr is ↦ (let t = ap (λ (s : Spot). s.to) is in omega (arith, t))
   ];
   attained = elim (cases_lt high (get_or spots n d).to) [
     | inl higher ↦ inr (n, get_or spots n d, omega arith, slice_get-get_or spots n d inside, omega (arith, higher))
@@ -315,55 +297,35 @@ more_highest spots n high d inside so_far = record {
   ];
 }
 
+-- the least of the first spots that meet others and of the next one
+least_with : (hyper : ℕ) (spots : List Spot) (n k : ℕ) (d : Spot) (p : ℕ) (one : Spot) → p < n + 1 → slice_get spots p ≡ Some one → k ≡ one.entry → MeetsSome hyper spots p →
+    ((q : ℕ) (other : Spot) → q < n → slice_get spots q ≡ Some other → MeetsSome hyper spots q → k ≤ other.entry) → k ≤ (get_or spots n d).entry → IsLeastMeeting hyper spots (n + 1) (Some k)
+least_with hyper spots n k d p one below stands entry meets early last = record {
+  p = p;
+  one = one;
+  below = below;
+  stands = stands;
+  entry = entry;
+  meets = meets;
+  least = λ q other under at some. elim (earlier_or_last spots n q other d under at) [
+    | inl earlier ↦ early q other earlier at some
+    | inr is ↦ (let e = ap (λ (s : Spot). s.entry) is in omega (arith, e, last))
+  ];
+}
+
 -- one spot more, which meets another one, or not
 pub meets_more : (hyper : ℕ) (spots : List Spot) (n : ℕ) (least : Option ℕ) (d : Spot) → n < length spots → IsLeastMeeting hyper spots n least → MeetsSome hyper spots n →
     IsLeastMeeting hyper spots (n + 1) (Some (lower least (get_or spots n d).entry))
-meets_more hyper spots n None d inside so_far meets = record {
-  p = n;
-  one = get_or spots n d;
-  below = omega arith;
-  stands = slice_get-get_or spots n d inside;
-  entry = refl;
-  meets = meets;
-  least = λ q other below at some. elim (cases_lt q n) [
-    | inl earlier ↦ absurd (so_far q earlier some)
-    | inr not_earlier ↦
-        (let same : n ≡ q = omega (arith, below, not_earlier) in
-        let is : get_or spots n d ≡ other = ap (λ (k : ℕ). get_or spots k d) same ∙ get_or_from_slice_get spots q other d at in
-        let e = ap (λ (s : Spot). s.entry) is in omega (arith, e))
-  ];
-}
+meets_more hyper spots n None d inside so_far meets =
+    least_with hyper spots n (get_or spots n d).entry d n (get_or spots n d) (omega arith) (slice_get-get_or spots n d inside) refl meets
+    (λ q other earlier at some. absurd (so_far q earlier some)) (omega arith)
 meets_more hyper spots n (Some k) d inside so_far meets = elim (cases_lt (get_or spots n d).entry k) [
-  | inl lower_now ↦ record {
-    p = n;
-    one = get_or spots n d;
-    below = omega arith;
-    stands = slice_get-get_or spots n d inside;
-    entry = omega (arith, lower_now);
-    meets = meets;
-    least = λ q other below at some. elim (cases_lt q n) [
-      | inl earlier ↦ (let l = so_far.least q other earlier at some in omega (arith, l, lower_now))
-      | inr not_earlier ↦
-          (let same : n ≡ q = omega (arith, below, not_earlier) in
-          let is : get_or spots n d ≡ other = ap (λ (m : ℕ). get_or spots m d) same ∙ get_or_from_slice_get spots q other d at in
-          let e = ap (λ (s : Spot). s.entry) is in omega (arith, e, lower_now))
-    ];
-  }
-  | inr not_lower ↦ record {
-    p = so_far.p;
-    one = so_far.one;
-    below = (let b = so_far.below in omega (arith, b));
-    stands = so_far.stands;
-    entry = (let e = so_far.entry in omega (arith, e, not_lower));
-    meets = so_far.meets;
-    least = λ q other below at some. elim (cases_lt q n) [
-      | inl earlier ↦ (let l = so_far.least q other earlier at some in omega (arith, l, not_lower))
-      | inr not_earlier ↦
-          (let same : n ≡ q = omega (arith, below, not_earlier) in
-          let is : get_or spots n d ≡ other = ap (λ (m : ℕ). get_or spots m d) same ∙ get_or_from_slice_get spots q other d at in
-          let e = ap (λ (s : Spot). s.entry) is in omega (arith, e, not_lower))
-    ];
-  }
+  | inl lower_now ↦
+      least_with hyper spots n (lower (Some k) (get_or spots n d).entry) d n (get_or spots n d) (omega arith) (slice_get-get_or spots n d inside) (omega (arith, lower_now)) meets
+      (λ q other earlier at some. (let l = so_far.least q other earlier at some in omega (arith, l, lower_now))) (omega (arith, lower_now))
+  | inr not_lower ↦
+      least_with hyper spots n (lower (Some k) (get_or spots n d).entry) d so_far.p so_far.one (omega (arith, so_far.below)) so_far.stands (omega (arith, so_far.entry, not_lower)) so_far.meets
+      (λ q other earlier at some. (let l = so_far.least q other earlier at some in omega (arith, l, not_lower))) (omega (arith, not_lower))
 ]
 
 pub meets_none : (hyper : ℕ) (spots : List Spot) (n : ℕ) (least : Option ℕ) → IsLeastMeeting hyper spots n least → (MeetsSome hyper spots n → ⊥) →
@@ -475,5 +437,4 @@ pub least_within : (hyper : ℕ) (entries : List Entry) (spots : List Spot) (n :
 least_within hyper entries spots n are None first = tt
 least_within hyper entries spots n are (Some k) first =
     (let e = are.each first.p first.one first.stands in
-    let w = slice_get_within entries first.one.entry e.0 e.1 in
-    let s = first.entry in omega (arith, w, s))
+    let s = first.entry in omega (arith, slice_get_within entries first.one.entry e.0 e.1, s))

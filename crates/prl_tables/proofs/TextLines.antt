@@ -1,5 +1,5 @@
 -- The lines of a table's text, one cut after another.
-use Rattle.std.proofs.Common.{◌≡◌, ℕ, ◌+◌, ◌<◌, Bool, true, false, cond, List, [], ◌∷◌, ◌++◌, length, Option, Some, None, Result, Ok, Err, refl, sym, ap, ◌∙◌, arith, append_assoc, append-nil}
+use Rattle.std.proofs.Common.{◌≡◌, ℕ, ◌+◌, ◌<◌, Bool, true, false, cond, List, [], ◌∷◌, ◌++◌, length, Option, Some, None, Result, Ok, Err, refl, sym, ap, ◌∙◌, arith, append_assoc}
 use Rattle.prl_base.specs.Lines.{cut_line, lines_of}
 use Rattle.prl_base.specs.Reading.{◌>>=◌}
 use Rattle.prl_base.proofs.LineCuts.{lines_of_cut, lines_of_end, length_lines_of}
@@ -66,12 +66,6 @@ pub front_fault : (k : ℕ) (last : Option Entry) (front : List Entry) (text lin
     or_line k (next_entry last line) ≡ Err fault → with_front front (entries_from k last (lines_of text)) ≡ Err fault
 front_fault k last front text line after fault cut read =
     ap (with_front front) (from_cut k last text line after cut ∙ ap (λ r. r >>= then_entries (k + 1) (lines_of after)) read)
-
--- where nothing is left, the entries in front are all
-pub front_end : (k : ℕ) (last : Option Entry) (front : List Entry) (text : List ℕ) → cut_line text ≡ None → length text ≡ 0 →
-    with_front front (entries_from k last (lines_of text)) ≡ Ok front
-front_end k last front [] cut none = ap (λ l. with_front front (entries_from k last l)) (lines_of_end [] cut) ∙ ap Ok (append-nil front)
-front_end k last front (b ∷ bs) cut none = absurd (omega (arith, none))
 
 -- where more is left, its line lacks its end
 pub front_more : (k : ℕ) (last : Option Entry) (front : List Entry) (text : List ℕ) → cut_line text ≡ None → (length text ≡ 0 → ⊥) →

@@ -71,14 +71,12 @@ module _ (c : RunConstants) (facts : HasPlanFacts c) (ends : HasEnds c) (at : Pl
       let slot : ℕ = in_slot.0 in
       let place : ℕ = get_or s.places i 0 in
       let reads : ReadsAt c i (get_or s.ended i 0) place m slot = record { job = record { task = has.task; job = has.job }; action = (port, e, is) } in
-      let upper : get_or s.tags slot 0 ≤ m + 1 = sound.held i (get_or s.ended i 0) place m slot reads has in
       let before = facts.provided i (get_or s.ended i 0) place m slot reads in
       let provides : Provides c m slot i (get_or s.ended i 0) before.0 before.1 before.2 = before.3 in
       let order : at before.0 before.1 < at i (get_or s.ended i 0) = placing.after i (get_or s.ended i 0) place m slot before.0 before.1 before.2 reads provides.writes in
       let moved : at i (get_or s.ended i 0) ≡ at i n = ap (λ (x : ℕ). at i x) first in
       let ended : before.1 < get_or s.ended before.0 0 = earlier before.0 before.1 provides.writes.job (omega (arith, order, moved)) in
-      let lower : m + 1 ≤ get_or s.tags slot 0 = sound.tagged.written before.0 before.1 before.2 m slot provides.writes (inl ended) in
-      omega (arith, upper, lower)
+      omega (arith, sound.held i (get_or s.ended i 0) place m slot reads has, sound.tagged.written before.0 before.1 before.2 m slot provides.writes (inl ended))
 
   module _ (i n : ℕ) (job : IsJob c i n) (s : ExecState) (first : get_or s.ended i 0 ≡ n) (now : s.now ≡ at i n)
       (earlier : (j k : ℕ) → IsJob c j k → at j k < at i n → k < get_or s.ended j 0) where
@@ -92,9 +90,7 @@ module _ (c : RunConstants) (facts : HasPlanFacts c) (ends : HasEnds c) (at : Pl
         } in
         let released : c.release i (get_or r.ended i 0) ≤ r.now =
         (let e = ap (λ (x : ℕ). c.release i x) same in
-        let a = placing.released i n job in
-        let m = w.now in
-        omega (arith, e, a, m, now)) in (
+        omega (arith, e, placing.released i n job, w.now, now)) in (
           has,
           released,
           finds r w.sound i n has same (λ j k its before. subst (λ (xs : List ℕ). k < get_or xs j 0) (sym w.ended) (earlier j k its before)) (next_action c r i) refl,
@@ -127,12 +123,10 @@ module _ (c : RunConstants) (facts : HasPlanFacts c) (ends : HasEnds c) (at : Pl
           ended = does.1 ∙ w.ended;
           here =
               (let e = ap (λ (xs : List ℕ). get_or xs i 0) does.2 in
-              let h = set_here r.places (get_or r.places i 0 + 1) (inside_places r w.sound) in
-              let p = w.here in omega (arith, e, h, p));
+              let p = w.here in omega (arith, e, set_here r.places (get_or r.places i 0 + 1) (inside_places r w.sound), p));
           others = λ j no_i.
               (let e = ap (λ (xs : List ℕ). get_or xs j 0) does.2 in
-              let h = set_other r.places (get_or r.places i 0 + 1) j (inside_places r w.sound) no_i in
-              let p = w.others j no_i in omega (arith, e, h, p));
+              let p = w.others j no_i in omega (arith, e, set_other r.places (get_or r.places i 0 + 1) j (inside_places r w.sound) no_i, p));
         }
 
     pub last : (place : ℕ) (r : ExecState) → Within i n place s r → place + 1 ≡ length (c.actions i n) →
@@ -145,8 +139,7 @@ module _ (c : RunConstants) (facts : HasPlanFacts c) (ends : HasEnds c) (at : Pl
           sound = subst (λ (q : ExecState). IsSound c q) after sound;
           now = w.now;
           ended =
-              (let h = set_here r.ended (get_or r.ended i 0 + 1) (inside_ended r w.sound) in
-              let e = ap (λ (xs : List ℕ). get_or xs i 0) w.ended in omega (arith, h, e, first));
+              (let e = ap (λ (xs : List ℕ). get_or xs i 0) w.ended in omega (arith, set_here r.ended (get_or r.ended i 0 + 1) (inside_ended r w.sound), e, first));
           others_ended = λ j differs. set_other r.ended (get_or r.ended i 0 + 1) j (inside_ended r w.sound) differs ∙ ap (λ (xs : List ℕ). get_or xs j 0) w.ended;
           here = set_here r.places 0 (inside_places r w.sound);
           others = λ j differs. set_other r.places 0 j (inside_places r w.sound) differs ∙ w.others j differs;
@@ -158,6 +151,29 @@ module _ (c : RunConstants) (facts : HasPlanFacts c) (ends : HasEnds c) (at : Pl
     runs (suc more) place r w count =
         let rest = runs more (place + 1) (after_event c r (events.Act (record { 0 = i }))) (step place r w (omega (arith, count))) (omega (arith, count)) in
         ((allowed place r w, rest.0), rest.1)
+
+  -- what has had its turn still has when one job more has it, or one task more
+  more_jobs : (t i n j k : ℕ) → Before t i n j k → Before t i (n + 1) j k
+  more_jobs t i n j k (inl earlier) = inl earlier
+  more_jobs t i n j k (inr (same, inl lower)) = inr (same, inl lower)
+  more_jobs t i n j k (inr (same, inr own)) = inr (same, inr (own.0, (let b = own.1 in omega (arith, b))))
+
+  more_tasks : (t i n j k : ℕ) → Before t i n j k → Before t (suc i) 0 j k
+  more_tasks t i n j k (inl earlier) = inl earlier
+  more_tasks t i n j k (inr (same, inl lower)) = inr (same, inl (omega (arith, lower)))
+  more_tasks t i n j k (inr (same, inr own)) = inr (same, inl (let b = own.0 in omega (arith, b)))
+
+  -- no job acts, and others are asked for
+  same_state : (t i n u m : ℕ) (s : ExecState) → Stands t i n s → ((j k : ℕ) → IsJob c j k → Before t u m j k → k < get_or s.ended j 0) →
+      ((j k : ℕ) → Before t i n j k → Before t u m j k) → Stands t u m s
+  same_state t i n u m s stands done wide =
+      record { sound = stands.sound; now = stands.now; idle = stands.idle; done = done; left = λ j k its over. wide j k (stands.left j k its over) }
+
+  -- the jobs of a task act one after the other
+  sooner : (i m n : ℕ) → IsJob c i n → m < n → IsJob c i m × (at i m < at i n)
+  sooner i m n job before =
+      let its : IsJob c i m = record { task = job.task; job = (let j = job.job in omega (arith, j, before)) } in
+      (its, omega (arith, placing.due i m its, facts.apart i m n job before, placing.released i n job))
 
   -- the first unfinished job of a task, when job n has its turn
   pub is_first : (t i n : ℕ) (s : ExecState) → Stands t i n s → IsJob c i n → at i n ≡ t → get_or s.ended i 0 ≡ n
@@ -172,23 +188,21 @@ module _ (c : RunConstants) (facts : HasPlanFacts c) (ends : HasEnds c) (at : Pl
             elim (cases_lt (get_or s.ended i 0) n) [
               | inr past ↦ omega (arith, not_ended, past)
               | inl before ↦ absurd
-                  (let its : IsJob c i (get_or s.ended i 0) = record { task = job.task; job = (let j = job.job in omega (arith, j, before)) } in
-                  let due : at i (get_or s.ended i 0) < c.deadline i (get_or s.ended i 0) = placing.due i (get_or s.ended i 0) its in
-                  let apart : c.deadline i (get_or s.ended i 0) ≤ c.release i n = facts.apart i (get_or s.ended i 0) n job before in
-                  let released : c.release i n ≤ at i n = placing.released i n job in
-                  let done : get_or s.ended i 0 < get_or s.ended i 0 = stands.done i (get_or s.ended i 0) its (inl (omega (arith, due, apart, released, here))) in
+                  (let first = sooner i (get_or s.ended i 0) n job before in
+                  let done = stands.done i (get_or s.ended i 0) first.0 (inl (omega (arith, first.1, here))) in
                   omega (arith, done))
             ]
       ]
+
+  idle_after : (t i n : ℕ) (s r : ExecState) (m : ℕ) → Stands t i m s → Ended i n s r → (j : ℕ) → get_or r.places j 0 ≡ 0
+  idle_after t i n s r m stands ended j =
+      elim (cases_eq j i) [ inl same ↦ ap (λ (x : ℕ). get_or r.places x 0) same ∙ ended.here | inr other ↦ ended.others j other ∙ stands.idle j ]
 
   stands_after : (t i n : ℕ) (s r : ExecState) → Stands t i n s → IsJob c i n → at i n ≡ t → get_or s.ended i 0 ≡ n → Ended i n s r → Stands t i (n + 1) r
   stands_after t i n s r stands job here first ended = record {
     sound = ended.sound;
     now = ended.now ∙ stands.now;
-    idle = λ j. elim (cases_eq j i) [
-      | inl same ↦ ap (λ (x : ℕ). get_or r.places x 0) same ∙ ended.here
-      | inr other ↦ ended.others j other ∙ stands.idle j
-    ];
+    idle = idle_after t i n s r n stands ended;
     done = λ j k its before. elim (cases_eq j i) [
       | inl same ↦
           (let up : get_or r.ended j 0 ≡ n + 1 = ap (λ (x : ℕ). get_or r.ended x 0) same ∙ ended.ended in
@@ -205,11 +219,10 @@ module _ (c : RunConstants) (facts : HasPlanFacts c) (ends : HasEnds c) (at : Pl
                 ])
           ])
       | inr other ↦
-          (let e = ended.others_ended j other in
-          let d : k < get_or s.ended j 0 = stands.done j k its (elim before [
+          (let d : k < get_or s.ended j 0 = stands.done j k its (elim before [
             | inl earlier ↦ inl earlier
             | inr at_t ↦ (elim at_t.1 [ inl lower ↦ inr (at_t.0, inl lower) | inr own ↦ absurd (other own.0) ])
-          ]) in omega (arith, e, d))
+          ]) in omega (arith, ended.others_ended j other, d))
     ];
     left = λ j k its over. elim (cases_eq j i) [
       | inl same ↦
@@ -217,26 +230,15 @@ module _ (c : RunConstants) (facts : HasPlanFacts c) (ends : HasEnds c) (at : Pl
           let was : get_or s.ended j 0 ≡ n = ap (λ (x : ℕ). get_or s.ended x 0) same ∙ first in
           elim (cases_eq k n) [
             | inl now ↦ inr (ap (λ (x : ℕ). at x k) same ∙ ap (λ (x : ℕ). at i x) now ∙ here, inr (same, omega (arith, now)))
-            | inr not_now ↦ wider t i n j k (stands.left j k its (omega (arith, over, up, was, not_now)))
+            | inr not_now ↦ more_jobs t i n j k (stands.left j k its (omega (arith, over, up, was, not_now)))
           ])
-      | inr other ↦ wider t i n j k (stands.left j k its (let e = ended.others_ended j other in omega (arith, e, over)))
+      | inr other ↦ more_jobs t i n j k (stands.left j k its (let e = ended.others_ended j other in omega (arith, e, over)))
     ];
   }
-    where
-      wider : (t i n j k : ℕ) → Before t i n j k → Before t i (n + 1) j k
-      wider t i n j k (inl earlier) = inl earlier
-      wider t i n j k (inr (same, inl lower)) = inr (same, inl lower)
-      wider t i n j k (inr (same, inr own)) = inr (same, inr (own.0, (let b = own.1 in omega (arith, b))))
 
   -- a job that does not act now changes nothing
   stands_without : (t i n : ℕ) (s : ExecState) → Stands t i n s → at i n ≢ t → Stands t i (n + 1) s
-  stands_without t i n s stands other = record {
-    sound = stands.sound;
-    now = stands.now;
-    idle = stands.idle;
-    done = λ j k its before. stands.done j k its (narrow j k before);
-    left = λ j k its over. wide j k (stands.left j k its over);
-  }
+  stands_without t i n s stands other = same_state t i n i (n + 1) s stands (λ j k its before. stands.done j k its (narrow j k before)) (more_jobs t i n)
     where
       narrow : (j k : ℕ) → Before t i (n + 1) j k → Before t i n j k
       narrow j k (inl earlier) = inl earlier
@@ -247,18 +249,11 @@ module _ (c : RunConstants) (facts : HasPlanFacts c) (ends : HasEnds c) (at : Pl
             | inr not_now ↦ inr (same, inr (own.0, (let b = own.1 in omega (arith, b, not_now))))
           ]
 
-      wide : (j k : ℕ) → Before t i n j k → Before t i (n + 1) j k
-      wide j k (inl earlier) = inl earlier
-      wide j k (inr (same, inl lower)) = inr (same, inl lower)
-      wide j k (inr (same, inr own)) = inr (same, inr (own.0, (let b = own.1 in omega (arith, b))))
-
   pub job_acts : (t i n : ℕ) (s : ExecState) → Stands t i n s → IsJob c i n → at i n ≡ t → Leads c s (acts_of c i n) (Stands t i (n + 1))
   job_acts t i n s stands job here =
-      let first = is_first t i n s stands job here in
-      let some = ends.some i n job in
       let earlier : (j k : ℕ) → IsJob c j k → at j k < at i n → k < get_or s.ended j 0 =
       (λ j k its before. stands.done j k its (inl (omega (arith, before, here)))) in
-      go (length (c.actions i n)) refl some first earlier
+      go (length (c.actions i n)) refl (ends.some i n job) (is_first t i n s stands job here) earlier
     where
       go : (count : ℕ) → length (c.actions i n) ≡ count → 1 ≤ length (c.actions i n) → get_or s.ended i 0 ≡ n →
           ((j k : ℕ) → IsJob c j k → at j k < at i n → k < get_or s.ended j 0) →
@@ -286,13 +281,7 @@ module _ (c : RunConstants) (facts : HasPlanFacts c) (ends : HasEnds c) (at : Pl
 
   -- all jobs of a task have had their turn
   next_task : (t i : ℕ) (s : ExecState) → Stands t i (c.jobs i) s → Stands t (suc i) 0 s
-  next_task t i s stands = record {
-    sound = stands.sound;
-    now = stands.now;
-    idle = stands.idle;
-    done = λ j k its before. stands.done j k its (narrow j k its before);
-    left = λ j k its over. wide j k (stands.left j k its over);
-  }
+  next_task t i s stands = same_state t i (c.jobs i) (suc i) 0 s stands (λ j k its before. stands.done j k its (narrow j k its before)) (more_tasks t i (c.jobs i))
     where
       narrow : (j k : ℕ) → IsJob c j k → Before t (suc i) 0 j k → Before t i (c.jobs i) j k
       narrow j k its (inl earlier) = inl earlier
@@ -303,20 +292,9 @@ module _ (c : RunConstants) (facts : HasPlanFacts c) (ends : HasEnds c) (at : Pl
           ]
       narrow j k its (inr (same, inr own)) = absurd (let b = own.1 in omega (arith, b))
 
-      wide : (j k : ℕ) → Before t i (c.jobs i) j k → Before t (suc i) 0 j k
-      wide j k (inl earlier) = inl earlier
-      wide j k (inr (same, inl lower)) = inr (same, inl (omega (arith, lower)))
-      wide j k (inr (same, inr own)) = inr (same, inl (let b = own.0 in omega (arith, b)))
-
   -- a task whose first unfinished job, if it has one, does not act at tick t has had its turn
   pub skip_task : (t i : ℕ) (s : ExecState) → Stands t i 0 s → (get_or s.ended i 0 < c.jobs i → at i (get_or s.ended i 0) ≢ t) → Stands t (suc i) 0 s
-  skip_task t i s stands other = record {
-    sound = stands.sound;
-    now = stands.now;
-    idle = stands.idle;
-    done = λ j k its before. narrow j k its before;
-    left = λ j k its over. wide j k (stands.left j k its over);
-  }
+  skip_task t i s stands other = same_state t i 0 (suc i) 0 s stands narrow (more_tasks t i 0)
     where
       narrow : (j k : ℕ) → IsJob c j k → Before t (suc i) 0 j k → k < get_or s.ended j 0
       narrow j k its (inl earlier) = stands.done j k its (inl earlier)
@@ -328,61 +306,44 @@ module _ (c : RunConstants) (facts : HasPlanFacts c) (ends : HasEnds c) (at : Pl
                 elim (cases_lt k (get_or s.ended j 0)) [
                   | inl ended ↦ ended
                   | inr not_ended ↦ absurd
-                      (let job = its.job in
-                      let jobs = ap (λ (x : ℕ). c.jobs x) own in
+                      (let jobs = ap (λ (x : ℕ). c.jobs x) own in
                       let ended = ap (λ (x : ℕ). get_or s.ended x 0) own in
                       let at_own = ap (λ (x : ℕ). at x k) own in
                       elim (cases_eq (get_or s.ended i 0) k) [
-                        | inl first ↦ other (omega (arith, job, jobs, first)) (ap (λ (x : ℕ). at i x) first ∙ sym at_own ∙ same)
+                        | inl first ↦ other (omega (arith, its.job, jobs, first)) (ap (λ (x : ℕ). at i x) first ∙ sym at_own ∙ same)
                         | inr later ↦
                             (let before : get_or s.ended i 0 < k = omega (arith, not_ended, ended, later) in
-                            let its_i : IsJob c i k = record { task = subst (λ (x : ℕ). x < c.tasks) own its.task; job = omega (arith, job, jobs) } in
-                            let its_first : IsJob c i (get_or s.ended i 0) = record { task = subst (λ (x : ℕ). x < c.tasks) own its.task; job = omega (arith, job, jobs, before) } in
-                            let due = placing.due i (get_or s.ended i 0) its_first in
-                            let gap = facts.apart i (get_or s.ended i 0) k its_i before in
-                            let released = placing.released i k its_i in
-                            let done = stands.done i (get_or s.ended i 0) its_first (inl (omega (arith, due, gap, released, at_own, same))) in
+                            let first = sooner i (get_or s.ended i 0) k (subst (λ (x : ℕ). IsJob c x k) own its) before in
+                            let done = stands.done i (get_or s.ended i 0) first.0 (inl (omega (arith, first.1, at_own, same))) in
                             omega (arith, done))
                       ])
                 ]
           ]
-
-      wide : (j k : ℕ) → Before t i 0 j k → Before t (suc i) 0 j k
-      wide j k (inl earlier) = inl earlier
-      wide j k (inr (same, inl lower)) = inr (same, inl (omega (arith, lower)))
-      wide j k (inr (same, inr own)) = absurd (let b = own.1 in omega (arith, b))
 
   -- nor does a task whose first unfinished job has just done its acts there have another one
   pub task_done : (t i n : ℕ) (s r : ExecState) → Stands t i 0 s → IsJob c i n → at i n ≡ t → get_or s.ended i 0 ≡ n → Ended i n s r → Stands t (suc i) 0 r
   task_done t i n s r stands job here first ended = record {
     sound = ended.sound;
     now = ended.now ∙ stands.now;
-    idle = λ j. elim (cases_eq j i) [
-      | inl same ↦ ap (λ (x : ℕ). get_or r.places x 0) same ∙ ended.here
-      | inr other ↦ ended.others j other ∙ stands.idle j
-    ];
+    idle = idle_after t i n s r 0 stands ended;
     done = λ j k its before. elim (cases_eq j i) [
       | inl same ↦
           (let up : get_or r.ended j 0 ≡ n + 1 = ap (λ (x : ℕ). get_or r.ended x 0) same ∙ ended.ended in
           elim (cases_lt n k) [
             | inr low ↦ omega (arith, up, low)
             | inl above ↦ absurd
-                (let its_i : IsJob c i k = record { task = job.task; job = (let b = its.job in let e = ap (λ (x : ℕ). c.jobs x) same in omega (arith, b, e)) } in
-                let due = placing.due i n job in
-                let gap = facts.apart i n k its_i above in
-                let released = placing.released i k its_i in
+                (let acts = (sooner i n k (subst (λ (x : ℕ). IsJob c x k) same its) above).1 in
                 let at_own = ap (λ (x : ℕ). at x k) same in
                 elim before [
-                  | inl earlier ↦ omega (arith, due, gap, released, at_own, earlier, here)
-                  | inr at_t ↦ (let e = at_t.0 in omega (arith, due, gap, released, at_own, e, here))
+                  | inl earlier ↦ omega (arith, acts, at_own, earlier, here)
+                  | inr at_t ↦ (let e = at_t.0 in omega (arith, acts, at_own, e, here))
                 ])
           ])
       | inr other ↦
-          (let e = ended.others_ended j other in
-          let d : k < get_or s.ended j 0 = stands.done j k its (elim before [
+          (let d : k < get_or s.ended j 0 = stands.done j k its (elim before [
             | inl earlier ↦ inl earlier
             | inr at_t ↦ (elim at_t.1 [ inl lower ↦ inr (at_t.0, inl (omega (arith, lower, other))) | inr own ↦ absurd (let b = own.1 in omega (arith, b)) ])
-          ]) in omega (arith, e, d))
+          ]) in omega (arith, ended.others_ended j other, d))
     ];
     left = λ j k its over. elim (cases_eq j i) [
       | inl same ↦
@@ -390,16 +351,11 @@ module _ (c : RunConstants) (facts : HasPlanFacts c) (ends : HasEnds c) (at : Pl
           let was : get_or s.ended j 0 ≡ n = ap (λ (x : ℕ). get_or s.ended x 0) same ∙ first in
           elim (cases_eq k n) [
             | inl now ↦ inr (ap (λ (x : ℕ). at x k) same ∙ ap (λ (x : ℕ). at i x) now ∙ here, inl (omega (arith, same)))
-            | inr not_now ↦ wide j k (stands.left j k its (omega (arith, over, up, was, not_now)))
+            | inr not_now ↦ more_tasks t i 0 j k (stands.left j k its (omega (arith, over, up, was, not_now)))
           ])
-      | inr other ↦ wide j k (stands.left j k its (let e = ended.others_ended j other in omega (arith, e, over)))
+      | inr other ↦ more_tasks t i 0 j k (stands.left j k its (let e = ended.others_ended j other in omega (arith, e, over)))
     ];
   }
-    where
-      wide : (j k : ℕ) → Before t i 0 j k → Before t (suc i) 0 j k
-      wide j k (inl earlier) = inl earlier
-      wide j k (inr (same, inl lower)) = inr (same, inl (omega (arith, lower)))
-      wide j k (inr (same, inr own)) = absurd (let b = own.1 in omega (arith, b))
 
   tasks_act : (t i : ℕ) → i ≤ c.tasks → (s : ExecState) → Stands t 0 0 s → Leads c s (acts_of_tasks c at t i) (Stands t i 0)
   tasks_act t zero small s stands = (tt, stands)
@@ -417,9 +373,8 @@ module _ (c : RunConstants) (facts : HasPlanFacts c) (ends : HasEnds c) (at : Pl
         within = (let n = stands.now in omega (arith, n, within));
         ended = λ j n left. (let its : IsJob c j n = record { task = left.task; job = left.job } in
             let due : at j n < c.deadline j n = placing.due j n its in
-            let now = stands.now in
             elim (cases_lt t (at j n)) [
-              | inl later ↦ omega (arith, due, later, now)
+              | inl later ↦ omega (arith, due, later, stands.now)
               | inr not_later ↦ absurd
                   (let d : n < get_or s.ended j 0 = stands.done j n its (elim (cases_lt (at j n) t) [
                     | inl earlier ↦ inl earlier
@@ -482,6 +437,4 @@ module _ (c : RunConstants) (facts : HasPlanFacts c) (ends : HasEnds c) (at : Pl
   pub placed_complete : IsComplete c (after_events c (opening c) (unrolled c at))
   placed_complete = λ j n task job.
       (let its : IsJob c j n = record { task = task; job = job } in
-      let due = placing.due j n its in
-      let within = facts.within j n its in
-      (list_leads c.end (omega arith)).1.done j n its (inl (omega (arith, due, within))))
+      (list_leads c.end (omega arith)).1.done j n its (inl (omega (arith, placing.due j n its, facts.within j n its))))

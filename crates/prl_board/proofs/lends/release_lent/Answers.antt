@@ -2,18 +2,15 @@ use Rattle.std.proofs.Common.{sym, ap, subst, ◌∙◌}
 use Rattle.prl_seats.specs.JobSeats.{AnswersRelease, JobSeatView}
 use Rattle.prl_board.specs.TaskSeats.{MayRelease, place_of}
 use Rattle.prl_board.specs.code.Lent.{IsElsewhere}
-use Rattle.prl_board.proofs.Called.{release_elsewhere, seat_returned, seen_again}
+use Rattle.prl_board.proofs.Called.{answer_after, release_elsewhere, same_after, seat_returned}
 use Rattle.prl_board.proofs.lends.release_lent.Goals as goal
 
 pub release-answer-requires-clause-place : goal.release-answer-requires-clause-place
 release-answer-requires-clause-place c = subst (λ (s : JobSeatView). MayRelease (place_of s.stage)) (sym c.lend.ensures.taken) c.requires.place
 
 pub returns-clause-same : goal.returns-clause-same
-returns-clause-same c = (
-  c.take_back.ensures.given.0 ∙ c.release-answer.ensures.same.table ∙ ap (λ (s : JobSeatView). s.table) c.lend.ensures.taken,
-  ap (λ m. m.1) c.take_back.ensures.given.2,
-  ap (λ (s : JobSeatView). s.task) c.take_back.ensures.taken ∙ c.release-answer.ensures.same.task ∙ ap (λ (s : JobSeatView). s.task) c.lend.ensures.taken,
-)
+returns-clause-same c =
+    same_after c.args.seat.now c.release-answer.new.self c.lend.ensures.taken c.take_back.ensures.taken c.take_back.ensures.given c.release-answer.ensures.same.table c.release-answer.ensures.same.task
 
 pub returns-clause-returned : goal.returns-clause-returned
 returns-clause-returned c =
@@ -25,10 +22,8 @@ returns-clause-returned c =
 
 pub returns-clause-answer : goal.returns-clause-answer
 returns-clause-answer c =
-    let P : JobSeatView × JobSeatView → Type 0 = λ z. AnswersRelease c.args.board.now.known z.0 z.1 c.release-answer.result in
-    let seen = seen_again c.take_back.new.whole.table_id c.lend.new.whole.table_id c.take_back.new.whole.id c.lend.new.whole.id c.take_back.new.whole.me.0 _ c.release-answer.new.self c.take_back.new.seat
-    c.take_back.ensures.given.0 c.take_back.ensures.given.1 (ap (λ m. m.0) c.take_back.ensures.given.2) c.take_back.ensures.taken in
-    subst P (λ h. (c.lend.ensures.taken h, sym seen h)) c.release-answer.ensures.answer
+    answer_after c.args.seat.now c.release-answer.new.self (λ s t. AnswersRelease c.args.board.now.known s t c.release-answer.result) c.lend.ensures.taken c.take_back.ensures.taken
+    c.take_back.ensures.given c.release-answer.ensures.answer
 
 pub returns-clause-place : goal.returns-clause-place
 returns-clause-place c = ap (λ (s : JobSeatView). s.place) c.take_back.ensures.taken ∙ c.release-answer.ensures.place ∙ ap (λ (s : JobSeatView). s.place) c.lend.ensures.taken

@@ -2,18 +2,15 @@ use Rattle.std.proofs.Common.{sym, ap, subst, ◌∙◌}
 use Rattle.prl_seats.specs.JobSeats.{JobSeatView}
 use Rattle.prl_board.specs.TaskSeats.{AnswersWrite, MayWrite, place_of}
 use Rattle.prl_board.specs.code.Lent.{IsElsewhere}
-use Rattle.prl_board.proofs.Called.{seat_returned, seen_again, write_elsewhere}
+use Rattle.prl_board.proofs.Called.{answer_after, same_after, seat_returned, write_elsewhere}
 use Rattle.prl_board.proofs.lends.write_lent.Goals as goal
 
 pub write-answer-requires-clause-place : goal.write-answer-requires-clause-place
 write-answer-requires-clause-place c = subst (λ (s : JobSeatView). MayWrite (place_of s.stage)) (sym c.lend.ensures.taken) c.requires.place
 
 pub returns-clause-same : goal.returns-clause-same
-returns-clause-same c = (
-  c.take_back.ensures.given.0 ∙ c.write-answer.ensures.same.table ∙ ap (λ (s : JobSeatView). s.table) c.lend.ensures.taken,
-  ap (λ m. m.1) c.take_back.ensures.given.2,
-  ap (λ (s : JobSeatView). s.task) c.take_back.ensures.taken ∙ c.write-answer.ensures.same.task ∙ ap (λ (s : JobSeatView). s.task) c.lend.ensures.taken,
-)
+returns-clause-same c =
+    same_after c.args.seat.now c.write-answer.new.self c.lend.ensures.taken c.take_back.ensures.taken c.take_back.ensures.given c.write-answer.ensures.same.table c.write-answer.ensures.same.task
 
 pub returns-clause-returned : goal.returns-clause-returned
 returns-clause-returned c =
@@ -25,7 +22,5 @@ returns-clause-returned c =
 
 pub returns-clause-answer : goal.returns-clause-answer
 returns-clause-answer c =
-    let P : JobSeatView × JobSeatView → Type 0 = λ z. AnswersWrite c.args.board.now.known z.0 z.1 c.write-answer.result z.0.stage in
-    let seen = seen_again c.take_back.new.whole.table_id c.lend.new.whole.table_id c.take_back.new.whole.id c.lend.new.whole.id c.take_back.new.whole.me.0 _ c.write-answer.new.self c.take_back.new.seat
-    c.take_back.ensures.given.0 c.take_back.ensures.given.1 (ap (λ m. m.0) c.take_back.ensures.given.2) c.take_back.ensures.taken in
-    subst P (λ h. (c.lend.ensures.taken h, sym seen h)) c.write-answer.ensures.answer
+    answer_after c.args.seat.now c.write-answer.new.self (λ s t. AnswersWrite c.args.board.now.known s t c.write-answer.result s.stage) c.lend.ensures.taken c.take_back.ensures.taken
+    c.take_back.ensures.given c.write-answer.ensures.answer

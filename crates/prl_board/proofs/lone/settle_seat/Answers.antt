@@ -68,9 +68,8 @@ returns-clause-stays c =
 
 pub returns-clause-lent : goal.returns-clause-lent
 returns-clause-lent c =
-    let first = c.exchange.ensures.taken in
     let second = c.exchange-2.ensures.taken in
-    let task = c.stopped.ensures.same.task ∙ ap (λ (s : JobSeatView). s.task) first in
+    let task = c.stopped.ensures.same.task ∙ ap (λ (s : JobSeatView). s.task) c.exchange.ensures.taken in
     let P : View × ℕ × ℕ × ℕ × Stage → Type 0 = λ z. Follows c.args.board.now.known z.0 z.1 z.2 z.3 z.4 in
     record {
       task = ap (λ (s : JobSeatView). s.task) second ∙ task;

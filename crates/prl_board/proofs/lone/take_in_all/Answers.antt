@@ -33,11 +33,9 @@ loop-i-preserved c =
 pub returns-clause-lent : goal.returns-clause-lent
 returns-clause-lent c = λ i s has.
     let test = c.loop-i-test.false in let end = c.len-i-end.ensures in let ok = c.args.seats.now.ok in let long = c.loop-i.invariant.long in
-    let inside = slice_get_within (vec_items c.loop-i.seats) i s has in
-    c.loop-i.invariant.done i s (omega (arith, inside, test, end, ok, long)) has
+    c.loop-i.invariant.done i s (omega (arith, slice_get_within (vec_items c.loop-i.seats) i s has, test, end, ok, long)) has
 
 pub returns-clause-parts : goal.returns-clause-parts
 returns-clause-parts c = λ i s has.
     let test = c.loop-i-test.false in let end = c.len-i-end.ensures in let ok = c.args.seats.now.ok in
-    let inside = slice_get_within (vec_items c.args.seats.now) i s has in
-    c.loop-i.invariant.parts i s (omega (arith, inside, test, end, ok)) has
+    c.loop-i.invariant.parts i s (omega (arith, slice_get_within (vec_items c.args.seats.now) i s has, test, end, ok)) has

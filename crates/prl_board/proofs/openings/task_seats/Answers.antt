@@ -8,9 +8,7 @@ use Rattle.prl_board.proofs.openings.task_seats.Goals as goal
 
 pub first-requires-clause-part : goal.first-requires-clause-part
 first-requires-clause-part c =
-    let end = c.tasks-i-end.ensures in
-    let test = c.loop-i-test.true in
-    let below : c.loop-i.i < (run_of c.args.board.now.known).tasks = omega (arith, end, test) in
+    let below : c.loop-i.i < (run_of c.args.board.now.known).tasks = omega (arith, c.tasks-i-end.ensures, c.loop-i-test.true) in
     let me = c.split-own.ensures.part.1 in (
       subst (λ (v : View). HasFirstPart c.args.board.now.known c.loop-i.i v) (sym (ap (λ m. m.0) me))
           (first_given c.args.board.now.known c.loop-i.i c.loop-i.seat.me.0 c.loop-i.invariant.left below),

@@ -29,7 +29,4 @@ returns-in_err-constrain_flow-clause-stopped c =
 
 pub returns-clause-reached : goal.returns-clause-reached
 returns-clause-reached c =
-    let e = ap length c.flows-count.ensures.flows in
-    let below = c.loop-x.auto.x-end in
-    let above = c.loop-x-test.false in
-    reached_end c.args.flat.now c.loop-x.x c.loop-x.standings.items (omega (arith, e, below, above)) c.loop-x.invariant
+    reached_end c.args.flat.now c.loop-x.x c.loop-x.standings.items (omega (arith, ap length c.flows-count.ensures.flows, c.loop-x.auto.x-end, c.loop-x-test.false)) c.loop-x.invariant

@@ -18,8 +18,7 @@ returns-in_err-start-clause-past c =
 
 pub returns-clause-composed : goal.returns-clause-composed
 returns-clause-composed c =
-    let e = c.in_ok-start.ensures in
     record {
       period = quotient_product c.args.first.period c.in_ok-period.period c.args.whole.period c.in_ok-period.ensures.0;
-      start = sum_back c.args.whole.start c.args.first.start c.in_ok-period.period _ c.in_ok-start.start c.negated.ensures.num c.negated.ensures.den e.0.equal;
+      start = sum_back c.args.whole.start c.args.first.start c.in_ok-period.period _ c.in_ok-start.start c.negated.ensures.num c.negated.ensures.den c.in_ok-start.ensures.0.equal;
     }

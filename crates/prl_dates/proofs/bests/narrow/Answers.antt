@@ -13,10 +13,7 @@ overflow_add-released c =
 
 pub bounds-bests-index : goal.bounds-bests-index
 bounds-bests-index c =
-    let b = index_below c.args.graph.now c.args.task.0 c.args.n c.requires.task c.requires.job in
-    let j = c.jobs_before.ensures.jobs in
-    let l = c.requires.long in
-    omega (arith, b, j, l)
+    omega (arith, index_below c.args.graph.now c.args.task.0 c.args.n c.requires.task c.requires.job, c.jobs_before.ensures.jobs, c.requires.long)
 
 pub overflow_add-result : goal.overflow_add-result
 overflow_add-result c =
@@ -45,7 +42,6 @@ returns c =
     let graph = c.args.graph.now in
     let t = c.index-as_slice-task.result in
     let small = read_small c.args.graph.now c.requires.well c.args.task.0 c.args.n c.requires.task c.requires.job _ c.as_slice.ensures c.index-as_slice-task.result c.index-as_slice-task.is in
-    let w = c.requires.within (c.jobs_before.result + c.args.n) in
     let few = few_jobs graph c.requires.well c.args.task.0 c.args.n c.requires.task c.requires.job in
     narrow_is graph c.args.bests.now c.args.task c.args.n t small.is c.requires.job (c.jobs_before.result + c.args.n)
     (let j = c.jobs_before.ensures.jobs in omega (arith, j)) (to_z w64 c.args.n) (to_z_pos w64 c.args.n (omega (arith, few)))

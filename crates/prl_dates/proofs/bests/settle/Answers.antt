@@ -40,9 +40,8 @@ narrow-requires-clause-long c = c.rounds-still.ensures.long ∙ c.requires.wcets
 -- so many rounds raise no date to more than this
 small_bound : (most : ℕ) (table : List ℕ) → most ≤ 20000 → AreWithin table ((most + 1) * 2 ^ 31) → AreWithin table (2 ^ 62)
 small_bound most table few within q =
-    let w = within q in
     let b : (most + 1) * 2 ^ 31 ≤ 20001 * 2 ^ 31 = mul-le-mul_right (2 ^ 31) (let e : most + 1 ≤ 20001 = omega (arith, few) in e) in
-    omega (arith, w, b)
+    omega (arith, within q, b)
 
 pub narrow-requires-clause-within : goal.narrow-requires-clause-within
 narrow-requires-clause-within c =

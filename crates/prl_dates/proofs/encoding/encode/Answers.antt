@@ -13,25 +13,27 @@ use Rattle.prl_dates.specs.code.Windows.{AreWindows}
 use Rattle.prl_dates.proofs.DateTables.{best_room, first_dates, dates_made, room_made, short_made}
 use Rattle.prl_dates.proofs.Indices.{before_all}
 use Rattle.prl_dates.proofs.encoding.encode.Goals as goal
+use Rattle.prl_dates.proofs.encoding.encode.Goals.{After-as_mut_slice}
+
+final : (c : After-as_mut_slice) → AreFinal c.args.graph.now c.in_ok-lanes.lanes.items c.in_ok-bests.bests.items
+final c = subst (λ (xs : List Lane). AreFinal c.args.graph.now xs c.in_ok-bests.bests.items) c.as_slice.ensures.value c.in_ok-bests.ensures
 
 pub lower_to_end-requires-clause-dates : goal.lower_to_end-requires-clause-dates
 lower_to_end-requires-clause-dates c =
     let graph = c.args.graph.now in
     let lanes = c.in_ok-lanes.lanes.items in
     let bests = c.in_ok-bests.bests.items in
-    let final : AreFinal graph lanes bests = subst (λ (xs : List Lane). AreFinal graph xs bests) c.as_slice.ensures.value c.in_ok-bests.ensures in
+    let d = (goal.at.lower_to_end-requires-clause-dates c).After-as_mut_slice in
     subst (λ (xs : List ℕ). AreUpperDates graph xs c.as_mut_slice.result.now) (sym c.as_slice-4.ensures.value)
     (subst (λ (xs : List ℕ). AreUpperDates graph bests xs) (sym c.as_mut_slice.ensures.value)
-    (first_dates graph c.requires lanes c.in_ok-lanes.ensures bests final c.in_ok-tails.tails.items c.in_ok-tails.ensures (c.in_ok-tails.ensures.long ∙ before_all graph)))
+    (first_dates graph c.requires lanes c.in_ok-lanes.ensures bests (final d) c.in_ok-tails.tails.items c.in_ok-tails.ensures (c.in_ok-tails.ensures.long ∙ before_all graph)))
 
 pub windows-requires-clause-room : goal.windows-requires-clause-room
 windows-requires-clause-room c =
     let graph = c.args.graph.now in
-    let lanes = c.in_ok-lanes.lanes.items in
-    let bests = c.in_ok-bests.bests.items in
-    let final : AreFinal graph lanes bests = subst (λ (xs : List Lane). AreFinal graph xs bests) c.as_slice.ensures.value c.in_ok-bests.ensures in
+    let d = (goal.at.windows-requires-clause-room c).After-as_mut_slice in
     subst (λ (xs : List ℕ). (i p : ℕ) → i < length graph.tasks → p < jobs_of graph i → (task_at graph i).wcet ≤ slice_index xs (jobs_before graph i + p)) (sym c.as_slice-5.ensures.value)
-    (best_room graph c.requires lanes c.in_ok-lanes.ensures bests final)
+    (best_room graph c.requires c.in_ok-lanes.lanes.items c.in_ok-lanes.ensures c.in_ok-bests.bests.items (final d))
 
 pub returns-clause-dates : goal.returns-clause-dates
 returns-clause-dates c =
@@ -39,7 +41,7 @@ returns-clause-dates c =
     let lanes = c.in_ok-lanes.lanes.items in
     let bests = c.in_ok-bests.bests.items in
     let tails = c.lower_to_end.new.dates in
-    let final : AreFinal graph lanes bests = subst (λ (xs : List Lane). AreFinal graph xs bests) c.as_slice.ensures.value c.in_ok-bests.ensures in
+    let d = (goal.at.returns-clause-dates c).After-as_mut_slice in
     let upper : AreUpperDates graph bests tails = subst (λ (xs : List ℕ). AreUpperDates graph xs tails) c.as_slice-4.ensures.value c.lower_to_end.ensures.dates in
     let leave : LeaveAll graph lanes (length lanes) tails = subst (λ (xs : List Lane). LeaveAll graph xs (length xs) tails) c.as_slice-3.ensures.value c.lower_to_end.ensures.asks in
     let long : length tails ≡ c.in_ok-tails.tails.len =
@@ -49,9 +51,9 @@ returns-clause-dates c =
     subst (λ (xs : List ℕ). AreWindows graph bests xs (length graph.tasks) c.in_ok-windows.windows) same
     (subst (λ (xs : List ℕ). AreWindows graph xs c.as_slice-6.result.now (length graph.tasks) c.in_ok-windows.windows) c.as_slice-5.ensures.value c.in_ok-windows.ensures) in
     subst (λ (ws : List (List Window)). AreEncodedDates graph ws × HaveRoom graph ws × AreShortWindows ws) (sym c.new.ensures) (
-      dates_made graph c.requires lanes c.in_ok-lanes.ensures bests final tails upper leave c.in_ok-windows.windows lists,
-      room_made graph c.requires lanes c.in_ok-lanes.ensures bests final tails upper leave c.in_ok-windows.windows lists,
-      short_made graph c.requires lanes c.in_ok-lanes.ensures bests final tails upper leave c.in_ok-windows.windows lists,
+      dates_made graph c.requires lanes c.in_ok-lanes.ensures bests (final d) tails upper leave c.in_ok-windows.windows lists,
+      room_made graph c.requires lanes c.in_ok-lanes.ensures bests (final d) tails upper leave c.in_ok-windows.windows lists,
+      short_made graph c.requires lanes c.in_ok-lanes.ensures bests (final d) tails upper leave c.in_ok-windows.windows lists,
     )
 
 pub returns-clause-narrow : goal.returns-clause-narrow

@@ -13,7 +13,6 @@ pub returns-in_ok-push : goal.returns-in_ok-push
 returns-in_ok-push c =
     let graph = c.args.graph.now in
     let edge = c.index-as_slice-e.result in
-    let e = c.args.e in
     let is : edge ≡ get_or graph.edges c.args.e edge = c.index-as_slice-e.is ∙ ap (λ (es : List Edge). get_or es c.args.e edge) c.as_slice.ensures in
     let stands : slice_get graph.edges c.args.e ≡ Some edge = item_stands graph.edges c.args.e edge c.requires.edge is in
     subst (λ (xs : List Lane). AreLanesOf graph (c.args.e + 1) xs) (sym c.in_ok-push.ensures.items)

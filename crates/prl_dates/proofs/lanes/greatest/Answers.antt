@@ -4,80 +4,82 @@ use Rattle.std.specs.Int.{int_max}
 use Rattle.std.proofs.lemmas.List.{get_or_default, with_items_is}
 use Rattle.prl_base.specs.declared.operators.Op.{Op}
 use Rattle.prl_plan.specs.declared.graphs.Edge.{Edge}
+use Rattle.prl_plan.specs.declared.graphs.TaskGraph.{TaskGraph}
+use Rattle.prl_plan.specs.Graphs.{IsWellFormed}
 use Rattle.prl_plan.specs.Precedence.{preceding}
 use Rattle.prl_plan.specs.Ranges.{PrecedingFits}
 use Rattle.prl_plan.proofs.ReaderLaws.{preceding_rises}
+use Rattle.prl_dates.specs.Faults.{jobs_of}
 use Rattle.prl_dates.specs.code.Lanes.{Joins, AreGreatest}
 use Rattle.prl_dates.specs.code.Runs.{Rises}
 use Rattle.prl_dates.proofs.Readings.{item_stands}
 use Rattle.prl_dates.proofs.LaneSteps.{joins_edge, joins_inside, joined_fits, greatest_first, greatest_more, greatest_same}
 use Rattle.prl_dates.proofs.lanes.greatest.Goals as goal
-use Rattle.prl_dates.proofs.lanes.greatest.Goals.{then-joins+in_ok-others, else-joins}
+use Rattle.prl_dates.proofs.lanes.greatest.Goals.{After-as_slice, After-as_slice-then-joins, then-joins+in_ok-others, else-joins}
 
 pub jobs_of-jobs-requires-clause-task : goal.jobs_of-jobs-requires-clause-task
 jobs_of-jobs-requires-clause-task c = (joins_inside c.args.graph.now c.requires.well c.args.from.0 c.args.to.0 c.args.e c.requires.joins).1
 
-pub numbers_over-requires-clause-fits : goal.numbers_over-requires-clause-fits
-numbers_over-requires-clause-fits c n below =
+-- the edge that joins the two
+first_joins : (c : After-as_slice) → Joins c.args.graph.now c.args.from.0 c.args.to.0 (get_or c.as_slice-edges.result.now c.args.e c.index-edges-e.result)
+first_joins c =
     let graph = c.args.graph.now in
     let edge : Edge = get_or c.as_slice-edges.result.now c.args.e c.index-edges-e.result in
-    let is : edge ≡ get_or graph.edges c.args.e edge =
-    ap (λ (es : List Edge). get_or es c.args.e c.index-edges-e.result) c.as_slice-edges.ensures ∙ get_or_default graph.edges c.args.e c.index-edges-e.result edge c.requires.joins.inside in
-    let joins : Joins graph c.args.from.0 c.args.to.0 edge = joins_edge graph c.requires.well c.args.from.0 c.args.to.0 c.args.e c.requires.joins edge is in
-    subst (λ (ops : List Op). PrecedingFits ops (pos n)) (sym c.as_slice.ensures)
-    (joined_fits graph c.requires.well c.args.from.0 c.args.to.0 edge joins n (let j = c.jobs_of-jobs.ensures.jobs in omega (arith, j, below)))
+    joins_edge graph c.requires.well c.args.from.0 c.args.to.0 c.args.e c.requires.joins edge
+    (ap (λ (es : List Edge). get_or es c.args.e c.index-edges-e.result) c.as_slice-edges.ensures ∙ get_or_default graph.edges c.args.e c.index-edges-e.result edge c.requires.joins.inside)
+
+edge_stands : (edges seen : List Edge) (k : ℕ) (edge : Edge) → seen ≡ edges → k < length seen → edge ≡ get_or seen k edge → slice_get edges k ≡ Some edge
+edge_stands edges seen k edge same inside is = subst (λ (es : List Edge). slice_get es k ≡ Some edge) same (item_stands seen k edge inside is)
+
+next_joins : (c : After-as_slice-then-joins) → Joins c.args.graph.now c.args.from.0 c.args.to.0 c.edge-item.result
+next_joins c =
+    let both = c.joins.ensures.0 c.if-joins.true in
+    let stands = edge_stands c.args.graph.now.edges c.as_slice-edges.result.now c.loop-edge.edge-index c.edge-item.result c.as_slice-edges.ensures c.loop-edge-test.true c.edge-item.is in
+    record { stands = (c.loop-edge.edge-index, stands); from = both.0; to = both.1 }
+
+-- what the operators of such an edge give
+edge_fits : (graph : TaskGraph) (good : IsWellFormed graph) (i j : ℕ) (edge : Edge) → Joins graph i j edge → (ops : List Op) → ops ≡ edge.ops → (n : ℕ) → n < jobs_of graph j →
+    PrecedingFits ops (pos n)
+edge_fits graph good i j edge joins ops same n below = subst (λ (os : List Op). PrecedingFits os (pos n)) (sym same) (joined_fits graph good i j edge joins n below)
+
+edge_rises : (graph : TaskGraph) → IsWellFormed graph → (i j : ℕ) (edge : Edge) → Joins graph i j edge → (ops : List Op) → ops ≡ edge.ops → Rises ops
+edge_rises graph good i j edge joins ops same = subst Rises (sym same) (preceding_rises edge.ty edge.ops (good.edges joins.stands.0 edge joins.stands.1).operators)
+
+pub numbers_over-requires-clause-fits : goal.numbers_over-requires-clause-fits
+numbers_over-requires-clause-fits c n below =
+    edge_fits c.args.graph.now c.requires.well c.args.from.0 c.args.to.0 _ (first_joins (goal.at.numbers_over-requires-clause-fits c).After-as_slice) c.as_slice.result.now c.as_slice.ensures n
+    (let j = c.jobs_of-jobs.ensures.jobs in omega (arith, j, below))
 
 pub numbers_over-requires-clause-rises : goal.numbers_over-requires-clause-rises
 numbers_over-requires-clause-rises c =
-    let graph = c.args.graph.now in
-    let edge : Edge = get_or c.as_slice-edges.result.now c.args.e c.index-edges-e.result in
-    let is : edge ≡ get_or graph.edges c.args.e edge =
-    ap (λ (es : List Edge). get_or es c.args.e c.index-edges-e.result) c.as_slice-edges.ensures ∙ get_or_default graph.edges c.args.e c.index-edges-e.result edge c.requires.joins.inside in
-    let joins : Joins graph c.args.from.0 c.args.to.0 edge = joins_edge graph c.requires.well c.args.from.0 c.args.to.0 c.args.e c.requires.joins edge is in
-    subst (λ (ops : List Op). Rises ops) (sym c.as_slice.ensures)
-    (preceding_rises edge.ty edge.ops (c.requires.well.edges joins.stands.0 edge joins.stands.1).operators)
+    edge_rises c.args.graph.now c.requires.well c.args.from.0 c.args.to.0 _ (first_joins (goal.at.numbers_over-requires-clause-rises c).After-as_slice) c.as_slice.result.now c.as_slice.ensures
 
 pub loop-edge-init : goal.loop-edge-init
 loop-edge-init c =
-    let graph = c.args.graph.now in
     let edge : Edge = get_or c.as_slice-edges.result.now c.args.e c.index-edges-e.result in
-    let is : edge ≡ get_or graph.edges c.args.e edge =
-    ap (λ (es : List Edge). get_or es c.args.e c.index-edges-e.result) c.as_slice-edges.ensures ∙ get_or_default graph.edges c.args.e c.index-edges-e.result edge c.requires.joins.inside in
-    let joins : Joins graph c.args.from.0 c.args.to.0 edge = joins_edge graph c.requires.well c.args.from.0 c.args.to.0 c.args.e c.requires.joins edge is in
-    greatest_first graph c.requires.well c.args.from.0 c.args.to.0 joins.stands.0 edge joins.stands.1 joins.from joins.to c.in_ok-numbers.numbers.items
+    let joins = first_joins (goal.at.loop-edge-init c).After-as_slice in
+    greatest_first c.args.graph.now c.requires.well c.args.from.0 c.args.to.0 joins.stands.0 edge joins.stands.1 joins.from joins.to c.in_ok-numbers.numbers.items
     (c.in_ok-numbers.ensures.long ∙ c.jobs_of-jobs.ensures.jobs)
     (λ n below. c.in_ok-numbers.ensures.each n (let j = c.jobs_of-jobs.ensures.jobs in omega (arith, j, below)) ∙ ap (λ (ops : List Op). preceding ops (pos n)) c.as_slice.ensures)
 
 pub numbers_over-requires-then-joins-clause-fits : goal.numbers_over-requires-then-joins-clause-fits
 numbers_over-requires-then-joins-clause-fits c n below =
-    let graph = c.args.graph.now in
-    let edge = c.edge-item.result in
-    let is : edge ≡ get_or graph.edges c.loop-edge.edge-index edge = c.edge-item.is ∙ ap (λ (es : List Edge). get_or es c.loop-edge.edge-index edge) c.as_slice-edges.ensures in
-    let inside : c.loop-edge.edge-index < length graph.edges = subst (λ (es : List Edge). c.loop-edge.edge-index < length es) c.as_slice-edges.ensures c.loop-edge-test.true in
-    let stands : slice_get graph.edges c.loop-edge.edge-index ≡ Some edge = item_stands graph.edges c.loop-edge.edge-index edge inside is in
-    let both = c.joins.ensures.0 c.if-joins.true in
-    let joins : Joins graph c.args.from.0 c.args.to.0 edge = record { stands = (c.loop-edge.edge-index, stands); from = both.0; to = both.1 } in
-    subst (λ (ops : List Op). PrecedingFits ops (pos n)) (sym c.as_slice-then-joins.ensures)
-    (joined_fits graph c.requires.well c.args.from.0 c.args.to.0 edge joins n (let j = c.jobs_of-jobs.ensures.jobs in omega (arith, j, below)))
+    edge_fits c.args.graph.now c.requires.well c.args.from.0 c.args.to.0 _ (next_joins (goal.at.numbers_over-requires-then-joins-clause-fits c).After-as_slice-then-joins)
+    c.as_slice-then-joins.result.now
+    c.as_slice-then-joins.ensures n (let j = c.jobs_of-jobs.ensures.jobs in omega (arith, j, below))
 
 pub numbers_over-requires-then-joins-clause-rises : goal.numbers_over-requires-then-joins-clause-rises
 numbers_over-requires-then-joins-clause-rises c =
-    let graph = c.args.graph.now in
-    let edge = c.edge-item.result in
-    let is : edge ≡ get_or graph.edges c.loop-edge.edge-index edge = c.edge-item.is ∙ ap (λ (es : List Edge). get_or es c.loop-edge.edge-index edge) c.as_slice-edges.ensures in
-    let inside : c.loop-edge.edge-index < length graph.edges = subst (λ (es : List Edge). c.loop-edge.edge-index < length es) c.as_slice-edges.ensures c.loop-edge-test.true in
-    let stands : slice_get graph.edges c.loop-edge.edge-index ≡ Some edge = item_stands graph.edges c.loop-edge.edge-index edge inside is in
-    subst (λ (ops : List Op). Rises ops) (sym c.as_slice-then-joins.ensures)
-    (preceding_rises edge.ty edge.ops (c.requires.well.edges c.loop-edge.edge-index edge stands).operators)
+    edge_rises c.args.graph.now c.requires.well c.args.from.0 c.args.to.0 _ (next_joins (goal.at.numbers_over-requires-then-joins-clause-rises c).After-as_slice-then-joins)
+    c.as_slice-then-joins.result.now
+    c.as_slice-then-joins.ensures
 
 pub loop-edge-preserved : goal.loop-edge-preserved
 loop-edge-preserved c =
     let graph = c.args.graph.now in
     let edge = c.edge-item.result in
     let k = c.loop-edge.edge-index in
-    let is : edge ≡ get_or graph.edges c.loop-edge.edge-index edge = c.edge-item.is ∙ ap (λ (es : List Edge). get_or es c.loop-edge.edge-index edge) c.as_slice-edges.ensures in
-    let inside : c.loop-edge.edge-index < length graph.edges = subst (λ (es : List Edge). c.loop-edge.edge-index < length es) c.as_slice-edges.ensures c.loop-edge-test.true in
-    let stands : slice_get graph.edges c.loop-edge.edge-index ≡ Some edge = item_stands graph.edges c.loop-edge.edge-index edge inside is in
+    let stands = edge_stands graph.edges c.as_slice-edges.result.now k edge c.as_slice-edges.ensures c.loop-edge-test.true c.edge-item.is in
     elim c.if-joins.branch [
       | then-joins+in_ok-others w ↦
           (let both = c.joins.ensures.0 w.if-joins.true in

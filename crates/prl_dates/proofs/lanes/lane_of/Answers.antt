@@ -19,9 +19,8 @@ pub returns-clause-lane : goal.returns-clause-lane
 returns-clause-lane c =
     let graph = c.args.graph.now in
     let inside = joins_inside c.args.graph.now c.requires.well c.args.from.0 c.args.to.0 c.args.e c.requires.joins in
-    let numbers = c.in_ok-numbers.numbers.items in
     let links : c.new.result ≡ c.in_ok-links.links.items = c.new.ensures in
     lane_made graph c.requires.well (record { from = c.args.from; to = c.args.to; first = c.jobs_before.result; links = c.new.result })
-    inside.0 inside.1 c.jobs_before.ensures.jobs (ap (λ (xs : List Link). length xs) links ∙ c.in_ok-links.ensures.long) numbers c.in_ok-numbers.ensures
+    inside.0 inside.1 c.jobs_before.ensures.jobs (ap (λ (xs : List Link). length xs) links ∙ c.in_ok-links.ensures.long) c.in_ok-numbers.numbers.items c.in_ok-numbers.ensures
     (λ n link at. subst (λ (xs : List ℤ). IsLinkOf graph c.args.from.0 c.args.to.0 (pos n) (slice_index_or xs n (pos 0)) link) c.as_slice.ensures.value
     (c.in_ok-links.ensures.each n link (subst (λ (xs : List Link). slice_get xs n ≡ Some link) links at)))

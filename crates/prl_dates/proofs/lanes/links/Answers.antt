@@ -21,7 +21,6 @@ fits_here graph good i j from to numbers are n below =
 pub link_of-requires-clause-greatest : goal.link_of-requires-clause-greatest
 link_of-requires-clause-greatest c =
     let graph = c.args.graph.now in
-    let n = c.loop-n.n in
     let below : c.loop-n.n < jobs_of graph c.args.to.0 = (let l = c.requires.greatest.long in omega (arith, l)) in
     subst (λ (z : ℤ). IsGreatestBefore graph c.args.from.0 c.args.to.0 (pos c.loop-n.n) z)
     (sym (fits_here graph c.requires.well c.args.from.0 c.args.to.0 c.requires.from c.requires.to c.args.numbers.now c.requires.greatest c.loop-n.n below))
@@ -30,7 +29,6 @@ link_of-requires-clause-greatest c =
 pub loop-n-preserved : goal.loop-n-preserved
 loop-n-preserved c =
     let graph = c.args.graph.now in
-    let n = c.loop-n.n in
     let below : c.loop-n.n < jobs_of graph c.args.to.0 = (let l = c.requires.greatest.long in omega (arith, l)) in
     let items : c.push.new.self.items ≡ c.loop-n.links.items ++ c.link_of.result ∷ [] = c.in_ok-push.ensures.items in
     let here : IsLinkOf graph c.args.from.0 c.args.to.0 (pos c.loop-n.n) (get_or c.args.numbers.now c.loop-n.n (pos 0)) c.link_of.result =

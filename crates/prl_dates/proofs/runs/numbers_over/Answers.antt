@@ -44,8 +44,7 @@ loop-n-preserved c =
         | inl less ↦ (let l = c.loop-n.invariant.long in get_or_append_left numbers (to_z w64 (of_z w64 computed) ∷ []) (pos 0) k (omega (arith, less, l))) ∙ c.loop-n.invariant.each k less
         | inr now ↦
             (let same : k ≡ n = omega (arith, now, inside_k) in
-            let l = c.loop-n.invariant.long in
-            get_or_push numbers (to_z w64 (of_z w64 computed)) (pos 0) k (omega (arith, same, l))
+            get_or_push numbers (to_z w64 (of_z w64 computed)) (pos 0) k (omega (arith, same, c.loop-n.invariant.long))
             ∙ pushed ∙ ap (λ (k : ℕ). preceding ops (pos k)) (sym same))
       ];
     }

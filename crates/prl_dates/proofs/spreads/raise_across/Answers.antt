@@ -2,32 +2,30 @@ use Rattle.std.proofs.Common.{◌≡◌, ◌+◌, ◌∙◌, ℕ, List, length, 
 use Rattle.std.specs.Prelude.{◌==◌, slice_get, slice_index}
 use Rattle.std.proofs.lemmas.Bool.{eq-eqb, eqb-true, both_ways}
 use Rattle.prl_plan.specs.Jobs.{task_at}
+use Rattle.prl_dates.specs.code.Lanes.{IsLane}
 use Rattle.prl_dates.specs.code.Tables.{AreRaised}
 use Rattle.prl_dates.specs.code.Spreads.{AreRaisedAcross}
 use Rattle.prl_dates.proofs.Readings.{item_stands}
 use Rattle.prl_dates.proofs.RoundSteps.{links_from, links_to}
 use Rattle.prl_dates.proofs.SpreadRounds.{across_more, across_same}
 use Rattle.prl_dates.proofs.spreads.raise_across.Goals as goal
-use Rattle.prl_dates.proofs.spreads.raise_across.Goals.{then-not-is_within, else-not-is_within}
+use Rattle.prl_dates.proofs.spreads.raise_across.Goals.{After-index-lanes-l, then-not-is_within, else-not-is_within}
+
+lane_is : (c : After-index-lanes-l) → IsLane c.args.graph.now c.index-lanes-l.result
+lane_is c = c.requires.lanes c.loop-l.l c.index-lanes-l.result (item_stands c.args.lanes.now c.loop-l.l c.index-lanes-l.result c.loop-l-test.true c.index-lanes-l.is)
 
 pub wcet_of-wcet-requires : goal.wcet_of-wcet-requires
-wcet_of-wcet-requires c =
-    (c.requires.lanes c.loop-l.l c.index-lanes-l.result (item_stands c.args.lanes.now c.loop-l.l c.index-lanes-l.result c.loop-l-test.true c.index-lanes-l.is)).to
+wcet_of-wcet-requires c = (lane_is (goal.at.wcet_of-wcet-requires c).After-index-lanes-l).to
 
 pub raise-requires-clause-from : goal.raise-requires-clause-from
 raise-requires-clause-from c k inside =
-    let is = c.requires.lanes c.loop-l.l c.index-lanes-l.result (item_stands c.args.lanes.now c.loop-l.l c.index-lanes-l.result c.loop-l-test.true c.index-lanes-l.is) in
-    let f = links_from c.args.graph.now c.requires.well c.index-lanes-l.result is k inside in
-    let m = c.requires.deadlines in
-    omega (arith, f, m)
+    let is = lane_is (goal.at.raise-requires-clause-from c).After-index-lanes-l in
+    omega (arith, links_from c.args.graph.now c.requires.well c.index-lanes-l.result is k inside, c.requires.deadlines)
 
 pub raise-requires-clause-to : goal.raise-requires-clause-to
 raise-requires-clause-to c =
-    let is = c.requires.lanes c.loop-l.l c.index-lanes-l.result (item_stands c.args.lanes.now c.loop-l.l c.index-lanes-l.result c.loop-l-test.true c.index-lanes-l.is) in
-    let t = links_to c.args.graph.now c.requires.well c.index-lanes-l.result is in
-    let m = c.requires.ends in
-    let n = c.loop-l.invariant.long in
-    omega (arith, t, m, n)
+    let is = lane_is (goal.at.raise-requires-clause-to c).After-index-lanes-l in
+    omega (arith, links_to c.args.graph.now c.requires.well c.index-lanes-l.result is, c.requires.ends, c.loop-l.invariant.long)
 
 pub loop-l-preserved : goal.loop-l-preserved
 loop-l-preserved c =

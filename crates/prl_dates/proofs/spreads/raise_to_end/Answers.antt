@@ -8,8 +8,7 @@ use Rattle.prl_dates.proofs.spreads.raise_to_end.Goals as goal
 
 pub round-requires-clause-small : goal.round-requires-clause-small
 round-requires-clause-small c q =
-    let w = ceiling_within c.args.graph.now c.requires.well c.args.lanes.now c.requires.lanes c.loop-now.now c.loop-now.invariant.long c.loop-now.invariant.rising.ceiling q in
-    omega (arith, w)
+    omega (arith, ceiling_within c.args.graph.now c.requires.well c.args.lanes.now c.requires.lanes c.loop-now.now c.loop-now.invariant.long c.loop-now.invariant.rising.ceiling q)
 
 pub loop-now-smaller : goal.loop-now-smaller
 loop-now-smaller c =

@@ -7,45 +7,44 @@ use Rattle.prl_dates.specs.code.Lanes.{AreLanes, AreEachLane}
 use Rattle.prl_dates.specs.code.Spreads.{AreEndsAcross, HasCeiling, IsLeastAbove, AreSpreadEnds}
 use Rattle.prl_dates.proofs.SpreadDates.{within, each_within, across_ceiling, spread_made, ends_long}
 use Rattle.prl_dates.proofs.spreads.spread_ends.Goals as goal
+use Rattle.prl_dates.proofs.spreads.spread_ends.Goals.{After-as_slice}
+
+lanes_are : (c : After-as_slice) → AreLanes c.args.plan.now.graph c.in_ok-lanes.lanes.items
+lanes_are c = subst (λ (g : TaskGraph). AreLanes g c.in_ok-lanes.lanes.items) c.graph-graph.ensures.graph c.in_ok-lanes.ensures
 
 pub ends_across-requires-clause-lanes : goal.ends_across-requires-clause-lanes
 ends_across-requires-clause-lanes c =
     subst (λ (xs : List Lane). AreEachLane c.args.plan.now.graph xs) (sym c.as_slice.ensures.value)
-    (subst (λ (g : TaskGraph). AreLanes g c.in_ok-lanes.lanes.items) c.graph-graph.ensures.graph c.in_ok-lanes.ensures).each
+    (lanes_are (goal.at.ends_across-requires-clause-lanes c).After-as_slice).each
+
+-- what the ends across are for the plan's own lanes
+made : (c : After-as_slice) (ends : List ℕ) → AreEndsAcross c.args.plan.now c.as_slice.result.now c.args.processors.now c.args.deadlines.now ends →
+    AreEndsAcross c.args.plan.now c.in_ok-lanes.lanes.items c.args.processors.now c.args.deadlines.now ends
+made c ends across = subst (λ (xs : List Lane). AreEndsAcross c.args.plan.now xs c.args.processors.now c.args.deadlines.now ends) c.as_slice.ensures.value across
 
 pub raise_within-requires-clause-lanes : goal.raise_within-requires-clause-lanes
 raise_within-requires-clause-lanes c =
     let plan = c.args.plan.now in
-    let lanes = c.in_ok-lanes.lanes.items in
-    let are : AreLanes plan.graph lanes = subst (λ (g : TaskGraph). AreLanes g lanes) c.graph-graph.ensures.graph c.in_ok-lanes.ensures in
-    let made : AreEndsAcross plan lanes c.args.processors.now c.args.deadlines.now c.in_ok-ends.ends.items =
-    subst (λ (xs : List Lane). AreEndsAcross plan xs c.args.processors.now c.args.deadlines.now c.in_ok-ends.ends.items) c.as_slice.ensures.value c.in_ok-ends.ensures in
+    let d = (goal.at.raise_within-requires-clause-lanes c).After-as_slice in
     subst (λ (g : TaskGraph). AreEachLane g c.as_slice-2.result.now) (sym c.graph-graph.ensures.graph)
     (subst (λ (xs : List Lane). AreEachLane plan.graph xs) (sym (c.as_slice-2.ensures.value ∙ c.keep_within.ensures))
-    (each_within plan c.graph-graph.ensures.plan c.args.processors.now lanes are c.args.deadlines.now c.requires c.in_ok-ends.ends.items made))
+    (each_within plan c.graph-graph.ensures.plan c.args.processors.now _ (lanes_are d) c.args.deadlines.now c.requires _ (made d _ c.in_ok-ends.ensures)))
 
 pub raise_within-requires-clause-long : goal.raise_within-requires-clause-long
 raise_within-requires-clause-long c =
-    let plan = c.args.plan.now in
-    let lanes = c.in_ok-lanes.lanes.items in
-    let are : AreLanes plan.graph lanes = subst (λ (g : TaskGraph). AreLanes g lanes) c.graph-graph.ensures.graph c.in_ok-lanes.ensures in
-    let made : AreEndsAcross plan lanes c.args.processors.now c.args.deadlines.now c.in_ok-ends.ends.items =
-    subst (λ (xs : List Lane). AreEndsAcross plan xs c.args.processors.now c.args.deadlines.now c.in_ok-ends.ends.items) c.as_slice.ensures.value c.in_ok-ends.ensures in
+    let d = (goal.at.raise_within-requires-clause-long c).After-as_slice in
     ap (λ (xs : List ℕ). length xs) c.as_mut_slice.ensures.value
-    ∙ ends_long plan c.graph-graph.ensures.plan c.args.processors.now lanes are c.args.deadlines.now c.requires c.in_ok-ends.ends.items made
+    ∙ ends_long c.args.plan.now c.graph-graph.ensures.plan c.args.processors.now _ (lanes_are d) c.args.deadlines.now c.requires _ (made d _ c.in_ok-ends.ensures)
     ∙ ap (λ (g : TaskGraph). jobs_in_hyperperiod g) (sym c.graph-graph.ensures.graph)
 
 pub raise_within-requires-clause-ceiling : goal.raise_within-requires-clause-ceiling
 raise_within-requires-clause-ceiling c =
     let plan = c.args.plan.now in
-    let lanes = c.in_ok-lanes.lanes.items in
-    let are : AreLanes plan.graph lanes = subst (λ (g : TaskGraph). AreLanes g lanes) c.graph-graph.ensures.graph c.in_ok-lanes.ensures in
-    let made : AreEndsAcross plan lanes c.args.processors.now c.args.deadlines.now c.in_ok-ends.ends.items =
-    subst (λ (xs : List Lane). AreEndsAcross plan xs c.args.processors.now c.args.deadlines.now c.in_ok-ends.ends.items) c.as_slice.ensures.value c.in_ok-ends.ensures in
+    let d = (goal.at.raise_within-requires-clause-ceiling c).After-as_slice in
     subst (λ (g : TaskGraph). HasCeiling g c.as_slice-2.result.now c.as_mut_slice.result.now) (sym c.graph-graph.ensures.graph)
     (subst (λ (xs : List Lane). HasCeiling plan.graph xs c.as_mut_slice.result.now) (sym (c.as_slice-2.ensures.value ∙ c.keep_within.ensures))
-    (subst (λ (xs : List ℕ). HasCeiling plan.graph (within c.args.processors.now lanes) xs) (sym c.as_mut_slice.ensures.value)
-    (across_ceiling plan c.graph-graph.ensures.plan c.args.processors.now lanes are c.args.deadlines.now c.requires c.in_ok-ends.ends.items made)))
+    (subst (λ (xs : List ℕ). HasCeiling plan.graph (within c.args.processors.now c.in_ok-lanes.lanes.items) xs) (sym c.as_mut_slice.ensures.value)
+    (across_ceiling plan c.graph-graph.ensures.plan c.args.processors.now _ (lanes_are d) c.args.deadlines.now c.requires _ (made d _ c.in_ok-ends.ensures))))
 
 pub returns : goal.returns
 returns c =
@@ -54,13 +53,11 @@ returns c =
     let lanes = c.in_ok-lanes.lanes.items in
     let across = c.in_ok-ends.ends.items in
     let ends = c.raise_within.new.ends in
-    let are : AreLanes plan.graph lanes = subst (λ (g : TaskGraph). AreLanes g lanes) c.graph-graph.ensures.graph c.in_ok-lanes.ensures in
-    let made : AreEndsAcross plan lanes processors c.args.deadlines.now across =
-    subst (λ (xs : List Lane). AreEndsAcross plan xs processors c.args.deadlines.now across) c.as_slice.ensures.value c.in_ok-ends.ensures in
+    let d = (goal.at.returns c).After-as_slice in
     let least : IsLeastAbove plan.graph (within processors lanes) across ends =
     subst (λ (g : TaskGraph). IsLeastAbove g (within processors lanes) across ends) c.graph-graph.ensures.graph
     (subst (λ (xs : List Lane). IsLeastAbove c.graph-graph.result.now xs across ends) (c.as_slice-2.ensures.value ∙ c.keep_within.ensures)
     (subst (λ (xs : List ℕ). IsLeastAbove c.graph-graph.result.now c.as_slice-2.result.now xs ends) c.as_mut_slice.ensures.value c.in_ok-raise_within.ensures)) in
     let long : length ends ≡ c.in_ok-ends.ends.len = (let l = least.long in let o = c.in_ok-ends.ends.ok.0 in omega (arith, l, o)) in
     subst (λ (xs : List ℕ). AreSpreadEnds plan processors xs) (sym (with_items_is c.in_ok-ends.ends ends long))
-    (spread_made plan c.graph-graph.ensures.plan processors lanes are c.args.deadlines.now c.requires across made ends least)
+    (spread_made plan c.graph-graph.ensures.plan processors lanes (lanes_are d) c.args.deadlines.now c.requires across (made d across c.in_ok-ends.ensures) ends least)

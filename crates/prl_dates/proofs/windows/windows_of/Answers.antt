@@ -9,9 +9,7 @@ use Rattle.prl_dates.proofs.windows.windows_of.Goals as goal
 pub shortest_repeat-step-requires-clause-some : goal.shortest_repeat-step-requires-clause-some
 shortest_repeat-step-requires-clause-some c =
     let v = ap (λ (xs : List Window). length xs) c.as_slice.ensures.value in
-    let l = c.in_ok-list.ensures.long in
-    let s = some_jobs c.args.graph.now c.requires.well c.args.i.0 c.requires.task in
-    omega (arith, v, l, s)
+    omega (arith, v, c.in_ok-list.ensures.long, some_jobs c.args.graph.now c.requires.well c.args.i.0 c.requires.task)
 
 pub returns : goal.returns
 returns c =

@@ -18,19 +18,11 @@ overflow_add-starts c =
     let n : ℕ = c.loop-n.n in
     let inside : n < k.jobs i = (let e = c.jobs_of-n-end.ensures in let t = c.loop-n-test.true in omega (arith, e, t)) in
     let job : IsJob k i n = record { task = c.requires.task; job = inside } in
-    let w = c.plan_facts.ensures.window i n job in
-    let is = c.release-release.ensures.at in
-    let due = c.if-deadline-to.true in
-    let d = c.deadline.ensures.at in
-    let within : at ≤ c.args.to = omega (arith, w, is, due, d) in
-    let so_far = c.loop-n.invariant at within in
+    let within : at ≤ c.args.to = omega (arith, c.plan_facts.ensures.window i n job, c.release-release.ensures.at, c.if-deadline-to.true, c.deadline.ensures.at) in
     let bounds = wcet_bounds c.args.plan.now c.wcet_of.ensures.plan i c.requires.task in
     let small : cost i 0 ≤ 2147483648 = (let h = bounds.1 in omega (arith, h)) in
     let sum = count_bound (cost_at k cost c.args.to at i) 2147483648 n (λ m _. cost_at_small k cost c.args.to 2147483648 at i m small) in
-    let room = c.requires.room at within in
-    let same = c.wcet_of.ensures.wcet in
-    let wide = c.from-cost.ensures in
-    omega (arith, so_far, sum, room, inside, bounds, same, wide)
+    omega (arith, c.loop-n.invariant at within, sum, c.requires.room at within, inside, bounds, c.wcet_of.ensures.wcet, c.from-cost.ensures)
 
 pub loop-n-preserved : goal.loop-n-preserved
 loop-n-preserved c = λ a within.
@@ -46,18 +38,16 @@ loop-n-preserved c = λ a within.
     elim c.if-deadline-to.branch [
       | then-deadline-to w ↦
           (let due = w.if-deadline-to.true in
-          let window = c.plan_facts.ensures.window i n (record { task = c.requires.task; job = inside }) in
           let long = c.requires.length in
           let kept = c.loop-n.auto.starts in
           let same = c.wcet_of.ensures.wcet in
           let wide = c.from-cost.ensures in
           let more = added k cost c.args.to c.loop-n.starts i n c.release-release.result (get_or c.loop-n.starts c.release-release.result 0 + c.from-cost.result)
-          is (omega (arith, window, is, due, d, long, kept)) (omega (arith, due, d)) (omega (arith, same, wide)) a in
+          is (omega (arith, c.plan_facts.ensures.window i n (record { task = c.requires.task; job = inside }), is, due, d, long, kept)) (omega (arith, due, d)) (omega (arith, same, wide)) a in
           let e = ap (λ (xs : List ℕ). get_or xs a 0) w.starts-is in
           omega (arith, so_far, next, more, e))
       | else-deadline-to w ↦
-          (let late = w.if-deadline-to.false in
-          let none = not_added k cost c.args.to i n (omega (arith, late, d)) a in
+          (let none = not_added k cost c.args.to i n (omega (arith, w.if-deadline-to.false, d)) a in
           let e = ap (λ (xs : List ℕ). get_or xs a 0) w.starts-is in
           omega (arith, so_far, next, none, e))
     ]

@@ -8,15 +8,12 @@ deadline-to-requires-clause-task c =
 
 pub deadline-to-requires-clause-small : goal.deadline-to-requires-clause-small
 deadline-to-requires-clause-small c =
-    let due = due_by_end c.args.plan.now c.args.horizon c.plan_is_one.ensures c.requires.horizon c.plan_facts.ensures c.args.task.0 c.args.job c.requires.missed in
     let few = few_ticks c.args.plan.now c.args.horizon c.plan_is_one.ensures c.requires.horizon c.plan_facts.ensures c.args.task.0 c.args.job c.requires.missed in
-    omega (arith, due, few)
+    omega (arith, due_by_end c.args.plan.now c.args.horizon c.plan_is_one.ensures c.requires.horizon c.plan_facts.ensures c.args.task.0 c.args.job c.requires.missed, few)
 
 pub starts-requires-clause-to : goal.starts-requires-clause-to
 starts-requires-clause-to c =
-    let due = due_by_end c.args.plan.now c.args.horizon c.plan_is_one.ensures c.requires.horizon c.plan_facts.ensures c.args.task.0 c.args.job c.requires.missed in
-    let at = c.deadline-to.ensures.at in
-    omega (arith, due, at)
+    omega (arith, due_by_end c.args.plan.now c.args.horizon c.plan_is_one.ensures c.requires.horizon c.plan_facts.ensures c.args.task.0 c.args.job c.requires.missed, c.deadline-to.ensures.at)
 
 pub greatest-from-requires-clause-some : goal.greatest-from-requires-clause-some
 greatest-from-requires-clause-some c =

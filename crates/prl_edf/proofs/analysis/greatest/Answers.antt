@@ -22,25 +22,18 @@ pub overflow_add-demand : goal.overflow_add-demand
 overflow_add-demand c =
     let k : RunConstants = constants_of c.args.plan.now c.args.horizon in
     let cost : ℕ → ℕ → ℕ = wcets_of c.args.plan.now in
-    let long = c.requires.length in
-    let test = c.loop-back-test.true in
-    let within : c.loop-back.back ≤ c.args.to = omega (arith, long, test) in
+    let within : c.loop-back.back ≤ c.args.to = omega (arith, c.requires.length, c.loop-back-test.true) in
     let e = one_earlier k cost c.args.to c.loop-back.back c.loop-back.demand _ within c.loop-back.invariant.asked (c.requires.starts (c.args.to - c.loop-back.back) (omega arith)) in
-    let most = demand_falls k cost c.args.to (c.args.to - c.loop-back.back) in
-    let small = c.requires.small in
-    omega (arith, e, most, small)
+    omega (arith, e, demand_falls k cost c.args.to (c.args.to - c.loop-back.back), c.requires.small)
 
 pub returns-then-demand-back : goal.returns-then-demand-back
 returns-then-demand-back c =
     let k : RunConstants = constants_of c.args.plan.now c.args.horizon in
     let cost : ℕ → ℕ → ℕ = wcets_of c.args.plan.now in
-    let long = c.requires.length in
-    let test = c.loop-back-test.true in
-    let within : c.loop-back.back ≤ c.args.to = omega (arith, long, test) in
-    let over = c.if-demand-back.true in
+    let within : c.loop-back.back ≤ c.args.to = omega (arith, c.requires.length, c.loop-back-test.true) in
     record {
       asked_is = one_earlier k cost c.args.to c.loop-back.back c.loop-back.demand _ within c.loop-back.invariant.asked (c.requires.starts (c.args.to - c.loop-back.back) (omega arith));
-      over = omega (arith, over, within);
+      over = omega (arith, c.if-demand-back.true, within);
       before = omega arith;
       greatest = λ x later inside. c.loop-back.invariant.none x (omega (arith, later, within)) inside;
     }
@@ -49,10 +42,7 @@ pub loop-back-preserved : goal.loop-back-preserved
 loop-back-preserved c =
     let k : RunConstants = constants_of c.args.plan.now c.args.horizon in
     let cost : ℕ → ℕ → ℕ = wcets_of c.args.plan.now in
-    let long = c.requires.length in
-    let test = c.loop-back-test.true in
-    let within : c.loop-back.back ≤ c.args.to = omega (arith, long, test) in
-    let few = c.if-demand-back.false in
+    let within : c.loop-back.back ≤ c.args.to = omega (arith, c.requires.length, c.loop-back-test.true) in
     let is = one_earlier k cost c.args.to c.loop-back.back c.loop-back.demand _ within c.loop-back.invariant.asked (c.requires.starts (c.args.to - c.loop-back.back) (omega arith)) in
     record {
       asked = is ∙ ap (λ (x : ℕ). demand k cost x c.args.to) (omega (arith, within));
@@ -60,6 +50,6 @@ loop-back-preserved c =
         | inl before ↦ c.loop-back.invariant.none x before inside
         | inr here ↦ (let e : c.args.to - c.loop-back.back ≡ x = omega (arith, here, past, within) in
             let d : demand k cost (c.args.to - c.loop-back.back) c.args.to ≡ demand k cost x c.args.to = ap (λ (y : ℕ). demand k cost y c.args.to) e in
-            omega (arith, e, d, is, few, within))
+            omega (arith, e, d, is, c.if-demand-back.false, within))
       ];
     }

@@ -15,7 +15,6 @@ loop-back-preserved c =
     let p : Piece = get_or ps k zero_piece in
     let rest : List Piece = drop (length ps - back) ps in
     let e = c.index.ensures in
-    let d = c.comes_last.ensures in
     let t = c.loop-back-test.true in
     let inside : k < length ps = omega (arith, t) in
     let next : k + 1 ≡ length ps - back = omega (arith, t) in
@@ -25,7 +24,7 @@ loop-back-preserved c =
     let long = c.loop-back.invariant.long in
     let in_seen : p.task.0 < length c.loop-back.seen.items = omega (arith, task, long) in
     let seen_at : c.index.result.now ≡ next_job rest p.task.0 = e ∙ any_default c.loop-back.seen.items p.task.0 c.index.result.now None in_seen ∙ c.loop-back.invariant.seen p.task.0 task in
-    let last : c.comes_last.result ≡ is_other (next_job rest p.task.0) p.job = d ∙ ap (λ (o : Option ℕ). is_other o p.job) seen_at in
+    let last : c.comes_last.result ≡ is_other (next_job rest p.task.0) p.job = c.comes_last.ensures ∙ ap (λ (o : Option ℕ). is_other o p.job) seen_at in
     let whole : p ∷ rest ≡ drop (length ps - (back + 1)) ps = sym at ∙ ap (λ (n : ℕ). drop n ps) index in
     record {
       lasts = one_piece_back p rest c.loop-back.lasts.items c.push.new.self.items c.loop-back.invariant.lasts

@@ -49,8 +49,7 @@ returns-clause-made c =
     ∙ ap (λ ps. head_of (last_of (map flow_of c.args.of.items) (range_with_len s.flow (length ps)))) post in
     let one = c.in_ok-push_operators.ensures ∙ ap (λ ps. c.args.made.now.flows.items ++ flows_of (operators_over c.first_type-ty.result ps c.in_ok-after.after c.first_flow-first.result)) post in
     let many = ap (λ (x : Next). x.flow) first_taken in
-    let wide = ap length pre in
-    let below : (s.flow + length c.args.expr.now.post) + length c.args.expr.now.pre ≤ 4096 = omega (arith, c.in_ok-before.ensures.few, many, wide) in
+    let below : (s.flow + length c.args.expr.now.post) + length c.args.expr.now.pre ≤ 4096 = omega (arith, c.in_ok-before.ensures.few, many, ap length pre) in
     let few = more_few s (length c.args.expr.now.post) (length c.args.expr.now.pre) below c.requires in
     operators_add c.args.made.now _ c.args.expr.now.pre c.args.expr.now.post c.as_slice-4.result.now _ _ (map flow_of c.args.of.items) c.in_ok-after.after c.in_ok-before.before _ _ _ _
     inner ty c.in_ok-after.ensures.first before first middle one c.in_ok-push_operators-2.ensures refl both_taken few

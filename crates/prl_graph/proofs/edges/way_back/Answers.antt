@@ -13,8 +13,7 @@ loop-init c = record {
 
 pub returns-in-End : goal.returns-in-End
 returns-in-End c =
-    let p = c.args.flat.now in
-    let way = way_of p c.loop.counter c.args.from.0 c.loop.at.0 c.loop.ops.items c.loop.invariant.steps in
+    let way = way_of c.args.flat.now c.loop.counter c.args.from.0 c.loop.at.0 c.loop.ops.items c.loop.invariant.steps in
     record { leads = rw c.new.ensures way; produced = c.in-End.ensures }
 
 pub loop-preserved : goal.loop-preserved
@@ -27,8 +26,7 @@ loop-preserved c = elim c.match-step_back.branch [
       })
   | in-Operator+in_ok-push-in-Operator w ↦
       let is = w.in-Operator.ensures.0 in
-      let items = w.in_ok-push-in-Operator.ensures.items in
-      rw (w.ops-is, w.at-is, items) (record {
+      rw (w.ops-is, w.at-is, w.in_ok-push-in-Operator.ensures.items) (record {
         within = w.in-Operator.ensures.1;
         steps = one_operator c.args.flat.now c.loop.counter c.args.from.0 c.loop.at.0 c.loop.ops.items is.flow w.in-Operator.op w.in-Operator.of c.loop.invariant.steps is.found is.is;
       })

@@ -29,11 +29,10 @@ period_jobs-jobs-requires-clause-periods c =
 
 pub returns-then-jobs-gt-MAX_PERIOD_JOBS-clause-graph : goal.returns-then-jobs-gt-MAX_PERIOD_JOBS-clause-graph
 returns-then-jobs-gt-MAX_PERIOD_JOBS-clause-graph c =
-    let p = c.args.flat.now in
     let clocks = c.args.clocks.now.of in
     let hyper = c.in-Ok.hyper in
     let hyper_is : IsHyperperiod clocks hyper = subst (λ (l : List Clock). IsHyperperiod l hyper) c.as_slice-2.ensures c.in-Ok.ensures.0 in
-    past_jobs p clocks c.flows-flows.ensures.well_formed c.requires.clocks c.requires.small c.requires.causal
+    past_jobs c.args.flat.now clocks c.flows-flows.ensures.well_formed c.requires.clocks c.requires.small c.requires.causal
     (record { allowed = c.in_ok-check_places.ensures.allowed; within = c.in_ok-check_ranges.ensures.within })
     c.in_ok-check_counts.ensures.few_tasks c.in_ok-check_counts.ensures.few_edges
     c.period_jobs-jobs.result hyper c.in_ok-tasks.tasks.items c.limit-then-jobs-gt-MAX_PERIOD_JOBS.result c.limit-then-jobs-gt-MAX_PERIOD_JOBS.ensures hyper_is c.in-Ok.ensures.1

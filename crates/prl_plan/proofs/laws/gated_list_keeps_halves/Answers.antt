@@ -1,4 +1,4 @@
-use Rattle.std.proofs.Common.{◌<◌, ◌≤◌, get_or, inl, inr, arith}
+use Rattle.std.proofs.Common.{◌<◌, get_or, inl, inr, arith}
 use Rattle.std.proofs.lemmas.Bool.{cases_lt}
 use Rattle.prl_plan.specs.Runs.{opening, after_events}
 use Rattle.prl_plan.proofs.Sound.{sound_opening}
@@ -16,8 +16,7 @@ returns c = record {
             (let ended : n < get_or (after_events k (opening k) list).ended i 0 =
             (IsGated_sound k facts (opening k) (sound_opening k facts) list gated).kept i n
             (record { task = unfinished.task; job = unfinished.job }) due in
-            let left : get_or (after_events k (opening k) list).ended i 0 ≤ n = unfinished.unfinished in
-            omega (arith, ended, left))
+            omega (arith, ended, unfinished.unfinished))
       ];
   halves = λ k facts list gated i n place m cell reads unfinished.
       (IsGated_sound k facts (opening k) (sound_opening k facts) list gated).held i n place m cell reads unfinished;

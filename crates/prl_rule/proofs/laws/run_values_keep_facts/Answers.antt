@@ -12,8 +12,7 @@ returns c = λ k plan bodies rows.
     run_values_facts k plan
     (λ i n job.
     let task : IsTask k.plan.graph.hyper (task_at k.plan.graph i) = plan.graph.tasks i (task_at k.plan.graph i) (slice_get-get_or k.plan.graph.tasks i no_task job.task) in
-    let period = task.period.0 in
-    (c.horizon_jobs_are_counted.ensures k.plan.graph k.horizon.until i n job.task (omega (arith, period))).1 job.job)
+    (c.horizon_jobs_are_counted.ensures k.plan.graph k.horizon.until i n job.task (omega (arith, task.period.0))).1 job.job)
     (λ i n place. c.actions_are_as_defined.ensures.each k.plan i n place)
     (λ i n place port is. c.actions_are_as_defined.ensures.ports k.plan plan.graph i n place port is)
     (λ i n place is. c.actions_are_as_defined.ensures.end k.plan i n place is)

@@ -21,11 +21,10 @@ sums_at-sums-requires-clause-class c =
 pub overflow_sub-result : goal.overflow_sub-result
 overflow_sub-result c =
     (let e = ap (λ (s : Sums). s.end) c.sums_at-sums.ensures in
-    let is = end_is c.args.entries.now c.args.i.0 (c.args.n % c.classes-per.result) in
     let p = c.classes-per.ensures in let s = c.classes_are_early.ensures.some c.args.plan.now c.graph.ensures.plan c.args.i.0 c.requires.task in
     let low : c.args.n % c.classes-per.result < c.classes-per.result = omega (arith, p, s) in
     let end = c.class_has_end.ensures c.args.plan.now c.graph.ensures.plan c.args.entries.now c.requires.good c.args.i.0 (c.args.n % c.classes-per.result) c.requires.task (omega (arith, low, p)) in
-    omega (arith, e, is, end))
+    omega (arith, e, end_is c.args.entries.now c.args.i.0 (c.args.n % c.classes-per.result), end))
 
 pub nonzero_div-result : goal.nonzero_div-result
 nonzero_div-result c = (let e = c.classes-per.ensures in let s = c.classes_are_early.ensures.some c.args.plan.now c.graph.ensures.plan c.args.i.0 c.requires.task in omega (arith, e, s))
@@ -38,19 +37,14 @@ overflow_add-result c =
     let low : c.args.n % c.classes-per.result < c.classes-per.result = omega (arith, p, some) in
     let small = c.order_laws.ensures.small c.args.plan.now c.graph.ensures.plan c.args.entries.now c.requires.good.pieces c.requires.good.whole c.args.i.0 (c.args.n % c.classes-per.result)
     c.requires.task (omega (arith, low, p)) in
-    let end = small.1 in
-    let job = c.requires.job in
-    let most : c.args.n / c.classes-per.result ≤ 2 ^ 32 = (let q = quotient_small c.args.n c.classes-per.result (omega (arith, p, some)) in omega (arith, q, job)) in
-    let product = mul-le-mul_right c.graph.result.now.hyper most in
+    let most : c.args.n / c.classes-per.result ≤ 2 ^ 32 = (let q = quotient_small c.args.n c.classes-per.result (omega (arith, p, some)) in omega (arith, q, c.requires.job)) in
     let hyper = ap (λ (g : TaskGraph). g.hyper) c.graph.ensures.graph in
-    let few = c.classes_are_early.ensures.small c.args.plan.now c.graph.ensures.plan in
-    omega (arith, e, end, product, hyper, few))
+    omega (arith, e, small.1, mul-le-mul_right c.graph.result.now.hyper most, hyper, c.classes_are_early.ensures.small c.args.plan.now c.graph.ensures.plan))
 
 pub returns : goal.returns
 returns c =
     (let e = ap (λ (s : Sums). s.end) c.sums_at-sums.ensures in
-    let is = end_is c.args.entries.now c.args.i.0 (c.args.n % c.classes-per.result) in
     let class = ap (λ (x : ℕ). end_of c.args.entries.now c.args.i.0 (c.args.n % x)) c.classes-per.ensures in
     let times = ap (λ (x : ℕ). c.args.n / x * c.graph.result.now.hyper) c.classes-per.ensures in
     let hyper = ap (λ (g : TaskGraph). c.args.n / classes c.args.plan.now.graph c.args.i.0 * g.hyper) c.graph.ensures.graph in
-    omega (arith, e, is, class, times, hyper))
+    omega (arith, e, end_is c.args.entries.now c.args.i.0 (c.args.n % c.classes-per.result), class, times, hyper))

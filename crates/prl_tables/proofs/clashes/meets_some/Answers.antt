@@ -15,10 +15,8 @@ returns-then-meets_next-clause-yes c =
 
 pub overflow_add-spots : goal.overflow_add-spots
 overflow_add-spots c =
-    (let place = c.requires.place in
-    let l = long c.args.hyper c.args.entries.now c.args.spots.now c.requires.short c.requires.spots c.requires.sorted 0 (omega (arith, place)) in
-    let h = room c.args.hyper c.args.entries.now c.args.spots.now c.requires.short c.requires.spots c.requires.sorted c.args.p c.requires.place in
-    let l2 = l.2 in omega (arith, l2, h))
+    (let l = long c.args.hyper c.args.entries.now c.args.spots.now c.requires.short c.requires.spots c.requires.sorted 0 (omega (arith, c.requires.place)) in
+    let l2 = l.2 in omega (arith, l2, room c.args.hyper c.args.entries.now c.args.spots.now c.requires.short c.requires.spots c.requires.sorted c.args.p c.requires.place))
 
 pub returns-then-spots-hyper-clause-yes : goal.returns-then-spots-hyper-clause-yes
 returns-then-spots-hyper-clause-yes c =
@@ -27,8 +25,7 @@ returns-then-spots-hyper-clause-yes c =
 pub overflow_add-result : goal.overflow_add-result
 overflow_add-result c =
     (let l = long c.args.hyper c.args.entries.now c.args.spots.now c.requires.short c.requires.spots c.requires.sorted c.args.p c.requires.place in
-    let h = room c.args.hyper c.args.entries.now c.args.spots.now c.requires.short c.requires.spots c.requires.sorted c.args.p c.requires.place in
-    let l2 = l.2 in omega (arith, l2, h))
+    let l2 = l.2 in omega (arith, l2, room c.args.hyper c.args.entries.now c.args.spots.now c.requires.short c.requires.spots c.requires.sorted c.args.p c.requires.place))
 
 pub returns-clause-yes : goal.returns-clause-yes
 returns-clause-yes c = elim (leb_tells (suc ((get_or c.args.spots.now c.args.p no_spot).from + c.args.hyper)) c.args.high) [

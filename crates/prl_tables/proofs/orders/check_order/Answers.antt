@@ -8,8 +8,6 @@ pub returns-in_err-check_edge-clause-cause : goal.returns-in_err-check_edge-clau
 returns-in_err-check_edge-clause-cause c =
     let cause = c.in_err-check_edge.ensures.cause in
     let first = cause.2 in
-    let test = c.loop-e-test.true in
-    let end = c.len-e-end.ensures in
     let graph = ap (λ (g : TaskGraph). length g.edges) c.graph.ensures.graph in
     let at : IsFault c.args.plan.now c.args.entries.now c.in_err-check_edge.field-0.0 =
     subst (IsFault c.args.plan.now c.args.entries.now) (sym cause.1) (
@@ -17,7 +15,7 @@ returns-in_err-check_edge-clause-cause c =
       c.requires.whole,
       c.requires.apart,
       record {
-        edge = omega (arith, test, end, graph);
+        edge = omega (arith, c.loop-e-test.true, c.len-e-end.ensures, graph);
         class = first.class;
         disorder = first.disorder;
         before = λ f d f_in d_in earlier. elim earlier [

@@ -12,9 +12,8 @@ same_from m n e = cc
 pub operand-requires-clause-small : goal.operand-requires-clause-small
 operand-requires-clause-small c =
     let read = c.order_laws.ensures.reads c.args.plan.now c.graph.ensures.plan c.args.edge.0 c.args.from.0 c.later_job.result c.requires.edge c.requires.from c.later_job.ensures.late in
-    let most = c.look_ups_fit.ensures.operand c.args.plan.now c.graph.ensures.plan c.args.edge.0 c.later_job.result read.0 c.requires.edge read.1 in
     let early = c.later_job.ensures.early in
-    subst IsSmallOperand (sym read.1) (omega (arith, most, early))
+    subst IsSmallOperand (sym read.1) (omega (arith, c.look_ups_fit.ensures.operand c.args.plan.now c.graph.ensures.plan c.args.edge.0 c.later_job.result read.0 c.requires.edge read.1, early))
 
 pub unreachable-requires : goal.unreachable-requires
 unreachable-requires c =
@@ -32,5 +31,4 @@ returns-clause-time c =
     let read = c.order_laws.ensures.reads c.args.plan.now c.graph.ensures.plan c.args.edge.0 c.args.from.0 c.later_job.result c.requires.edge c.requires.from c.later_job.ensures.late in
     let same : read.0 ≡ c.in-From.m = same_from read.0 c.in-From.m (sym read.1 ∙ sym c.operand.ensures ∙ c.in-From.is) in
     let time = c.order_laws.ensures.time c.args.plan.now c.graph.ensures.plan c.args.edge.0 c.args.from.0 c.later_job.result c.in-From.m c.requires.edge c.requires.from (read.2 ∙ ap pos same) in
-    let early = c.later_job.ensures.early in
-    omega (arith, time, early)
+    omega (arith, time, c.later_job.ensures.early)

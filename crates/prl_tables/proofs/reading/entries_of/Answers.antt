@@ -17,13 +17,12 @@ returns-in_err-entry c =
 
 pub loop-line-preserved : goal.loop-line-preserved
 loop-line-preserved c =
-    let shorter = length_cut c.loop-line.rest.now c.in-Some.line.now c.in-Some.after.now (sym c.in-Some.ensures) in
     record {
       told = ap (λ front. with_front front (entries_from (c.loop-line.number + 1) (Some c.in_ok-entry.entry) (lines_of c.in-Some.after.now))) c.in_ok-push.ensures.items
           ∙ front_entry c.loop-line.number c.loop-line.last (vec_items c.loop-line.entries) c.loop-line.rest.now c.in-Some.line.now c.in-Some.after.now c.in_ok-entry.entry
           (sym c.in-Some.ensures) c.in_ok-entry.ensures
           ∙ c.loop-line.invariant.told;
-      few = (let few = c.loop-line.invariant.few in omega (arith, shorter, few));
+      few = (let few = c.loop-line.invariant.few in omega (arith, length_cut c.loop-line.rest.now c.in-Some.line.now c.in-Some.after.now (sym c.in-Some.ensures), few));
     }
 
 pub returns-else-is_empty : goal.returns-else-is_empty

@@ -1,4 +1,4 @@
-use Rattle.std.proofs.Common.{◌≡◌, ◌<◌, Some, length, map, option_map, sym, ◌∙◌, ap, subst, arith, vec_items}
+use Rattle.std.proofs.Common.{◌<◌, Some, length, option_map, sym, ◌∙◌, ap, subst, arith, vec_items}
 use Rattle.std.proofs.lemmas.List.{length-map}
 use Rattle.std.proofs.lemmas.Option.{slice_get-get_or, slice_get-map}
 use Rattle.prl_plan.specs.declared.graphs.TaskGraph.{TaskGraph}
@@ -7,12 +7,8 @@ use Rattle.prl_tables.proofs.sums.check_units.Goals as goal
 
 pub check_task-requires-clause-sums : goal.check_task-requires-clause-sums
 check_task-requires-clause-sums c =
-    let tasks = c.requires.sums.tasks in
-    let long : length (map vec_items c.args.sums.now) ≡ length c.args.sums.now = length-map c.args.sums.now vec_items in
-    let test = c.loop-i-test.true in
-    let end = c.len-i-end.ensures in
     let graph = ap (λ (g : TaskGraph). length g.tasks) c.graph.ensures.graph in
-    let inside : c.loop-i.i < length c.args.sums.now = omega (arith, tasks, long, test, end, graph) in
+    let inside : c.loop-i.i < length c.args.sums.now = omega (arith, c.requires.sums.tasks, length-map c.args.sums.now vec_items, c.loop-i-test.true, c.len-i-end.ensures, graph) in
     subst (AreTaskSums c.args.plan.now c.args.entries.now c.loop-i.i) (sym c.as_slice.ensures.value)
     (c.requires.sums.each c.loop-i.i (vec_items c.index-sums-i.result)
     (slice_get-map vec_items c.args.sums.now c.loop-i.i

@@ -42,7 +42,6 @@ add_entry-requires-clause-end c =
 pub loop-back-preserved : goal.loop-back-preserved
 loop-back-preserved c =
     let inside : c.loop-back.back < length c.args.entries.now = (let t = c.loop-back-test.true in let e = c.loop-back.auto.back-end in omega (arith, t, e)) in
-    let at : ℕ = length c.args.entries.now - 1 - c.loop-back.back in
     let next : drop (length c.args.entries.now - 1 - c.loop-back.back) c.args.entries.now
     ≡ get_or c.args.entries.now (length c.args.entries.now - 1 - c.loop-back.back) no_entry ∷ drop (length c.args.entries.now - 1 - c.loop-back.back + 1) c.args.entries.now =
     drop_more c.args.entries.now (length c.args.entries.now - 1 - c.loop-back.back) no_entry (omega (arith, inside)) in

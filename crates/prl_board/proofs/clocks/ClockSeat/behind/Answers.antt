@@ -6,7 +6,6 @@ use Rattle.prl_board.proofs.clocks.ClockSeat.behind.Goals as goal
 
 pub loop-i-preserved : goal.loop-i-preserved
 loop-i-preserved c = λ r is j m u.
-    let least = c.loop-i.invariant r is j m u in
     dite (ℕ_discrete j c.loop-i.i)
     (λ same. absurd (c.in_default.ensures r is m (subst (λ (z : ℕ). IsUnseen c.args.board.now.known r z m) same u)))
-    (λ other. omega (arith, least, other))
+    (λ other. omega (arith, c.loop-i.invariant r is j m u, other))

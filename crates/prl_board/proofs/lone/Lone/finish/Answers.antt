@@ -6,15 +6,10 @@ use Rattle.prl_board.proofs.lone.Lone.finish.Goals as goal
 pub index_mut-requires : goal.index_mut-requires
 index_mut-requires g c = has_index c.args.task.0 c.self.view_is c.requires.place.1 c.self.inside.seats.ok.0
 
-pub finish_lent-requires-clause-whole : goal.finish_lent-requires-clause-whole
-finish_lent-requires-clause-whole g c = may_lend c.self.view_is c.requires.lone c.self.invariant.0
-
-pub finish_lent-requires-clause-lent : goal.finish_lent-requires-clause-lent
-finish_lent-requires-clause-lent g c = taken_lent (taken c.args.task c.self.view_is c.requires.lone c.self.invariant.1 c.requires.place.1 c.index_mut.ensures.value)
-
-pub finish_lent-requires-clause-place : goal.finish_lent-requires-clause-place
-finish_lent-requires-clause-place g c =
-    taken_placed MayFinish c.self.view_is (taken c.args.task c.self.view_is c.requires.lone c.self.invariant.1 c.requires.place.1 c.index_mut.ensures.value) c.requires.place
+pub finish_lent-requires : goal.finish_lent-requires
+finish_lent-requires g c =
+    let its = taken c.args.task c.self.view_is c.requires.lone c.self.invariant.1 c.requires.place.1 c.index_mut.ensures.value in
+    record { whole = may_lend c.self.view_is c.requires.lone c.self.invariant.0; lent = taken_lent its; place = taken_placed MayFinish c.self.view_is its c.requires.place }
 
 pub invariant_of-self : goal.invariant_of-self
 invariant_of-self g c = (c.finish_lent.ensures.same.1, kept_after (taken c.args.task c.self.view_is c.requires.lone c.self.invariant.1 c.requires.place.1 c.index_mut.ensures.value) c.finish_lent.ensures.returned)

@@ -13,10 +13,8 @@ look_lent-requires-clause-lent g c = (lent_of c.self.view_is c.requires.lone c.s
 
 pub look_lent-requires-clause-task : goal.look_lent-requires-clause-task
 look_lent-requires-clause-task g c =
-    let tasks = (lent_of c.self.view_is c.requires.lone c.self.invariant.1).tasks in
     let seen = ap (λ (l : LoneView). length l.seats) c.self.view_is in
-    let inside = c.requires.task in
-    omega (arith, tasks, seen, inside)
+    omega (arith, (lent_of c.self.view_is c.requires.lone c.self.invariant.1).tasks, seen, c.requires.task)
 
 pub invariant_of-self : goal.invariant_of-self
 invariant_of-self g c = (c.look_lent.ensures.same.1, kept_after_clock (lent_of c.self.view_is c.requires.lone c.self.invariant.1) c.look_lent.ensures.returned)

@@ -8,15 +8,10 @@ use Rattle.prl_board.proofs.lone.Lone.release.Goals as goal
 pub index_mut-requires : goal.index_mut-requires
 index_mut-requires g c = has_index c.args.task.0 c.self.view_is c.requires.place.1 c.self.inside.seats.ok.0
 
-pub release_lent-requires-clause-whole : goal.release_lent-requires-clause-whole
-release_lent-requires-clause-whole g c = may_lend c.self.view_is c.requires.lone c.self.invariant.0
-
-pub release_lent-requires-clause-lent : goal.release_lent-requires-clause-lent
-release_lent-requires-clause-lent g c = taken_lent (taken c.args.task c.self.view_is c.requires.lone c.self.invariant.1 c.requires.place.1 c.index_mut.ensures.value)
-
-pub release_lent-requires-clause-place : goal.release_lent-requires-clause-place
-release_lent-requires-clause-place g c =
-    taken_placed MayRelease c.self.view_is (taken c.args.task c.self.view_is c.requires.lone c.self.invariant.1 c.requires.place.1 c.index_mut.ensures.value) c.requires.place
+pub release_lent-requires : goal.release_lent-requires
+release_lent-requires g c =
+    let its = taken c.args.task c.self.view_is c.requires.lone c.self.invariant.1 c.requires.place.1 c.index_mut.ensures.value in
+    record { whole = may_lend c.self.view_is c.requires.lone c.self.invariant.0; lent = taken_lent its; place = taken_placed MayRelease c.self.view_is its c.requires.place }
 
 pub invariant_of-self : goal.invariant_of-self
 invariant_of-self g c = (c.release_lent.ensures.same.1, kept_after (taken c.args.task c.self.view_is c.requires.lone c.self.invariant.1 c.requires.place.1 c.index_mut.ensures.value) c.release_lent.ensures.returned)

@@ -12,12 +12,8 @@ settle-requires-clause-lone c = c.loop-i.invariant.lone
 
 pub settle-requires-clause-task : goal.settle-requires-clause-task
 settle-requires-clause-task c =
-    let test = c.loop-i-test.true in
-    let len = c.len-i-end.ensures in
-    let long = c.loop-i.invariant.stand.tasks in
     let seen = ap (λ (l : LoneView). length l.seats) c.self.view_is in
-    let ok = c.self.inside.seats.ok in
-    omega (arith, test, len, long, seen, ok)
+    omega (arith, c.loop-i-test.true, c.len-i-end.ensures, c.loop-i.invariant.stand.tasks, seen, c.self.inside.seats.ok)
 
 pub loop-i-preserved : goal.loop-i-preserved
 loop-i-preserved c =

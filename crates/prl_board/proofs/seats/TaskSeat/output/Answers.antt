@@ -16,10 +16,7 @@ slice_bounds-result-end c =
     let kept = c.self.invariant k (ap (λ (s : JobSeatView). s.view.constants) c.self.view_is ∙ c.requires.2) in
     let work : IsWork k.plan k.bodies k.horizon.until (job_values_of k) c.self.inside.job.task.0 (c.self.inside.job.job + once c.self.inside.worker.ran) (works.Actuator c.in-Actuator.column) = subst (IsWork k.plan k.bodies k.horizon.until (job_values_of k) c.self.inside.job.task.0 (c.self.inside.job.job + once c.self.inside.worker.ran)) c.in-Actuator.is kept.1.work in
     let below : c.self.inside.job.job ≤ (run_of k).jobs c.self.inside.job.task.0 = subst (λ (s : JobSeatView). s.job ≤ (run_of k).jobs s.task.0) (sym c.self.view_is) c.requires.4 in
-    let room = work.1 in
-    let column = ap length c.as_slice.ensures.value in
-    let job = c.job.ensures in
-    sym (length-take-le c.job.result c.as_slice.result.now (omega (arith, room, column, job, below)))
+    sym (length-take-le c.job.result c.as_slice.result.now (omega (arith, work.1, ap length c.as_slice.ensures.value, c.job.ensures, below)))
 
 pub unreachable-requires : goal.unreachable-requires
 unreachable-requires c =
@@ -45,8 +42,7 @@ returns c = λ k known.
     let work : IsWork k.plan k.bodies k.horizon.until (job_values_of k) c.self.inside.job.task.0 steps (works.Actuator c.in-Actuator.column) = subst (IsWork k.plan k.bodies k.horizon.until (job_values_of k) c.self.inside.job.task.0 steps) c.in-Actuator.is kept.1.work in
     let below : c.self.inside.job.job ≤ (run_of k).jobs c.self.inside.job.task.0 =
     subst (λ z. c.self.inside.job.job ≤ (run_of z).jobs c.self.inside.job.task.0) same (subst (λ (s : JobSeatView). s.job ≤ (run_of c.requires.0).jobs s.task.0) (sym c.self.view_is) c.requires.4) in
-    let room = work.1 in
-    let whole = column_outputs k c.self.inside.job.task.0 c.self.inside.job.job steps c.in-Actuator.column.items (omega arith) (omega (arith, room, below)) work.2 in
+    let whole = column_outputs k c.self.inside.job.task.0 c.self.inside.job.job steps c.in-Actuator.column.items (omega arith) (omega (arith, work.1, below)) work.2 in
     subst (λ (s : JobSeatView). AreOutputs k s.task.0 s.job (take c.job.result c.as_slice.result.now)) c.self.view_is
     (subst (λ (xs : List Value). AreOutputs k c.self.inside.job.task.0 c.self.inside.job.job (take c.job.result xs)) (sym c.as_slice.ensures.value)
     (subst (λ (n : ℕ). AreOutputs k c.self.inside.job.task.0 c.self.inside.job.job (take n c.in-Actuator.column.items)) (sym c.job.ensures) whole))

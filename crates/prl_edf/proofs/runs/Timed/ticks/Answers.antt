@@ -19,9 +19,7 @@ pub overflow_add-ticks : goal.overflow_add-ticks
 overflow_add-ticks c =
     let most = not_more c.as_slice-piece-items.result.now (subst AreLongest (sym c.as_slice-piece-items.ensures) c.requires) c.loop-piece.piece-index c.loop-piece.ticks
     c.loop-piece.invariant zero_piece c.loop-piece-test.true in
-    let is = c.ticks-ticks.ensures.ticks in
-    let fits = c.ticks-ticks.ensures.fits in
-    omega (arith, most, is, fits)
+    omega (arith, most, c.ticks-ticks.ensures.ticks, c.ticks-ticks.ensures.fits)
 
 pub loop-piece-preserved : goal.loop-piece-preserved
 loop-piece-preserved c =

@@ -79,8 +79,7 @@ module _ (plan : PlanView) (is : IsPlan plan) (until i jobs : ℕ) (early : unti
 pub deadline-last-requires-clause-small : goal.deadline-last-requires-clause-small
 deadline-last-requires-clause-small c =
     let inside : c.loop-i.i < length c.args.self.now.graph.tasks = search rules in
-    let s = last_small c.args.self.now c.graph.ensures.plan c.args.until c.loop-i.i c.jobs_before-jobs.result c.requires inside c.jobs_before-jobs.ensures c.if-jobs-gt0.true in
-    omega (arith, s)
+    omega (arith, last_small c.args.self.now c.graph.ensures.plan c.args.until c.loop-i.i c.jobs_before-jobs.result c.requires inside c.jobs_before-jobs.ensures c.if-jobs-gt0.true)
 
 pub loop-i-preserved : goal.loop-i-preserved
 loop-i-preserved c =

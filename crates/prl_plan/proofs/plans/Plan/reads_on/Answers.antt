@@ -14,8 +14,7 @@ pub returns-in-Port-clause-count : goal.returns-in-Port-clause-count
 returns-in-Port-clause-count c =
     let from = sym c.source_of.ensures ∙ c.in-Port.is in
     let first = c.constants_on.ensures.count in
-    let s = c.saturating_sub.ensures in
     let steps = sum_steps (λ n. length (reading c.args.self.now c.args.e.0 (edge_at c.args.self.now.graph c.args.e.0) (operand_of (edge_at c.args.self.now.graph c.args.e.0) n))) c.constants_on.result c.args.jobs
     (early_read c.args.self.now c.args.e.0 (edge_at c.args.self.now.graph c.args.e.0) c.constants_on.result first c.in-Port.task c.in-Port.out from)
     (late_read c.args.self.now c.args.e.0 (edge_at c.args.self.now.graph c.args.e.0) c.constants_on.result first c.in-Port.task c.in-Port.out from) in
-    omega (arith, steps, s)
+    omega (arith, steps, c.saturating_sub.ensures)

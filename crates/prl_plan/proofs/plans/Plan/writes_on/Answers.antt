@@ -1,5 +1,5 @@
 use Rattle.std.proofs.Common.{◌≡◌, ◌*◌, ◌<◌, ◌≤◌, ℕ, [], length, sym, subst, arith}
-use Rattle.std.specs.Prelude.{slice_index_or, is_some, if◌then◌else◌}
+use Rattle.std.specs.Prelude.{if◌then◌else◌, slice_index_or, is_some}
 use Rattle.prl_plan.specs.Cells.{no_used, place_of}
 use Rattle.prl_plan.specs.CellLists.{plan_of, CountsUsed}
 use Rattle.prl_plan.specs.Horizons.{sum_below}
@@ -27,8 +27,7 @@ pub overflow_mul-result : goal.overflow_mul-result
 overflow_mul-result c =
     let few = (counted (plan_of c.self.inside.graph c.self.inside.words.of c.self.inside.dates c.self.inside.cells) c.args.self.now c.self.view_is c.self.invariant c.args.e.0 c.args.jobs c.used_before.result
     c.requires.edge c.used_before.ensures).1 in
-    let jobs = c.requires.jobs in
-    omega (arith, few, jobs)
+    omega (arith, few, c.requires.jobs)
 
 pub returns-clause-count : goal.returns-clause-count
 returns-clause-count c =
