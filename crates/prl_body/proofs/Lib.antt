@@ -1,6 +1,7 @@
 pub mod Series
 pub mod Typing
 pub mod Lists
+pub mod Parts
 pub mod Inversion
 pub mod TypedSound
 pub mod BodySound

@@ -16,7 +16,7 @@ use Rattle.prl_body.specs.declared.faults.BodyFault.TheVariants as faults
 use Rattle.prl_body.specs.declared.texts.RegisterText.{RegisterText}
 use Rattle.prl_body.specs.Codes.{expression_of}
 use Rattle.prl_body.specs.Expressions.{Expression, name}
-use Rattle.prl_body.specs.NameChecks.{name_fault}
+use Rattle.prl_body.specs.NameChecks.{either_fault, name_fault, register_fault, statement_fault}
 use Rattle.prl_body.specs.Texts.{StatementTree, TextTree}
 use Rattle.prl_body.specs.TypeChecks.{typed}
 use Rattle.prl_bodyops.specs.Types.{is_same_type}
@@ -107,6 +107,20 @@ resolved_registers ins registers statements k (r ∷ rs) = do
 abbrev pub without_fault : Option ℕ → Result (Unit {0}) BodyFault
 without_fault None = Ok tt
 without_fault (Some at) = Err (faults.BodyName at)
+
+-- a body of these ports and registers: first its names, then its types
+abbrev pub checked_text : List Port → List Port → List RegisterText → List StatementTree → Result (Unit {0}) BodyFault
+checked_text ins outs registers statements = do
+  _ ← without_fault (either_fault (register_fault ins outs [] registers) (statement_fault ins outs registers [] statements))
+  typed_statements ins outs registers statements
+
+-- what it computes: the values of the outputs, and the registers
+abbrev pub checked_code : List Port → List Port → List RegisterText → ℕ → List StatementTree → Result (List Expression × List RegisterTree) BodyFault
+checked_code ins outs registers at statements = do
+  _ ← checked_text ins outs registers statements
+  values ← output_values ins registers at statements outs
+  resolved ← resolved_registers ins registers statements 0 registers
+  Ok (values, resolved)
 
 -- One body: first its names, then its types, then its outputs.
 abbrev pub checked_body : Import → TextTree → Result BodyTree BodyFault

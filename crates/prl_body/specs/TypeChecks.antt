@@ -15,6 +15,7 @@ use Rattle.prl_body.specs.declared.texts.RegisterText.{RegisterText}
 use Rattle.prl_body.specs.Expressions.{Expression, Rights}
 use Rattle.prl_body.specs.Expressions as expressions
 use Rattle.prl_body.specs.Texts.{Tree, constant, name, run, series, choice, TreeRights, none, more}
+use Rattle.prl_bodyops.specs.declared.operators.Prefix.{Prefix}
 use Rattle.prl_bodyops.specs.Types.{is_same_type, are_allowed, operand_type, result_type, prefix_type}
 
 -- the first input of this name and its type; the inputs are counted from k
@@ -46,16 +47,23 @@ at_of (Some span) = span.at
 abbrev pub last_at : List Span → ℕ
 last_at ats = at_of (slice_get ats (length ats - 1))
 
+-- an operand of this type after the operators of a run
+abbrev pub typed_run : Prefix → List Span → Expression × Ty → Result (Expression × Ty) BodyFault
+typed_run prefix ats x = if is_same_type x.1 (prefix_type prefix) then Ok (expressions.run prefix (length ats) x.0, x.1) else Err (faults.BodyType (last_at ats))
+
+-- a choice between two of one type
+abbrev pub typed_choice : Span → Expression × Ty → Expression × Ty → Expression × Ty → Result (Expression × Ty) BodyFault
+typed_choice at t x y = if is_same_type t.1 types.Bool && is_same_type x.1 y.1 then Ok (expressions.choice t.0 x.0 y.0, x.1) else Err (faults.BodyType at.at)
+
 abbrev mutual
   pub typed : List Port → List RegisterText → Tree → Result (Expression × Ty) BodyFault
   typed ins registers (constant v) = Ok (expressions.constant v, type_of v)
   typed ins registers (name n at) = typed_name at (named ins registers n)
-  typed ins registers (run prefix ats of) = typed ins registers of >>= λ x.
-      if is_same_type x.1 (prefix_type prefix) then Ok (expressions.run prefix (length ats) x.0, x.1) else Err (faults.BodyType (last_at ats))
+  typed ins registers (run prefix ats of) = typed ins registers of >>= λ x. typed_run prefix ats x
   typed ins registers (series first rights) = typed ins registers first >>= λ x. (typed_rights ins registers x.1 rights >>= λ y.
       Ok (expressions.series x.0 y.0, y.1))
   typed ins registers (choice at test chosen other) = typed ins registers test >>= λ t. (typed ins registers chosen >>= λ x. (typed ins registers other >>= λ y.
-      if is_same_type t.1 types.Bool && is_same_type x.1 y.1 then Ok (expressions.choice t.0 x.0 y.0, x.1) else Err (faults.BodyType at.at)))
+      typed_choice at t x y))
 
   -- after a left operand of this type
   pub typed_rights : List Port → List RegisterText → Ty → TreeRights → Result (Rights × Ty) BodyFault

@@ -4,7 +4,7 @@ ghost use Rattle.std.specs.Prelude.{◌≡◌, map, IfOk};
 ghost use Rattle.prl_base.specs.Reading.{GivesBut};
 ghost use Rattle.prl_base.specs.Values.{type_of};
 ghost use Rattle.prl_names.specs.Tables.{AreIndices};
-ghost use Rattle.prl_body.specs.Checks.{body_tree, register_tree, typed_as, left_type, typed_statement, typed_statements, statement_named, output_value, output_values, next_value, resolved_registers, checked_body};
+ghost use Rattle.prl_body.specs.Checks.{body_tree, register_tree, typed_as, left_type, typed_statement, typed_statements, statement_named, output_value, output_values, next_value, resolved_registers, checked_text, checked_code, checked_body};
 ghost use Rattle.prl_body.specs.Codes.{expression_of};
 ghost use Rattle.prl_body.specs.Scopes.{left_names};
 ghost use Rattle.prl_body.specs.Texts.{statement_tree, text_tree};
@@ -17,7 +17,7 @@ use crate::scopes::{Scope, left_indices, statement_named};
 use crate::texts::{BodyText, RegisterText, Statement};
 use crate::types::typed;
 use prl_ast::{Import, Port};
-use prl_base::{Seq, Ty};
+use prl_base::{Name, Seq, Ty};
 use prl_bodyops::is_same_type;
 use prl_names::Indices;
 use std::alloc::{AllocError, Global};
@@ -161,29 +161,86 @@ fn copied(alloc: Global, ports: &[Port]) -> Result<Vec<Port>, AllocError>
     Ok(copies)
 }
 
+/// Checks the names of a body, and then its types.
+fn check_text(
+    alloc: Global,
+    scope: &Scope<'_>,
+    statements: &[Statement],
+    lefts: &Indices<'_>,
+) -> Result<(), BodyFault>
+    requires { AreIndices lefts.now (left_names statements.now) }
+    ensures { GivesBut BodyFault.Memory (λ x. x) result (checked_text scope.now.ins scope.now.outs scope.now.registers (map statement_tree statements.now)) }
+{
+    match name_fault(scope, statements, lefts) {
+        Some(at) => Err(BodyFault::BodyName(at)),
+        None => check_statements(alloc, scope, statements),
+    }
+}
+
+/// The value of each output, and the registers, of a body whose name stands at this byte.
+fn checked_code(
+    alloc: Global,
+    scope: &Scope<'_>,
+    at: u32,
+    statements: &[Statement],
+    outs: &[Port],
+) -> Result<(Vec<Code>, Vec<Register>), BodyFault>
+    requires { outs.now ≡ scope.now.outs }
+    ensures { GivesBut BodyFault.Memory (λ x. (map expression_of x.0.items, map register_tree x.1.items)) result
+        (checked_code scope.now.ins scope.now.outs scope.now.registers at (map statement_tree statements.now)) }
+{
+    let lefts = left_indices(alloc, statements)?;
+    check_text(alloc, scope, statements, &lefts)?;
+    let values = output_values(alloc, scope, at, statements, &lefts, outs)?;
+    let registers = resolved_registers(alloc, scope, statements, &lefts)?;
+    Ok((values, registers))
+}
+
+/// The code of a body, whose scope it makes.
+fn code_of(
+    alloc: Global,
+    import: &Import,
+    body: &BodyText,
+) -> Result<(Vec<Code>, Vec<Register>), BodyFault>
+    ensures { GivesBut BodyFault.Memory (λ x. (map expression_of x.0.items, map register_tree x.1.items)) result
+        (checked_code import.now.ins import.now.outs body.now.registers body.now.at.at (map statement_tree body.now.statements)) }
+{
+    let outs = import.outs.as_slice();
+    let scope = Scope::new(
+        alloc,
+        import.ins.as_slice(),
+        outs,
+        body.registers.as_slice(),
+    )?;
+    checked_code(alloc, &scope, body.at.at, body.statements.as_slice(), outs)
+}
+
+/// The name once more, and the ports of the import.
+fn named_ports(
+    alloc: Global,
+    name: &Name,
+    import: &Import,
+) -> Result<(Name, Vec<Port>, Vec<Port>), AllocError>
+    ensures { IfOk result (λ x. (x.0 ≡ name.now) × (x.1.items ≡ import.now.ins) × (x.2.items ≡ import.now.outs)) }
+{
+    let copy = name.copy(alloc)?;
+    let ins = copied(alloc, import.ins.as_slice())?;
+    let outs = copied(alloc, import.outs.as_slice())?;
+    Ok((copy, ins, outs))
+}
+
 /// The parts of the checked body.
+#[tactic(auto, using(crate::proofs::Parts::body_of_code))]
 fn checked_parts(alloc: Global, import: &Import, body: &BodyText) -> Result<CheckedBody, BodyFault>
     ensures { GivesBut BodyFault.Memory body_tree result (checked_body import.now (text_tree body.now)) }
 {
-    let ins = import.ins.as_slice();
-    let outs = import.outs.as_slice();
-    let statements = body.statements.as_slice();
-    let scope = Scope::new(alloc, ins, outs, body.registers.as_slice())?;
-    let lefts = left_indices(alloc, statements)?;
-    if let Some(at) = name_fault(&scope, statements, &lefts) {
-        return Err(BodyFault::BodyName(at));
-    }
-    check_statements(alloc, &scope, statements)?;
-    let values = output_values(alloc, &scope, body.at.at, statements, &lefts, outs)?;
-    let resolved = resolved_registers(alloc, &scope, statements, &lefts)?;
-    let name = body.name.copy(alloc)?;
-    let ins = copied(alloc, ins)?;
-    let outs = copied(alloc, outs)?;
+    let (values, registers) = code_of(alloc, import, body)?;
+    let (name, ins, outs) = named_ports(alloc, &body.name, import)?;
     Ok(CheckedBody {
         name,
         ins: Seq::new(ins),
         outs: Seq::new(outs),
-        registers: Seq::new(resolved),
+        registers: Seq::new(registers),
         values: Seq::new(values),
     })
 }

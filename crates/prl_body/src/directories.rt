@@ -2,17 +2,14 @@
 
 ghost use Rattle.std.specs.Prelude.{◌≡◌, IfOk, map, take};
 ghost use Rattle.std.specs.Option.{option_copied};
-ghost use Rattle.prl_names.specs.Mentions.{names_in};
-ghost use Rattle.prl_names.specs.Tables.{AreIndices};
 ghost use Rattle.prl_body.specs.Checks.{import_named, has_text};
-ghost use Rattle.prl_body.specs.Directories.{import_names, text_names};
 ghost use Rattle.prl_body.specs.Texts.{text_tree};
 
 use crate::scopes::is_before;
 use crate::texts::BodyText;
 use prl_ast::Import;
 use prl_base::Name;
-use prl_names::{Indices, Mention, found, indices};
+use prl_names::{Indices, Mention, Mentioned, found, indices_of};
 use std::alloc::{AllocError, Global};
 use std::marker::Model;
 
@@ -40,32 +37,15 @@ impl<'a> Model for Directory<'a> {
     ghost invariant = { λ d. AreIndices d.of_imports (import_names d.imports.now) × AreIndices d.of_texts (text_names d.texts.now) };
 }
 
-/// The names of imports.
-fn import_mentions<'a>(alloc: Global, imports: &'a [Import]) -> Result<Vec<Mention<'a>>, AllocError>
-    ensures { IfOk result (λ list. names_in list.items ≡ import_names imports.now) }
-{
-    let mut list = Vec::new(alloc);
-    for import in imports {
-        list.push(Mention {
-            name: &import.name,
-            at: import.at,
-        })?;
-    }
-    Ok(list)
-}
+impl Mentioned for BodyText {
+    ghost placed = { λ t. record { name = t.name; at = t.at } };
 
-/// The names of bodies.
-fn text_mentions<'a>(alloc: Global, texts: &'a [BodyText]) -> Result<Vec<Mention<'a>>, AllocError>
-    ensures { IfOk result (λ list. names_in list.items ≡ text_names texts.now) }
-{
-    let mut list = Vec::new(alloc);
-    for text in texts {
-        list.push(Mention {
-            name: &text.name,
-            at: text.at,
-        })?;
+    fn mention(&self) -> Mention<'_> {
+        Mention {
+            name: &self.name,
+            at: self.at,
+        }
     }
-    Ok(list)
 }
 
 impl<'a> Directory<'a> {
@@ -77,8 +57,8 @@ impl<'a> Directory<'a> {
     ) -> Result<Directory<'a>, AllocError>
         ensures { IfOk result (λ d. d ≡ record { imports = imports.now; texts = texts.now }) }
     {
-        let of_imports = indices(alloc, import_mentions(alloc, imports)?.as_slice())?;
-        let of_texts = indices(alloc, text_mentions(alloc, texts)?.as_slice())?;
+        let of_imports = indices_of(alloc, imports)?;
+        let of_texts = indices_of(alloc, texts)?;
         Ok(Directory {
             imports,
             texts,

@@ -2,11 +2,10 @@
 
 ghost use Rattle.std.specs.Prelude.{◌≡◌, IfOk, map, take};
 ghost use Rattle.std.specs.Option.{option_map};
-ghost use Rattle.prl_names.specs.Mentions.{names_in};
 ghost use Rattle.prl_names.specs.Tables.{AreIndices, found};
 ghost use Rattle.prl_body.specs.Checks.{left_type, port_type, register_type, statement_named};
 ghost use Rattle.prl_body.specs.NameChecks.{has_port, has_register, has_statement};
-ghost use Rattle.prl_body.specs.Scopes.{is_before, left_names, port_names, register_names};
+ghost use Rattle.prl_body.specs.Scopes.{is_before, left_names};
 ghost use Rattle.prl_body.specs.Texts.{statement_tree};
 ghost use Rattle.prl_body.specs.TypeChecks.{input_named, named, register_named};
 
@@ -14,7 +13,7 @@ use crate::codes::Variable;
 use crate::texts::{RegisterText, Statement};
 use prl_ast::Port;
 use prl_base::{Name, Ty};
-use prl_names::{Indices, Mention, found, indices};
+use prl_names::{Indices, Mention, Mentioned, found, indices_of};
 use std::alloc::{AllocError, Global};
 use std::marker::Model;
 
@@ -41,71 +40,26 @@ impl<'a> Model for Scope<'a> {
     ghost invariant = { λ s. AreIndices s.of_inputs (port_names s.ins.now) × AreIndices s.of_outputs (port_names s.outs.now) × AreIndices s.of_registers (register_names s.registers.now) };
 }
 
-/// The names of ports.
-fn port_mentions<'a>(alloc: Global, ports: &'a [Port]) -> Result<Vec<Mention<'a>>, AllocError>
-    ensures { IfOk result (λ list. names_in list.items ≡ port_names ports.now) }
-{
-    let mut list = Vec::new(alloc);
-    for port in ports {
-        list.push(Mention {
-            name: &port.name,
-            at: port.at,
-        })?;
+impl Mentioned for RegisterText {
+    ghost placed = { λ r. record { name = r.name; at = r.at } };
+
+    fn mention(&self) -> Mention<'_> {
+        Mention {
+            name: &self.name,
+            at: self.at,
+        }
     }
-    Ok(list)
 }
 
-/// The names of registers.
-fn register_mentions<'a>(
-    alloc: Global,
-    registers: &'a [RegisterText],
-) -> Result<Vec<Mention<'a>>, AllocError>
-    ensures { IfOk result (λ list. names_in list.items ≡ register_names registers.now) }
-{
-    let mut list = Vec::new(alloc);
-    for register in registers {
-        list.push(Mention {
-            name: &register.name,
-            at: register.at,
-        })?;
+impl Mentioned for Statement {
+    ghost placed = { λ s. record { name = s.left; at = s.at } };
+
+    fn mention(&self) -> Mention<'_> {
+        Mention {
+            name: &self.left,
+            at: self.at,
+        }
     }
-    Ok(list)
-}
-
-/// The left names of statements.
-fn left_mentions<'a>(
-    alloc: Global,
-    statements: &'a [Statement],
-) -> Result<Vec<Mention<'a>>, AllocError>
-    ensures { IfOk result (λ list. names_in list.items ≡ left_names statements.now) }
-{
-    let mut list = Vec::new(alloc);
-    for statement in statements {
-        list.push(Mention {
-            name: &statement.left,
-            at: statement.at,
-        })?;
-    }
-    Ok(list)
-}
-
-/// The index of the first port of each name.
-fn port_indices<'a>(alloc: Global, ports: &'a [Port]) -> Result<Indices<'a>, AllocError>
-    ensures { IfOk result (λ table. AreIndices table (port_names ports.now)) }
-{
-    let list = port_mentions(alloc, ports)?;
-    indices(alloc, list.as_slice())
-}
-
-/// The index of the first register of each name.
-fn register_indices<'a>(
-    alloc: Global,
-    registers: &'a [RegisterText],
-) -> Result<Indices<'a>, AllocError>
-    ensures { IfOk result (λ table. AreIndices table (register_names registers.now)) }
-{
-    let list = register_mentions(alloc, registers)?;
-    indices(alloc, list.as_slice())
 }
 
 /// The index of the first statement of each left name.
@@ -115,8 +69,7 @@ pub fn left_indices<'a>(
 ) -> Result<Indices<'a>, AllocError>
     ensures { IfOk result (λ table. AreIndices table (left_names statements.now)) }
 {
-    let list = left_mentions(alloc, statements)?;
-    indices(alloc, list.as_slice())
+    indices_of(alloc, statements)
 }
 
 /// Whether the name stands in the table with an index below `k`.
@@ -162,9 +115,9 @@ impl<'a> Scope<'a> {
     ) -> Result<Scope<'a>, AllocError>
         ensures { IfOk result (λ s. s ≡ record { ins = ins.now; outs = outs.now; registers = registers.now }) }
     {
-        let of_inputs = port_indices(alloc, ins)?;
-        let of_outputs = port_indices(alloc, outs)?;
-        let of_registers = register_indices(alloc, registers)?;
+        let of_inputs = indices_of(alloc, ins)?;
+        let of_outputs = indices_of(alloc, outs)?;
+        let of_registers = indices_of(alloc, registers)?;
         Ok(Scope {
             ins,
             outs,

@@ -4,14 +4,14 @@ ghost use Rattle.std.specs.Prelude.{◌≡◌};
 ghost use Rattle.prl_base.specs.Reading.{GivesBut};
 ghost use Rattle.prl_body.specs.Codes.{expression_of, pair_expressions};
 ghost use Rattle.prl_body.specs.Texts.{tree_of, pair_trees};
-ghost use Rattle.prl_body.specs.TypeChecks.{last_at, typed, typed_rights};
+ghost use Rattle.prl_body.specs.TypeChecks.{last_at, typed, typed_choice, typed_rights, typed_run};
 
 use crate::codes::{Code, OperatorAndRight};
 use crate::faults::BodyFault;
 use crate::scopes::Scope;
 use crate::texts::{Expr, ExprRight};
 use prl_base::{Span, Ty};
-use prl_bodyops::is_same_type;
+use prl_bodyops::{Prefix, is_same_type};
 use std::alloc::Global;
 
 /// Where the operator next to the operand stands, in bytes.
@@ -50,6 +50,52 @@ fn typed_rights(
     Ok((typed_ones, ty))
 }
 
+/// The operand after the operators of a run.
+fn run_of(prefix: Prefix, ats: &[Span], operand: (Box<Code>, Ty)) -> Result<(Code, Ty), BodyFault>
+    ensures { GivesBut BodyFault.Memory (λ x. (expression_of x.0, x.1)) result
+        (typed_run prefix ats.now (expression_of operand.0.value, operand.1)) }
+{
+    let (of, ty) = operand;
+    if !is_same_type(ty, prefix.ty()) {
+        return Err(BodyFault::BodyType(last_at(ats)));
+    }
+    let times = ats.len();
+    Ok((Code::Run { prefix, times, of }, ty))
+}
+
+/// The choice of one of two; where the keyword `if` stands.
+fn if_of(
+    at: Span,
+    test: (Box<Code>, Ty),
+    chosen: (Box<Code>, Ty),
+    other: (Box<Code>, Ty),
+) -> Result<(Code, Ty), BodyFault>
+    ensures { GivesBut BodyFault.Memory (λ x. (expression_of x.0, x.1)) result
+        (typed_choice at (expression_of test.0.value, test.1) (expression_of chosen.0.value, chosen.1) (expression_of other.0.value, other.1)) }
+{
+    let ty = chosen.1;
+    if !is_same_type(test.1, Ty::Bool) || !is_same_type(ty, other.1) {
+        return Err(BodyFault::BodyType(at.at));
+    }
+    Ok((
+        Code::If {
+            test: test.0,
+            chosen: chosen.0,
+            other: other.0,
+        },
+        ty,
+    ))
+}
+
+/// The expression with its names resolved, in a box, and its type.
+#[cycle(typing)]
+fn boxed(alloc: Global, scope: &Scope<'_>, expr: &Expr) -> Result<(Box<Code>, Ty), BodyFault>
+    ensures { GivesBut BodyFault.Memory (λ x. (expression_of x.0.value, x.1)) result (typed scope.now.ins scope.now.registers (tree_of expr.now)) }
+{
+    let (code, ty) = typed(alloc, scope, expr)?;
+    Ok((Box::new(alloc, code)?, ty))
+}
+
 /// The expression with its names resolved, and its type; or its first fault, parts before the whole.
 #[cycle(typing)]
 pub fn typed(alloc: Global, scope: &Scope<'_>, expr: &Expr) -> Result<(Code, Ty), BodyFault>
@@ -62,24 +108,11 @@ pub fn typed(alloc: Global, scope: &Scope<'_>, expr: &Expr) -> Result<(Code, Ty)
             None => Err(BodyFault::BodyName(at.at)),
         },
         Expr::Run { prefix, ats, of } => {
-            let (code, ty) = typed(alloc, scope, of)?;
-            if !is_same_type(ty, prefix.ty()) {
-                return Err(BodyFault::BodyType(last_at(ats.as_slice())));
-            }
-            let of = Box::new(alloc, code)?;
-            let times = ats.len();
-            Ok((
-                Code::Run {
-                    prefix: *prefix,
-                    times,
-                    of,
-                },
-                ty,
-            ))
+            let operand = boxed(alloc, scope, of)?;
+            run_of(*prefix, ats.as_slice(), operand)
         }
         Expr::Series { first, rights } => {
-            let (code, left) = typed(alloc, scope, first)?;
-            let first = Box::new(alloc, code)?;
+            let (first, left) = boxed(alloc, scope, first)?;
             let (rights, ty) = typed_rights(alloc, scope, left, rights)?;
             Ok((Code::Series { first, rights }, ty))
         }
@@ -89,23 +122,10 @@ pub fn typed(alloc: Global, scope: &Scope<'_>, expr: &Expr) -> Result<(Code, Ty)
             chosen,
             other,
         } => {
-            let (test, test_ty) = typed(alloc, scope, test)?;
-            let (chosen, ty) = typed(alloc, scope, chosen)?;
-            let (other, other_ty) = typed(alloc, scope, other)?;
-            if !is_same_type(test_ty, Ty::Bool) || !is_same_type(ty, other_ty) {
-                return Err(BodyFault::BodyType(at.at));
-            }
-            let test = Box::new(alloc, test)?;
-            let chosen = Box::new(alloc, chosen)?;
-            let other = Box::new(alloc, other)?;
-            Ok((
-                Code::If {
-                    test,
-                    chosen,
-                    other,
-                },
-                ty,
-            ))
+            let test = boxed(alloc, scope, test)?;
+            let chosen = boxed(alloc, scope, chosen)?;
+            let other = boxed(alloc, scope, other)?;
+            if_of(*at, test, chosen, other)
         }
     }
 }

@@ -5,6 +5,7 @@ use Rattle.prl_base.specs.declared.places.Span.{Span}
 use Rattle.prl_body.specs.declared.texts.RegisterText.{RegisterText}
 use Rattle.prl_body.specs.Texts.{Tree}
 use Rattle.prl_grammar.specs.Lexemes.{Lexeme}
+use Rattle.prl_grammar.specs.Combinators.{◌⊳◌}
 use Rattle.prl_grammar.specs.Productions.{Grammar, many, placed, inner}
 use Rattle.prl_grammar.specs.code.Languages.{inner_of, read_at}
 use Rattle.prl_grammar.specs.code.LookAhead.{IsApart}
@@ -74,6 +75,10 @@ token_fewer f = text_fewer bodies right (the f) refl
 pub inner_fewer : (ts : List Lexeme) (t : Tree) (rest : List Lexeme) → read_at bodies inner ts ≡ Ok (t, rest) → length rest < length ts
 unfolding bodies Expression Conjunction Negation Comparison Sum Product Unary RunOf PairOf SeriesOf RightOf Operators Primary Enclosed Conditional
 inner_fewer = text_fewer bodies right inner refl
+
+pub after_fewer : (f : Fixed) (ts : List Lexeme) (t : Tree) (rest : List Lexeme) → read_at bodies (the f ⊳ inner) ts ≡ Ok (t, rest) → length rest < length ts
+unfolding bodies Expression Conjunction Negation Comparison Sum Product Unary RunOf PairOf SeriesOf RightOf Operators Primary Enclosed Conditional
+after_fewer f = text_fewer bodies right (the f ⊳ inner) refl
 
 pub run_left : (f : Fixed) (ts : List Lexeme) (ats : List Span) (rest : List Lexeme) → read_at bodies (many (the f)) ts ≡ Ok (ats, rest) → length rest ≤ length ts
 run_left f = text_left bodies right (many (the f)) refl

@@ -1,23 +1,36 @@
 //! Registers, statements and whole texts.
 
-ghost use Rattle.std.specs.Prelude.{◌≡◌};
+ghost use Rattle.std.specs.Prelude.{◌≡◌, map};
 ghost use Rattle.prl_base.specs.Reading.{Gives};
-ghost use Rattle.prl_body.specs.Texts.{statement_tree, text_tree, text_trees};
+ghost use Rattle.prl_body.specs.Texts.{statement_tree, text_tree, text_trees, tree_of};
+ghost use Rattle.prl_grammar.specs.Combinators.{◌&◌, ◌⊳◌, ◌⊲◌};
+ghost use Rattle.prl_grammar.specs.Productions.{inner, many};
 ghost use Rattle.prl_grammar.specs.code.Languages.{read_at};
 ghost use Rattle.prl_grammar.specs.code.Stops.{stop_of};
 ghost use Rattle.prl_grammar.specs.code.Whole.{all_at};
-ghost use Rattle.prl_bodytext.specs.Grammar.{Register, StatementLine, Body, Bodies, bodies};
+ghost use Rattle.prl_bodytext.specs.Grammar.{the, Constant, Register, StatementLine, Body, Bodies, bodies};
 ghost use Rattle.prl_bodytext.specs.code.Parses.{Parses};
+ghost use Rattle.prl_bodytext.specs.declared.words.Fixed.TheVariants as kinds;
 
 use crate::parser::Parser;
 use crate::repeats::Item;
 use crate::words::Fixed;
-use prl_base::Seq;
-use prl_body::{BodyText, BodyTexts, RegisterText, Statement};
+use prl_base::{Seq, Value};
+use prl_body::{BodyText, BodyTexts, Expr, RegisterText, Statement};
 use prl_grammar::{Stop, Terminal};
 use std::alloc::Global;
 
 impl<'a> Parser<'a> {
+    /// Takes what is put into a register at first.
+    fn first_value(&mut self) -> Result<Value, Stop>
+        ensures { Parses (λ x. x) (the kinds.Equals ⊳ Constant ⊲ the kinds.Semicolon) result self.entry.now self.exit.now }
+    {
+        self.expect(Fixed::Equals)?;
+        let value = self.constant()?;
+        self.expect(Fixed::Semicolon)?;
+        Ok(value)
+    }
+
     /// Takes the declaration of a register.
     #[tactic(auto, unfolding(crate::specs::Grammar::Register))]
     fn register(&mut self) -> Result<RegisterText, Stop>
@@ -25,10 +38,18 @@ impl<'a> Parser<'a> {
     {
         self.expect(Fixed::Reg)?;
         let (name, at) = self.name()?;
-        self.expect(Fixed::Equals)?;
-        let first = self.constant()?;
-        self.expect(Fixed::Semicolon)?;
+        let first = self.first_value()?;
         Ok(RegisterText { name, first, at })
+    }
+
+    /// Takes the right side of a statement.
+    fn right_side(&mut self) -> Result<Expr, Stop>
+        ensures { Parses tree_of (the kinds.Equals ⊳ inner ⊲ the kinds.Semicolon) result self.entry.now self.exit.now }
+    {
+        self.expect(Fixed::Equals)?;
+        let right = self.expression()?;
+        self.expect(Fixed::Semicolon)?;
+        Ok(right)
     }
 
     /// Takes a statement.
@@ -37,28 +58,44 @@ impl<'a> Parser<'a> {
         ensures { Parses statement_tree StatementLine result self.entry.now self.exit.now }
     {
         let (left, at) = self.name()?;
-        self.expect(Fixed::Equals)?;
-        let right = self.expression()?;
-        self.expect(Fixed::Semicolon)?;
+        let right = self.right_side()?;
         Ok(Statement { left, right, at })
     }
 
+    /// Takes statements, and the end of their body.
+    #[tactic(auto, using(crate::proofs::Right::statement_loop))]
+    fn ended_statements(&mut self) -> Result<Vec<Statement>, Stop>
+        ensures { Parses (λ x. map statement_tree x.items) (many StatementLine ⊲ the kinds.End) result self.entry.now self.exit.now }
+    {
+        let statements = self.many::<Statement>()?;
+        self.expect(Fixed::End)?;
+        Ok(statements)
+    }
+
+    /// Takes what stands in a body.
+    #[tactic(auto, using(crate::proofs::Right::register_loop, crate::proofs::Right::registers_seen))]
+    fn inside(&mut self) -> Result<(Vec<RegisterText>, Vec<Statement>), Stop>
+        ensures { Parses (λ x. (x.0.items, map statement_tree x.1.items)) (the kinds.Begin ⊳ many Register & many StatementLine ⊲ the kinds.End) result self.entry.now self.exit.now }
+    {
+        self.expect(Fixed::Begin)?;
+        let registers = self.many::<RegisterText>()?;
+        let statements = self.ended_statements()?;
+        Ok((registers, statements))
+    }
+
     /// Takes a body.
-    #[tactic(auto, using(crate::proofs::Right::register_loop, crate::proofs::Right::statement_loop, crate::proofs::Right::registers_seen), unfolding(crate::specs::Grammar::Body))]
+    #[tactic(auto, unfolding(crate::specs::Grammar::Body))]
     fn body(&mut self) -> Result<BodyText, Stop>
         ensures { Parses text_tree Body result self.entry.now self.exit.now }
     {
         self.expect(Fixed::Body)?;
         let (name, at) = self.name()?;
-        self.expect(Fixed::Begin)?;
-        let registers = Seq::new(self.many::<RegisterText>()?);
-        let statements = Seq::new(self.many::<Statement>()?);
-        self.expect(Fixed::End)?;
+        let (registers, statements) = self.inside()?;
         Ok(BodyText {
             name,
             at,
-            registers,
-            statements,
+            registers: Seq::new(registers),
+            statements: Seq::new(statements),
         })
     }
 

@@ -2,17 +2,19 @@
 
 ghost use Rattle.std.specs.Prelude.{◌≡◌, ◌∷◌, [], map};
 ghost use Rattle.prl_body.specs.Texts.{tree_of};
+ghost use Rattle.prl_grammar.specs.Combinators.{◌⊳◌, ◌⊲◌};
 ghost use Rattle.prl_grammar.specs.code.Readers.{next_in};
 ghost use Rattle.prl_grammar.specs.Productions.{many, inner};
 ghost use Rattle.prl_grammar.specs.code.Shapes.{shape};
 ghost use Rattle.prl_grammar.specs.code.Languages.{inner_of};
 ghost use Rattle.prl_bodytext.specs.Grammar.{the, sign, Operators, RightOf, SeriesOf, Comparison, Negation, Unary, Primary, Enclosed, Conditional, Operand, bodies};
 ghost use Rattle.prl_bodytext.specs.code.Parses.{Parses};
+ghost use Rattle.prl_bodytext.specs.declared.words.Fixed.TheVariants as kinds;
 ghost use Rattle.prl_bodytext.specs.Trees.{pair_view};
 
 use crate::levels::Level;
 use crate::parser::Parser;
-use crate::trees::{choice, in_series, prefixed};
+use crate::trees::{compared, in_series, prefixed};
 use crate::words::Fixed;
 use prl_base::{Span, Value};
 use prl_body::{Expr, ExprRight, Operator, Prefix};
@@ -153,14 +155,35 @@ impl<'a> Parser<'a> {
         ensures { Parses tree_of Conditional result self.entry.now self.exit.now }
     {
         let at = self.expect(Fixed::If)?;
-        self.expect(Fixed::Open)?;
-        let test = self.expression()?;
-        self.expect(Fixed::Comma)?;
-        let chosen = self.expression()?;
-        self.expect(Fixed::Comma)?;
-        let other = self.expression()?;
+        let test = self.boxed_after(Fixed::Open)?;
+        let chosen = self.boxed_after(Fixed::Comma)?;
+        let other = self.closing()?;
+        Ok(Expr::If {
+            at,
+            test,
+            chosen,
+            other,
+        })
+    }
+
+    /// Takes the token and an expression.
+    #[cycle(expression)]
+    fn boxed_after(&mut self, fixed: Fixed) -> Result<Box<Expr>, Stop>
+        ensures { Parses (λ x. tree_of x.value) (the fixed ⊳ inner) result self.entry.now self.exit.now }
+    {
+        self.expect(fixed)?;
+        let expr = self.expression()?;
+        Ok(Box::new(self.alloc, expr)?)
+    }
+
+    /// Takes a comma, an expression and the closing parenthesis.
+    #[cycle(expression)]
+    fn closing(&mut self) -> Result<Box<Expr>, Stop>
+        ensures { Parses (λ x. tree_of x.value) (the kinds.Comma ⊳ inner ⊲ the kinds.Close) result self.entry.now self.exit.now }
+    {
+        let expr = self.boxed_after(Fixed::Comma)?;
         self.expect(Fixed::Close)?;
-        Ok(choice(self.alloc, at, test, chosen, other)?)
+        Ok(expr)
     }
 
     #[cycle(expression)]
@@ -183,9 +206,7 @@ impl<'a> Parser<'a> {
             return Ok(first);
         }
         let pair = self.pair(Level::Comparison)?;
-        let mut rights = Vec::new(self.alloc);
-        rights.push(pair)?;
-        Ok(in_series(self.alloc, first, rights)?)
+        Ok(compared(self.alloc, first, pair)?)
     }
 
     #[cycle(expression)]

@@ -1,8 +1,8 @@
 //! Trees from their parts.
 
-ghost use Rattle.std.specs.Prelude.{◌≡◌, map, IfOk};
-ghost use Rattle.prl_body.specs.Texts.{tree_of, choice};
-ghost use Rattle.prl_bodytext.specs.Trees.{pair_view, in_series, prefixed};
+ghost use Rattle.std.specs.Prelude.{◌≡◌, map, IfOk, Some};
+ghost use Rattle.prl_body.specs.Texts.{tree_of};
+ghost use Rattle.prl_bodytext.specs.Trees.{pair_view, compared, in_series, prefixed};
 
 use prl_base::{Seq, Span};
 use prl_body::{Expr, ExprRight, Prefix};
@@ -36,23 +36,11 @@ pub fn prefixed(
     Ok(Expr::Run { prefix, ats, of })
 }
 
-/// `if` at the place, with its test and its two values.
-pub fn choice(
-    alloc: Global,
-    at: Span,
-    test: Expr,
-    chosen: Expr,
-    other: Expr,
-) -> Result<Expr, AllocError>
-    ensures { IfOk result (λ e. tree_of e ≡ choice at (tree_of test) (tree_of chosen) (tree_of other)) }
+/// Two operands with their operator.
+pub fn compared(alloc: Global, first: Expr, pair: ExprRight) -> Result<Expr, AllocError>
+    ensures { IfOk result (λ e. tree_of e ≡ compared (tree_of first) (Some (pair_view pair))) }
 {
-    let test = Box::new(alloc, test)?;
-    let chosen = Box::new(alloc, chosen)?;
-    let other = Box::new(alloc, other)?;
-    Ok(Expr::If {
-        at,
-        test,
-        chosen,
-        other,
-    })
+    let mut rights = Vec::new(alloc);
+    rights.push(pair)?;
+    in_series(alloc, first, rights)
 }

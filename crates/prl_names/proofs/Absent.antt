@@ -2,17 +2,15 @@
 use Rattle.std.proofs.Common.{◌≡◌, ℕ, Bool, List, [], ◌∷◌, ◌++◌, map, refl, sym, ap, ◌∙◌, Some, None, Option}
 use Rattle.std.proofs.lemmas.Simd.{map-map}
 use Rattle.std.specs.Option.{is_some}
-use Rattle.prl_ast.specs.declared.declarations.Device.{Device}
 use Rattle.prl_ast.specs.declared.declarations.Param.{Param}
 use Rattle.prl_ast.specs.declared.declarations.Placed.{Placed}
 use Rattle.prl_ast.specs.Trees.{NodeTree}
 use Rattle.prl_names.specs.declared.mentions.Mention.{Mention}
-use Rattle.prl_names.specs.Checks.{device_names}
-use Rattle.prl_names.specs.Mentions.{names_in, all_placed, placed_of, placed_device}
+use Rattle.prl_names.specs.Mentions.{names_in, all_placed, placed_of}
 use Rattle.prl_names.specs.Repeats.{is_among, lefts_of}
 use Rattle.prl_names.specs.Tables.{found, AreIndices}
 use Rattle.prl_names.specs.Unknowns.{either_name, unless, absent_by, absent_from, left_names, undefined_in}
-use Rattle.prl_names.proofs.Params.{Table, names_of_placed}
+use Rattle.prl_names.proofs.Params.{Table}
 
 absent_same : (f g : List ℕ → Bool) → ((n : List ℕ) → f n ≡ g n) → (ps : List Param) → absent_by f ps ≡ absent_by g ps
 absent_same f g same [] = refl
@@ -26,13 +24,8 @@ absent_append : (f : List ℕ → Bool) (ps qs : List Param) → absent_by f (ps
 absent_append f [] qs = refl
 absent_append f (p ∷ ps) qs = rw (absent_append f ps qs) (either_assoc (unless (f p.name) p.name) (absent_by f ps) (absent_by f qs))
 
-absent_in_table : (table : Table) (names : List (List ℕ)) → AreIndices table names → (ps : List Param) → absent_by (λ n. is_some (found table n)) ps ≡ absent_from names ps
+pub absent_in_table : (table : Table) (names : List (List ℕ)) → AreIndices table names → (ps : List Param) → absent_by (λ n. is_some (found table n)) ps ≡ absent_from names ps
 absent_in_table table names indices ps = absent_same (λ n. is_some (found table n)) (is_among names) (λ n. ap is_some (indices n)) ps
-
-pub absent_device : (table : Table) (ms : List Mention) (list : List Device) (ps : List Param) → all_placed ms ≡ map placed_device list → AreIndices table (names_in ms) →
-    absent_by (λ n. is_some (found table n)) ps ≡ absent_from (device_names list) ps
-absent_device table ms list ps is indices =
-    absent_in_table table (names_in ms) indices ps ∙ ap (λ ns. absent_from ns ps) (names_of_placed placed_device ms list is)
 
 absent_left : (table : Table) (ms : List Mention) (node : NodeTree) (ps : List Param) → all_placed ms ≡ lefts_of node → AreIndices table (names_in ms) →
     absent_by (λ n. is_some (found table n)) ps ≡ absent_from (left_names node) ps

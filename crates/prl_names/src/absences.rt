@@ -10,8 +10,8 @@ ghost use Rattle.prl_names.specs.Repeats.{lefts_of};
 ghost use Rattle.prl_names.specs.Tables.{found};
 ghost use Rattle.prl_names.specs.Unknowns.{absent_by, absent_from, undefined_in, undefined_of};
 
-use crate::mentions::{Mention, devices, push_placed};
-use crate::tables::{Indices, found, indices};
+use crate::mentions::{Mention, push_all};
+use crate::tables::{Indices, found, indices, indices_of};
 use prl_ast::{Device, Node, Param, Program};
 use prl_base::Name;
 use std::alloc::{AllocError, Global};
@@ -34,7 +34,7 @@ fn lefts(alloc: Global, node: &Node) -> Result<Vec<Mention<'_>>, AllocError>
 {
     let mut list = Vec::new(alloc);
     for equation in node.eqs.as_slice() {
-        push_placed(&mut list, equation.lefts.as_slice())?;
+        push_all(&mut list, equation.lefts.as_slice())?;
     }
     Ok(list)
 }
@@ -72,8 +72,7 @@ fn unlinked<'n>(
 ) -> Result<Option<&'n Name>, AllocError>
     ensures { IfOk result (λ name. option_copied name ≡ absent_from (device_names list.now) params.now) }
 {
-    let list = devices(alloc, list)?;
-    let table = indices(alloc, list.as_slice())?;
+    let table = indices_of(alloc, list)?;
     Ok(absent(&table, params))
 }
 

@@ -16,6 +16,6 @@ mod uses;
 pub use checks::{NameFault, check_names};
 pub use laws::{index_has_the_name, reaching_is_found, right_names_stand_for_something};
 pub use lookups::{Callee, Names};
-pub use mentions::Mention;
-pub use tables::{Indices, found, indices};
+pub use mentions::{Mention, Mentioned};
+pub use tables::{Indices, found, indices, indices_of};
 pub use uses::used_imports;

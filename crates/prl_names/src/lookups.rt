@@ -1,19 +1,16 @@
 //! What a name of a program stands for.
 
-ghost use Rattle.std.specs.Prelude.{◌≡◌, IfOk, map};
-ghost use Rattle.prl_ast.specs.declared.declarations.Import.{Import};
-ghost use Rattle.prl_ast.specs.Trees.{node_tree, program_tree, NodeTree};
+ghost use Rattle.std.specs.Prelude.{◌≡◌, IfOk};
+ghost use Rattle.prl_ast.specs.Trees.{program_tree};
 ghost use Rattle.prl_names.specs.Lookups.{param_at, callee_of};
-ghost use Rattle.prl_names.specs.Tables.{AreIndices};
 
-use crate::mentions::{imports, nodes};
-use crate::tables::{Indices, all_params, found, indices, param_in};
-use prl_ast::{Import, Node, Program};
+use crate::tables::{Indices, all_params, found, indices_of, param_in};
+use prl_ast::Program;
 use std::alloc::{AllocError, Global};
 use std::marker::Model;
 
 /// What an application applies: a node or an import, by its index in the list of these, from 0.
-#[derive(Clone, Copy, PartialEq, Eq)]
+#[derive(Clone, Copy)]
 pub enum Callee {
     Node(usize),
     Import(usize),
@@ -44,30 +41,14 @@ impl<'a> Model for Names<'a> {
     ghost invariant = { λ n. AreTables n.nodes n.imports n.params.items (program_tree n.program.now) };
 }
 
-/// The index of the first node of each name.
-fn node_indices(alloc: Global, list: &[Node]) -> Result<Indices<'_>, AllocError>
-    ensures { IfOk result (λ table. AreIndices table (map (λ (n : NodeTree). n.name) (map node_tree list.now))) }
-{
-    let mentions = nodes(alloc, list)?;
-    indices(alloc, mentions.as_slice())
-}
-
-/// The index of the first import of each name.
-fn import_indices(alloc: Global, list: &[Import]) -> Result<Indices<'_>, AllocError>
-    ensures { IfOk result (λ table. AreIndices table (map (λ (i : Import). i.name) list.now)) }
-{
-    let mentions = imports(alloc, list)?;
-    indices(alloc, mentions.as_slice())
-}
-
 impl<'a> Names<'a> {
     /// The names of the program.
     pub fn new(alloc: Global, program: &'a Program) -> Result<Names<'a>, AllocError>
         ensures { IfOk result (λ names. names ≡ program.now) }
     {
         let params = all_params(alloc, program.nodes.as_slice())?;
-        let nodes = node_indices(alloc, program.nodes.as_slice())?;
-        let imports = import_indices(alloc, program.imports.as_slice())?;
+        let nodes = indices_of(alloc, program.nodes.as_slice())?;
+        let imports = indices_of(alloc, program.imports.as_slice())?;
         Ok(Names {
             program,
             nodes,

@@ -17,93 +17,115 @@ pub struct Mention<'a> {
     pub at: Span,
 }
 
-/// Appends the parameters.
-fn push_params<'a>(list: &mut Vec<Mention<'a>>, params: &'a [Param]) -> Result<(), AllocError>
-    ensures { OnOk result (all_placed list.new.items ≡ all_placed list.old.items ++ map placed_param params.now) }
+/// What has a name and stands at a place of the text.
+pub trait Mentioned {
+    ghost use Rattle.std.specs.Prelude.{◌≡◌};
+    ghost use Rattle.prl_ast.specs.declared.declarations.Placed.{Placed};
+    ghost use Rattle.prl_names.specs.Mentions.{placed_of};
+
+    ghost placed: { Self → Placed };
+
+    /// Its name, and where it stands.
+    fn mention(&self) -> Mention<'_>
+        ensures { placed_of result ≡ placed self.now };
+}
+
+impl Mentioned for Placed {
+    ghost placed = { λ p. p };
+
+    fn mention(&self) -> Mention<'_> {
+        Mention {
+            name: &self.name,
+            at: self.at,
+        }
+    }
+}
+
+impl Mentioned for Param {
+    ghost use Rattle.prl_names.specs.Mentions.{placed_param};
+
+    ghost placed = { placed_param };
+
+    fn mention(&self) -> Mention<'_> {
+        Mention {
+            name: &self.name,
+            at: self.at,
+        }
+    }
+}
+
+impl Mentioned for Port {
+    ghost use Rattle.prl_names.specs.Mentions.{placed_port};
+
+    ghost placed = { placed_port };
+
+    fn mention(&self) -> Mention<'_> {
+        Mention {
+            name: &self.name,
+            at: self.at,
+        }
+    }
+}
+
+impl Mentioned for Device {
+    ghost use Rattle.prl_names.specs.Mentions.{placed_device};
+
+    ghost placed = { placed_device };
+
+    fn mention(&self) -> Mention<'_> {
+        Mention {
+            name: &self.name,
+            at: self.at,
+        }
+    }
+}
+
+impl Mentioned for Import {
+    ghost use Rattle.prl_names.specs.Mentions.{placed_import};
+
+    ghost placed = { placed_import };
+
+    fn mention(&self) -> Mention<'_> {
+        Mention {
+            name: &self.name,
+            at: self.at,
+        }
+    }
+}
+
+impl Mentioned for Node {
+    ghost use Rattle.prl_ast.specs.Trees.{node_tree};
+    ghost use Rattle.prl_names.specs.Mentions.{placed_node};
+
+    ghost placed = { λ n. placed_node (node_tree n) };
+
+    fn mention(&self) -> Mention<'_> {
+        Mention {
+            name: &self.name,
+            at: self.at,
+        }
+    }
+}
+
+/// Appends the mentions of these.
+pub fn push_all<'a, T: Mentioned>(
+    list: &mut Vec<Mention<'a>>,
+    all: &'a [T],
+) -> Result<(), AllocError>
+    ensures { OnOk result (all_placed list.new.items ≡ all_placed list.old.items ++ map T.placed all.now) }
 {
-    for param in params {
-        list.push(Mention {
-            name: &param.name,
-            at: param.at,
-        })?;
+    for one in all {
+        list.push(one.mention())?;
     }
     Ok(())
 }
 
-/// Appends the ports.
-fn push_ports<'a>(list: &mut Vec<Mention<'a>>, ports: &'a [Port]) -> Result<(), AllocError>
-    ensures { OnOk result (all_placed list.new.items ≡ all_placed list.old.items ++ map placed_port ports.now) }
-{
-    for port in ports {
-        list.push(Mention {
-            name: &port.name,
-            at: port.at,
-        })?;
-    }
-    Ok(())
-}
-
-/// Appends the names.
-pub fn push_placed<'a>(list: &mut Vec<Mention<'a>>, all: &'a [Placed]) -> Result<(), AllocError>
-    ensures { OnOk result (all_placed list.new.items ≡ all_placed list.old.items ++ all.now) }
-{
-    for placed in all {
-        list.push(Mention {
-            name: &placed.name,
-            at: placed.at,
-        })?;
-    }
-    Ok(())
-}
-
-/// The nodes.
-pub fn nodes(alloc: Global, nodes: &[Node]) -> Result<Vec<Mention<'_>>, AllocError>
-    ensures { IfOk result (λ list. all_placed list.items ≡ map placed_node (map node_tree nodes.now)) }
+/// The mentions of these.
+pub fn mentions<T: Mentioned>(alloc: Global, all: &[T]) -> Result<Vec<Mention<'_>>, AllocError>
+    ensures { IfOk result (λ list. all_placed list.items ≡ map T.placed all.now) }
 {
     let mut list = Vec::new(alloc);
-    for node in nodes {
-        list.push(Mention {
-            name: &node.name,
-            at: node.at,
-        })?;
-    }
-    Ok(list)
-}
-
-/// The imports.
-pub fn imports(alloc: Global, imports: &[Import]) -> Result<Vec<Mention<'_>>, AllocError>
-    ensures { IfOk result (λ list. all_placed list.items ≡ map placed_import imports.now) }
-{
-    let mut list = Vec::new(alloc);
-    for import in imports {
-        list.push(Mention {
-            name: &import.name,
-            at: import.at,
-        })?;
-    }
-    Ok(list)
-}
-
-/// Sensors or actuators.
-pub fn devices(alloc: Global, devices: &[Device]) -> Result<Vec<Mention<'_>>, AllocError>
-    ensures { IfOk result (λ list. all_placed list.items ≡ map placed_device devices.now) }
-{
-    let mut list = Vec::new(alloc);
-    for device in devices {
-        list.push(Mention {
-            name: &device.name,
-            at: device.at,
-        })?;
-    }
-    Ok(list)
-}
-
-/// The inputs of a node.
-pub fn inputs(alloc: Global, node: &Node) -> Result<Vec<Mention<'_>>, AllocError>
-    ensures { IfOk result (λ list. all_placed list.items ≡ map placed_param node.now.ins) }
-{
-    let mut list = Vec::new(alloc);
-    push_params(&mut list, node.ins.as_slice())?;
+    push_all(&mut list, all)?;
     Ok(list)
 }
 
@@ -112,9 +134,9 @@ pub fn flows(alloc: Global, node: &Node) -> Result<Vec<Mention<'_>>, AllocError>
     ensures { IfOk result (λ list. all_placed list.items ≡ flow_space (node_tree node.now)) }
 {
     let mut list = Vec::new(alloc);
-    push_params(&mut list, node.ins.as_slice())?;
-    push_params(&mut list, node.outs.as_slice())?;
-    push_params(&mut list, node.locals.as_slice())?;
+    push_all(&mut list, node.ins.as_slice())?;
+    push_all(&mut list, node.outs.as_slice())?;
+    push_all(&mut list, node.locals.as_slice())?;
     Ok(list)
 }
 
@@ -123,7 +145,7 @@ pub fn ports(alloc: Global, import: &Import) -> Result<Vec<Mention<'_>>, AllocEr
     ensures { IfOk result (λ list. all_placed list.items ≡ port_space import.now) }
 {
     let mut list = Vec::new(alloc);
-    push_ports(&mut list, import.ins.as_slice())?;
-    push_ports(&mut list, import.outs.as_slice())?;
+    push_all(&mut list, import.ins.as_slice())?;
+    push_all(&mut list, import.outs.as_slice())?;
     Ok(list)
 }

@@ -1,6 +1,6 @@
 //! The first name of a program that is declared or defined a second time.
 
-ghost use Rattle.std.specs.Prelude.{◌≡◌, ◌≤◌, ◌++◌, length, drop, IfOk, OnOk, map, filter, None};
+ghost use Rattle.std.specs.Prelude.{◌≡◌, ◌≤◌, ◌++◌, length, drop, take, IfOk, OnOk, map, filter, None};
 ghost use Rattle.std.specs.Option.{option_map, is_some};
 ghost use Rattle.prl_ast.specs.declared.declarations.Placed.{Placed};
 ghost use Rattle.prl_ast.specs.Trees.{node_tree, program_tree};
@@ -9,7 +9,7 @@ ghost use Rattle.prl_names.specs.Mentions.{placed_of, placed_device, placed_para
 ghost use Rattle.prl_names.specs.Repeats.{repeat_in, front_before, rest_from, merged, first_of, callee_space, earliest_repeat, port_space, flow_space, lefts_of, definition_space, global_spaces, repeat_of};
 
 use crate::lookups::Names;
-use crate::mentions::{Mention, devices, flows, imports, inputs, nodes, ports};
+use crate::mentions::{Mention, flows, mentions, ports};
 use prl_ast::{Device, Import, Node, Placed, Program};
 use std::alloc::{AllocError, Global};
 use std::collections::BTreeMap;
@@ -40,27 +40,18 @@ fn first_of<'a>(a: Option<Mention<'a>>, b: Option<Mention<'a>>) -> Option<Mentio
     }
 }
 
-/// Appends those of the others, counted from `from`, that stand before the byte `at`, one after the other, and
-/// gives where they end.
-fn push_front<'a>(
-    list: &mut Vec<Mention<'a>>,
-    at: u32,
-    others: &[Mention<'a>],
-    from: usize,
-) -> Result<usize, AllocError>
-    requires { from ≤ length others.now }
-    ensures front { OnOk result (all_placed list.new.items ≡ all_placed list.old.items ++ front_before at (all_placed (drop from others.now))) }
-    ensures rest { IfOk result (λ end. all_placed (drop end others.now) ≡ rest_from at (all_placed (drop from others.now))) }
-    ensures within { IfOk result (λ end. end ≤ length others.now) }
+/// How many of the others stand before the byte `at`, one after the other.
+fn front_len(at: u32, others: &[Mention<'_>]) -> usize
+    ensures front { all_placed (take result others.now) ≡ front_before at (all_placed others.now) }
+    ensures rest { all_placed (drop result others.now) ≡ rest_from at (all_placed others.now) }
+    ensures within { result ≤ length others.now }
 {
-    for k in from..others.len() {
-        let other = others[k];
+    for (k, other) in others.iter().enumerate() {
         if other.at.at >= at {
-            return Ok(k);
+            return k;
         }
-        list.push(other)?;
     }
-    Ok(others.len())
+    others.len()
 }
 
 /// Two lists in the order of the text as one.
@@ -72,12 +63,15 @@ fn merged<'a>(
     ensures { IfOk result (λ list. all_placed list.items ≡ merged (all_placed mentions.now) (all_placed others.now)) }
 {
     let mut list = Vec::new(alloc);
-    let mut from = 0;
+    let (_, mut rest) = others.split_at(0);
     for mention in mentions {
-        from = push_front(&mut list, mention.at.at, others, from)?;
+        let end = front_len(mention.at.at, rest);
+        let (front, later) = rest.split_at(end);
+        list.extend_from_slice(front)?;
         list.push(*mention)?;
+        rest = later;
     }
-    list.extend_from_slice(&others[from..])?;
+    list.extend_from_slice(rest)?;
     Ok(list)
 }
 
@@ -144,7 +138,7 @@ fn definitions<'a>(
     ensures { IfOk result (λ list. all_placed list.items ≡ map placed_param node.now.ins
         ++ filter (λ (l : Placed). is_some (param_at (program_tree names.now) k l.name)) (lefts_of (node_tree node.now))) }
 {
-    let mut list = inputs(alloc, node)?;
+    let mut list = mentions(alloc, node.ins.as_slice())?;
     for equation in node.eqs.as_slice() {
         push_defined(&mut list, names, k, equation.lefts.as_slice())?;
     }
@@ -172,8 +166,8 @@ fn repeat_in_definitions<'a>(
 fn callees<'a>(alloc: Global, program: &'a Program) -> Result<Vec<Mention<'a>>, AllocError>
     ensures { IfOk result (λ list. all_placed list.items ≡ callee_space (program_tree program.now)) }
 {
-    let import_list = imports(alloc, program.imports.as_slice())?;
-    let node_list = nodes(alloc, program.nodes.as_slice())?;
+    let import_list = mentions(alloc, program.imports.as_slice())?;
+    let node_list = mentions(alloc, program.nodes.as_slice())?;
     merged(alloc, import_list.as_slice(), node_list.as_slice())
 }
 
@@ -195,7 +189,7 @@ fn repeat_of_devices<'a>(
 ) -> Result<Option<Mention<'a>>, AllocError>
     ensures { IfOk result (λ repeat. option_map placed_of repeat ≡ repeat_in (map placed_device list.now)) }
 {
-    let space = devices(alloc, list)?;
+    let space = mentions(alloc, list)?;
     repeat_in(alloc, space.as_slice())
 }
 

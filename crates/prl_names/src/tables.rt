@@ -6,7 +6,7 @@ ghost use Rattle.prl_ast.specs.Trees.{node_tree};
 ghost use Rattle.prl_names.specs.Mentions.{names_in};
 ghost use Rattle.prl_names.specs.Tables.{found, AreIndices, AreParams};
 
-use crate::mentions::{Mention, flows};
+use crate::mentions::{Mention, Mentioned, flows, mentions};
 use prl_ast::Node;
 use std::alloc::{AllocError, Global};
 use std::collections::BTreeMap;
@@ -26,6 +26,14 @@ pub fn indices<'a>(alloc: Global, mentions: &[Mention<'a>]) -> Result<Indices<'a
         }
     }
     Ok(table)
+}
+
+/// The index of the first of each name of these.
+pub fn indices_of<T: Mentioned>(alloc: Global, all: &[T]) -> Result<Indices<'_>, AllocError>
+    ensures { IfOk result (λ table. AreIndices table (map (λ x. (T.placed x).name) all.now)) }
+{
+    let list = mentions(alloc, all)?;
+    indices(alloc, list.as_slice())
 }
 
 /// The index of the name.

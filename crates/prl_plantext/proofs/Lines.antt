@@ -37,6 +37,10 @@ line_rest_of_mapped word items =
 pub more : {a b c : List ℕ} (x : List ℕ) → b ≡ a ++ x → a ≡ c → b ≡ c ++ x
 more x e same = e ∙ ap (λ t. t ++ x) same
 
+-- a text to which two pieces are added
+pub more_both : {a b c : List ℕ} (x y : List ℕ) → b ≡ (a ++ x) ++ y → a ≡ c → b ≡ (c ++ x) ++ y
+more_both x y e same = e ∙ ap (λ t. (t ++ x) ++ y) same
+
 pub task_line : (t : List ℕ) (k : ℕ) (task : Task) →
     ((((((((t ++ codes "task ") ++ decimal k) ++ codes " ") ++ task.name) ++ codes " ") ++ kind_text task.kind)
     ++ (codes " period " ++ decimal task.clock.period ++ codes " start " ++ decimal task.clock.start))

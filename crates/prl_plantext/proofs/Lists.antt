@@ -1,5 +1,5 @@
 -- Items of lists that pass a test.
-use Rattle.std.proofs.Common.{◌≡◌, ◌<◌, ◌^◌, ℕ, zero, suc, Bool, true, List, [], ◌∷◌, Some, slice_get, subst}
+use Rattle.std.proofs.Common.{◌≡◌, ◌<◌, ◌^◌, ◌+◌, ◌∙◌, ℕ, zero, suc, Bool, true, List, [], ◌∷◌, Some, length, drop, get_or, slice_get, refl, sym, subst, add-one, drop-cons}
 use Rattle.std.specs.List.{list_all}
 use Rattle.std.proofs.lemmas.Bool.{and_parts, ltb-true}
 use Rattle.prl_plan.specs.declared.graphs.Task.{Task}
@@ -22,3 +22,11 @@ start_is_small hyper task is =
     let wcet = and_parts _ _ some_due.0 in
     let start = and_parts _ _ wcet.0 in
     ltb-true task.clock.start (2 ^ 31) start.1
+
+-- one more element that passes the test
+pub all_next : {A : Type 0} (test : A → Bool) (xs : List A) (k : ℕ) (x : A) (whole : Bool) → k < length xs → x ≡ get_or xs k x → test x ≡ true →
+    list_all test (drop k xs) ≡ whole → list_all test (drop (k + 1) xs) ≡ whole
+all_next {A = A} test xs k x whole below item holds before =
+    let next : drop k xs ≡ x ∷ drop (k + 1) xs = rw (add-one, drop-cons xs k x below, ← item) refl in
+    let same : list_all test (drop k xs) ≡ list_all test (drop (k + 1) xs) = rw (next, holds) refl in
+    sym same ∙ before

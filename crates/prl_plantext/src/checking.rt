@@ -5,7 +5,7 @@ ghost use Rattle.std.specs.List.{list_all, list_any};
 ghost use Rattle.std.specs.Str.{bytes_eq};
 ghost use Rattle.prl_plan.specs.Graphs.{IsWellFormed, is_actuator, is_sensor};
 ghost use Rattle.prl_plan.specs.declared.limits.TheConstants.{MAX_EDGES, MAX_TASKS, MAX_HYPER};
-ghost use Rattle.prl_plantext.specs.code.Checks.{actuators_have_one, are_in_order, are_numbered, clock_before, comes_with, counted, divides, earlier_by, earlier_by_parts, faster, gives, has_name, have_edges, have_own_names, have_tasks, is_edge, is_edge_into, is_factor, is_elsewhere_or_first, is_name, is_next, is_of_type, is_operator_for, is_positive, is_same_clock, is_small, is_source, is_task, is_task_name, is_well_formed, may_follow, none_counted, ports_follow, producer_clock};
+ghost use Rattle.prl_plantext.specs.code.Checks.{actuators_have_one, are_in_order, are_numbered, clock_before, comes_with, counted, divides, earlier_by, earlier_by_parts, faster, gives, has_name, have_edges, have_own_names, have_tasks, is_edge, is_edge_into, is_elsewhere_or_first, is_name, is_next, is_of_type, is_operator_for, is_positive, is_same_clock, is_small, is_source, is_task, is_task_name, is_well_formed, may_follow, none_counted, ports_follow, producer_clock};
 
 use crate::cutting::cut_at;
 use itoa::Buffer;
@@ -190,12 +190,6 @@ fn is_of_type(ty: Ty, value: Value) -> bool
     }
 }
 
-fn is_factor(k: u32) -> bool
-    ensures { result ≡ is_factor k }
-{
-    1 <= k && u64::from(k) <= MAX_FACTOR
-}
-
 /// Whether an operator's numbers and constants are in range on an edge of this type.
 fn is_operator_for(ty: Ty, op: Op) -> bool
     ensures { result ≡ is_operator_for ty op }
@@ -203,7 +197,7 @@ fn is_operator_for(ty: Ty, op: Op) -> bool
     match op {
         Op::Fby(value) | Op::Cons(value) => is_of_type(ty, value),
         Op::Tail => true,
-        Op::Up(k) | Op::Down(k) => is_factor(k),
+        Op::Up(k) | Op::Down(k) => 1 <= k && u64::from(k) <= MAX_FACTOR,
         Op::Shift(ratio) => ratio.den >= 1 && ratio.num >= 0,
     }
 }

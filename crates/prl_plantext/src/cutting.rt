@@ -1,6 +1,7 @@
 //! Lines and words of a text.
 
 ghost use Rattle.std.specs.Prelude.{◌≡◌, ◌==◌, length};
+ghost use Rattle.std.specs.Str.{bytes_eq};
 ghost use Rattle.prl_plantext.specs.code.Graphs.{after, before, first_of, number_in, rest_of, small_in, words_in};
 
 use prl_base::decimal_of;
@@ -34,6 +35,13 @@ pub(crate) fn small_in(word: &[u8]) -> u32
     if number < 1 << 32 { number as u32 } else { 0 }
 }
 
+/// Whether a word is this one.
+pub(crate) fn is_keyword(word: &[u8], keyword: &[u8]) -> bool
+    ensures { result ≡ bytes_eq word.now keyword.now }
+{
+    word == keyword
+}
+
 /// The words of a line that are left. Contracts see their list.
 #[derive(Drop)]
 pub(crate) struct Words<'a> {
@@ -42,6 +50,7 @@ pub(crate) struct Words<'a> {
 
 impl<'a> Model for Words<'a> {
     ghost use Rattle.std.specs.Prelude.{List, ℕ};
+    ghost use Rattle.std.specs.Str.{bytes_eq};
     ghost use Rattle.prl_plantext.specs.code.Graphs.{words_in};
 
     ghost Value = { List (List ℕ) };

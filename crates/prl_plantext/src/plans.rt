@@ -4,7 +4,8 @@ ghost use Rattle.std.specs.Prelude.{◌≡◌, ℕ, List, MatchResult};
 ghost use Rattle.prl_plan.specs.Graphs.{IsWellFormed};
 ghost use Rattle.prl_plan.specs.Plans.{PlanView, IsPlan};
 ghost use Rattle.prl_plantext.specs.ReadTexts.{IsTextFault, IsTextOf};
-ghost use Rattle.prl_plantext.specs.code.Planned.{IsGraphFault};
+ghost use Rattle.prl_plantext.specs.code.Graphs.{graph_of};
+ghost use Rattle.prl_plantext.specs.code.Planned.{IsGraphFault, IsOtherText};
 
 use crate::checking::is_well_formed;
 use crate::printing::plan_text;
@@ -91,6 +92,29 @@ fn planned(alloc: Global, graph: TaskGraph) -> Result<Plan, PlanFault>
     Ok(Plan::new(graph, words, dates, cells))
 }
 
+/// The plan of the graph that a text is read to.
+fn plan_of(alloc: Global, text: &[u8]) -> Result<Plan, PlanFault>
+    ensures { MatchResult result (λ plan. IsPlan plan × (plan.graph ≡ graph_of text.now)) (IsTextFault text.now) }
+{
+    let graph = graph_of(alloc, text)?;
+    if !is_well_formed(&graph) {
+        return Err(PlanFault::NotPlan);
+    }
+    planned(alloc, graph)
+}
+
+/// Refuses a text that is not the plan's.
+fn match_text(alloc: Global, plan: &Plan, text: &[u8]) -> Result<(), PlanFault>
+    ensures { MatchResult result (λ _. IsTextOf plan.now text.now) (IsOtherText plan.now text.now) }
+{
+    let again = plan_text(alloc, plan)?;
+    if again.as_slice() == text {
+        Ok(())
+    } else {
+        Err(PlanFault::NotPlan)
+    }
+}
+
 /// The plan whose text this is. The text is read to a graph, the graph is planned, and the text of that plan is compared with
 /// the one that was given, so that nothing is decided here but that the graph is well formed. `NotPlan` exactly where the text
 /// is that of no plan.
@@ -98,17 +122,9 @@ pub fn read_plan(alloc: Global, text: &[u8]) -> Result<Plan, PlanFault>
     ensures { MatchResult result (λ plan. IsTextOf plan text.now) (IsTextFault text.now) }
 {
     plan_is_unique();
-    let graph = graph_of(alloc, text)?;
-    if !is_well_formed(&graph) {
-        return Err(PlanFault::NotPlan);
-    }
-    let plan = planned(alloc, graph)?;
-    let again = plan_text(alloc, &plan)?;
-    if again.as_slice() == text {
-        Ok(plan)
-    } else {
-        Err(PlanFault::NotPlan)
-    }
+    let plan = plan_of(alloc, text)?;
+    match_text(alloc, &plan, text)?;
+    Ok(plan)
 }
 
 /// A text is that of one plan at most.

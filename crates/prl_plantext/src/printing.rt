@@ -25,6 +25,22 @@ pub(crate) fn kind_text(kind: Kind) -> &'static str
     }
 }
 
+/// Appends a number after these bytes.
+fn push_after(text: &mut Vec<u8>, front: &[u8], number: u64) -> Result<(), AllocError>
+    ensures { OnOk result (text.new.items ≡ text.old.items ++ front.now ++ decimal number) }
+{
+    text.extend_from_slice(front)?;
+    push_number(text, number)
+}
+
+/// Appends a value after these bytes.
+fn push_value_after(text: &mut Vec<u8>, front: &[u8], value: Value) -> Result<(), AllocError>
+    ensures { OnOk result (text.new.items ≡ text.old.items ++ front.now ++ value_text value) }
+{
+    text.extend_from_slice(front)?;
+    push_value(text, value)
+}
+
 /// Appends two numbers with a byte between them.
 fn push_pair(text: &mut Vec<u8>, first: u64, byte: u8, second: u64) -> Result<(), AllocError>
     ensures { OnOk result (text.new.items ≡ text.old.items ++ pair_text first byte second) }
@@ -38,28 +54,23 @@ fn push_pair(text: &mut Vec<u8>, first: u64, byte: u8, second: u64) -> Result<()
 fn push_clock(text: &mut Vec<u8>, clock: Clock) -> Result<(), AllocError>
     ensures { OnOk result (text.new.items ≡ text.old.items ++ (codes " period " ++ decimal clock.period ++ codes " start " ++ decimal clock.start)) }
 {
-    text.extend_from_slice(b" period ")?;
-    push_number(text, clock.period)?;
-    text.extend_from_slice(b" start ")?;
-    push_number(text, clock.start)
+    push_after(text, b" period ", clock.period)?;
+    push_after(text, b" start ", clock.start)
 }
 
 /// Appends the relative deadline and the worst-case execution time of a task.
 fn push_times(text: &mut Vec<u8>, due: u64, wcet: u32) -> Result<(), AllocError>
     ensures { OnOk result (text.new.items ≡ text.old.items ++ (codes " due " ++ decimal due ++ codes " wcet " ++ decimal wcet)) }
 {
-    text.extend_from_slice(b" due ")?;
-    push_number(text, due)?;
-    text.extend_from_slice(b" wcet ")?;
-    push_number(text, u64::from(wcet))
+    push_after(text, b" due ", due)?;
+    push_after(text, b" wcet ", u64::from(wcet))
 }
 
 /// Appends the line of a task.
 fn push_task(text: &mut Vec<u8>, k: usize, task: &Task) -> Result<(), AllocError>
     ensures { OnOk result (text.new.items ≡ text.old.items ++ line (task_words k task.now)) }
 {
-    text.extend_from_slice(b"task ")?;
-    push_number(text, k as u64)?;
+    push_after(text, b"task ", k as u64)?;
     text.push(b' ')?;
     text.extend_from_slice(task.name.bytes())?;
     text.push(b' ')?;
@@ -95,8 +106,7 @@ fn push_windows(text: &mut Vec<u8>, windows: &[Window]) -> Result<(), AllocError
 fn push_task_dates(text: &mut Vec<u8>, i: usize, windows: &[Window]) -> Result<(), AllocError>
     ensures { OnOk result (text.new.items ≡ text.old.items ++ line (dates_words i windows.now)) }
 {
-    text.extend_from_slice(b"dates ")?;
-    push_number(text, i as u64)?;
+    push_after(text, b"dates ", i as u64)?;
     push_windows(text, windows)?;
     text.push(b'\n')?;
     Ok(())
@@ -121,10 +131,7 @@ fn push_producer(text: &mut Vec<u8>, from: Producer) -> Result<(), AllocError>
             text.push(b' ')?;
             push_pair(text, u64::from(task.0), b'.', u64::from(out))
         }
-        Producer::Constant(value) => {
-            text.extend_from_slice(b" const ")?;
-            push_value(text, value)
-        }
+        Producer::Constant(value) => { push_value_after(text, b" const ", value) }
     }
 }
 
@@ -133,23 +140,11 @@ fn push_operator(text: &mut Vec<u8>, op: Op) -> Result<(), AllocError>
     ensures { OnOk result (text.new.items ≡ text.old.items ++ flat_map after_blank (operator_words op)) }
 {
     match op {
-        Op::Fby(value) => {
-            text.extend_from_slice(b" fby ")?;
-            push_value(text, value)
-        }
-        Op::Cons(value) => {
-            text.extend_from_slice(b" cons ")?;
-            push_value(text, value)
-        }
+        Op::Fby(value) => push_value_after(text, b" fby ", value),
+        Op::Cons(value) => push_value_after(text, b" cons ", value),
         Op::Tail => text.extend_from_slice(b" tail"),
-        Op::Up(factor) => {
-            text.extend_from_slice(b" up ")?;
-            push_number(text, u64::from(factor))
-        }
-        Op::Down(factor) => {
-            text.extend_from_slice(b" down ")?;
-            push_number(text, u64::from(factor))
-        }
+        Op::Up(factor) => push_after(text, b" up ", u64::from(factor)),
+        Op::Down(factor) => push_after(text, b" down ", u64::from(factor)),
         Op::Shift(ratio) => {
             text.extend_from_slice(b" shift ")?;
             push_ratio(text, ratio)
@@ -176,16 +171,14 @@ fn push_flow(text: &mut Vec<u8>, ty: Ty, period: u64) -> Result<(), AllocError>
 {
     text.extend_from_slice(b" type ")?;
     push_type(text, ty)?;
-    text.extend_from_slice(b" period ")?;
-    push_number(text, period)
+    push_after(text, b" period ", period)
 }
 
 /// Appends the line of an edge.
 fn push_edge(text: &mut Vec<u8>, e: usize, edge: &Edge) -> Result<(), AllocError>
     ensures { OnOk result (text.new.items ≡ text.old.items ++ line (edge_words e edge.now)) }
 {
-    text.extend_from_slice(b"edge ")?;
-    push_number(text, e as u64)?;
+    push_after(text, b"edge ", e as u64)?;
     text.extend_from_slice(b" from")?;
     push_producer(text, edge.from)?;
     text.extend_from_slice(b" to ")?;
@@ -233,17 +226,13 @@ fn push_numbers(text: &mut Vec<u8>, numbers: &[u64]) -> Result<(), AllocError>
 fn push_word(text: &mut Vec<u8>, e: usize, word: &Word) -> Result<(), AllocError>
     ensures { OnOk result (text.new.items ≡ text.old.items ++ line (word_words e word.now)) }
 {
-    text.extend_from_slice(b"word ")?;
-    push_number(text, e as u64)?;
-    text.extend_from_slice(b" prefix ")?;
-    push_number(text, word.prefix.len() as u64)?;
+    push_after(text, b"word ", e as u64)?;
+    push_after(text, b" prefix ", word.prefix.len() as u64)?;
     push_values(text, word.prefix.as_slice())?;
     text.extend_from_slice(b" repeat")?;
     push_numbers(text, word.repeat.as_slice())?;
-    text.extend_from_slice(b" step ")?;
-    push_number(text, word.step_in)?;
-    text.push(b' ')?;
-    push_number(text, word.step_out)?;
+    push_after(text, b" step ", word.step_in)?;
+    push_after(text, b" ", word.step_out)?;
     text.push(b'\n')?;
     Ok(())
 }
@@ -262,10 +251,8 @@ fn push_words(text: &mut Vec<u8>, words: &[Word]) -> Result<(), AllocError>
 fn push_cells(text: &mut Vec<u8>, base: u32, count: u32) -> Result<(), AllocError>
     ensures { OnOk result (text.new.items ≡ text.old.items ++ codes " base " ++ decimal base ++ codes " count " ++ decimal count) }
 {
-    text.extend_from_slice(b" base ")?;
-    push_number(text, u64::from(base))?;
-    text.extend_from_slice(b" count ")?;
-    push_number(text, u64::from(count))
+    push_after(text, b" base ", u64::from(base))?;
+    push_after(text, b" count ", u64::from(count))
 }
 
 /// Appends the line of an edge's cells.
@@ -273,8 +260,7 @@ fn push_edge_cells(text: &mut Vec<u8>, plan: &Plan, e: EdgeNo) -> Result<(), All
     requires { e.0 < length plan.now.graph.edges }
     ensures { OnOk result (text.new.items ≡ text.old.items ++ line (cells_line_words plan.now e.0 (edge_at plan.now.graph e.0))) }
 {
-    text.extend_from_slice(b"cells ")?;
-    push_number(text, u64::from(e.0))?;
+    push_after(text, b"cells ", u64::from(e.0))?;
     match plan.graph().edges.as_slice()[e.0 as usize].from {
         Producer::Port { .. } => push_cells(text, plan.base(e).0, plan.count(e))?,
         Producer::Constant(_) => text.extend_from_slice(b" none")?,
@@ -302,8 +288,7 @@ pub fn plan_text(alloc: Global, plan: &Plan) -> Result<Vec<u8>, AllocError>
     let graph = plan.graph();
     graph_is_representable(graph);
     let mut text = Vec::new(alloc);
-    text.extend_from_slice(b"plan 1\nhyperperiod ")?;
-    push_number(&mut text, graph.hyper)?;
+    push_after(&mut text, b"plan 1\nhyperperiod ", graph.hyper)?;
     text.push(b'\n')?;
     push_tasks(&mut text, graph.tasks.as_slice())?;
     push_dates(&mut text, plan)?;

@@ -5,7 +5,7 @@ ghost use Rattle.std.specs.Int.{IsGcd};
 ghost use Rattle.prl_plan.specs.declared.limits.TheConstants.{MAX_TASKS};
 ghost use Rattle.prl_plantext.specs.code.Graphs.{after_producer, count_named, edge_after, edge_in, empty, fraction_in, fraction_or_none, graph_of, kind_named, is_reduced, operator_in, operators_in, producer_in, task_in, type_in, value_in, with_line, with_task, with_edge};
 
-use crate::cutting::{Words, cut_at, number_in, small_in};
+use crate::cutting::{Words, cut_at, is_keyword, number_in, small_in};
 use crate::printing::kind_text;
 use prl_base::{
     Clock, Label, MAX_PART, Op, Ratio, Seq, TaskNo, Ty, Value, decimal_of, gcd, integer_of,
@@ -18,9 +18,9 @@ use std::marker::Model;
 fn value_in(word: &[u8]) -> Value
     ensures { result ≡ value_in word.now }
 {
-    if word == b"true".as_slice() {
+    if is_keyword(word, b"true") {
         Value::Bool(true)
-    } else if word == b"false".as_slice() {
+    } else if is_keyword(word, b"false") {
         Value::Bool(false)
     } else {
         Value::Int(integer_of(word).unwrap_or(0))
@@ -31,7 +31,7 @@ fn value_in(word: &[u8]) -> Value
 fn type_in(word: &[u8]) -> Ty
     ensures { result ≡ type_in word.now }
 {
-    if word == b"bool".as_slice() {
+    if is_keyword(word, b"bool") {
         Ty::Bool
     } else {
         Ty::Int
@@ -72,15 +72,15 @@ fn ratio_in(word: &[u8]) -> Ratio
 fn operator_in(word: &[u8], argument: &[u8]) -> Option<Op>
     ensures { result ≡ operator_in word.now argument.now }
 {
-    if word == b"fby".as_slice() {
+    if is_keyword(word, b"fby") {
         Some(Op::Fby(value_in(argument)))
-    } else if word == b"cons".as_slice() {
+    } else if is_keyword(word, b"cons") {
         Some(Op::Cons(value_in(argument)))
-    } else if word == b"up".as_slice() {
+    } else if is_keyword(word, b"up") {
         Some(Op::Up(small_in(argument)))
-    } else if word == b"down".as_slice() {
+    } else if is_keyword(word, b"down") {
         Some(Op::Down(small_in(argument)))
-    } else if word == b"shift".as_slice() {
+    } else if is_keyword(word, b"shift") {
         Some(Op::Shift(ratio_in(argument)))
     } else {
         None
@@ -88,13 +88,13 @@ fn operator_in(word: &[u8], argument: &[u8]) -> Option<Op>
 }
 
 /// The operators of the words that are left.
-fn operators_in(alloc: Global, mut words: Words<'_>) -> Result<Vec<Op>, AllocError>
-    ensures { IfOk result (λ ops. ops.items ≡ operators_in words.entry) }
+fn operators_in(alloc: Global, words: &mut Words<'_>) -> Result<Vec<Op>, AllocError>
+    ensures { IfOk result (λ ops. ops.items ≡ operators_in words.old) }
 {
     let mut ops = Vec::new(alloc);
     while !words.is_empty() {
         let word = words.next();
-        if word == b"tail".as_slice() {
+        if is_keyword(word, b"tail") {
             ops.push(Op::Tail)?;
         } else if let Some(op) = operator_in(word, words.next()) {
             ops.push(op)?;
@@ -109,7 +109,7 @@ fn producer_in(words: &mut Words<'_>) -> Producer
     ensures rest { words.exit.now ≡ after_producer words.entry.now }
 {
     let word = words.next();
-    if word == b"const".as_slice() {
+    if is_keyword(word, b"const") {
         return Producer::Constant(value_in(words.next()));
     }
     let (task, out) = cut_at(word, b'.');
@@ -120,8 +120,8 @@ fn producer_in(words: &mut Words<'_>) -> Producer
 }
 
 /// The edge of a line, by the words after its producer.
-fn edge_after(alloc: Global, from: Producer, mut words: Words<'_>) -> Result<Edge, AllocError>
-    ensures { IfOk result (λ edge. edge ≡ edge_after from words.entry) }
+fn edge_after(alloc: Global, from: Producer, words: &mut Words<'_>) -> Result<Edge, AllocError>
+    ensures { IfOk result (λ edge. edge ≡ edge_after from words.old) }
 {
     words.next();
     let (to, port) = cut_at(words.next(), b'.');
@@ -140,12 +140,12 @@ fn edge_after(alloc: Global, from: Producer, mut words: Words<'_>) -> Result<Edg
 }
 
 /// The edge of a line, by its words after the first.
-fn edge_in(alloc: Global, mut words: Words<'_>) -> Result<Edge, AllocError>
-    ensures { IfOk result (λ edge. edge ≡ edge_in words.entry) }
+fn edge_in(alloc: Global, words: &mut Words<'_>) -> Result<Edge, AllocError>
+    ensures { IfOk result (λ edge. edge ≡ edge_in words.old) }
 {
     words.next();
     words.next();
-    let from = producer_in(&mut words);
+    let from = producer_in(words);
     edge_after(alloc, from, words)
 }
 
@@ -167,9 +167,9 @@ fn count_named(tasks: &[Task], name: &[u8]) -> usize
 fn kind_named(name: &[u8], k: u32) -> Kind
     ensures { result ≡ kind_named name.now k }
 {
-    if name == b"sensor".as_slice() {
+    if is_keyword(name, b"sensor") {
         Kind::Sensor(k)
-    } else if name == b"node".as_slice() {
+    } else if is_keyword(name, b"node") {
         Kind::Node(k)
     } else {
         Kind::Actuator(k)
@@ -177,9 +177,9 @@ fn kind_named(name: &[u8], k: u32) -> Kind
 }
 
 /// The task of a line, by its words after the first: of its kind it is the next after these.
-fn task_in(alloc: Global, earlier: &[Task], mut words: Words<'_>) -> Result<Task, AllocError>
+fn task_in(alloc: Global, earlier: &[Task], words: &mut Words<'_>) -> Result<Task, AllocError>
     requires { length earlier.now ≤ MAX_TASKS }
-    ensures { IfOk result (λ task. task ≡ task_in earlier.now words.entry) }
+    ensures { IfOk result (λ task. task ≡ task_in earlier.now words.old) }
 {
     words.next();
     let name = Label::new(alloc, words.next())?;
@@ -216,8 +216,8 @@ impl Model for Found {
 
 impl Found {
     /// Adds a task, unless there are too many already.
-    fn take_task(&mut self, alloc: Global, words: Words<'_>) -> Result<(), AllocError>
-        ensures { OnOk result (self.new ≡ with_task self.old words.entry) }
+    fn take_task(&mut self, alloc: Global, words: &mut Words<'_>) -> Result<(), AllocError>
+        ensures { OnOk result (self.new ≡ with_task self.old words.old) }
     {
         if self.tasks.len() <= MAX_TASKS {
             let task = task_in(alloc, self.tasks.as_slice(), words)?;
@@ -227,8 +227,8 @@ impl Found {
     }
 
     /// Adds an edge, unless there are too many already.
-    fn take_edge(&mut self, alloc: Global, words: Words<'_>) -> Result<(), AllocError>
-        ensures { OnOk result (self.new ≡ with_edge self.old words.entry) }
+    fn take_edge(&mut self, alloc: Global, words: &mut Words<'_>) -> Result<(), AllocError>
+        ensures { OnOk result (self.new ≡ with_edge self.old words.old) }
     {
         if self.edges.len() <= MAX_EDGES {
             let edge = edge_in(alloc, words)?;
@@ -243,11 +243,11 @@ impl Found {
     {
         let mut words = Words::new(line);
         let word = words.next();
-        if word == b"task".as_slice() {
-            self.take_task(alloc, words)?;
-        } else if word == b"edge".as_slice() {
-            self.take_edge(alloc, words)?;
-        } else if word == b"hyperperiod".as_slice() {
+        if is_keyword(word, b"task") {
+            self.take_task(alloc, &mut words)?;
+        } else if is_keyword(word, b"edge") {
+            self.take_edge(alloc, &mut words)?;
+        } else if is_keyword(word, b"hyperperiod") {
             self.hyper = number_in(words.next());
         }
         Ok(())

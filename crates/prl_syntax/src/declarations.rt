@@ -2,6 +2,7 @@
 
 ghost use Rattle.std.specs.Prelude.{◌≡◌, ◌∷◌, [], map, IfOk};
 ghost use Rattle.prl_base.specs.Reading.{Gives};
+ghost use Rattle.prl_grammar.specs.Combinators.{◌&◌, ◌⊳◌};
 ghost use Rattle.prl_grammar.specs.code.Stops.{stop_of};
 ghost use Rattle.prl_syntax.specs.code.Loops.{with_joined};
 ghost use Rattle.prl_syntax.specs.Grammar as grammar;
@@ -89,10 +90,9 @@ impl<'a> Parser<'a> {
         self.more_groups(first)
     }
 
-    fn enclosed_ports(&mut self) -> Result<Vec<Port>, Stop>
-        ensures { Parses (λ x. x.items) (grammar.in_parens grammar.Ports) result self.entry.now self.exit.now }
+    fn closed_ports(&mut self) -> Result<Vec<Port>, Stop>
+        ensures { Parses (λ x. x.items) (grammar.closed grammar.Ports) result self.entry.now self.exit.now }
     {
-        self.expect(Fixed::Open)?;
         let ports = self.ports()?;
         self.expect(Fixed::Close)?;
         Ok(ports)
@@ -106,19 +106,27 @@ impl<'a> Parser<'a> {
             self.expect(Fixed::Close)?;
             return Ok(Vec::new(self.alloc));
         }
-        let ports = self.ports()?;
-        self.expect(Fixed::Close)?;
-        Ok(ports)
+        self.closed_ports()
     }
 
     #[tactic(auto, unfolding(crate::specs::Grammar::Wcet))]
     fn wcet(&mut self) -> Result<u32, Stop>
         ensures { Parses (λ x. x) grammar.Wcet result self.entry.now self.exit.now }
     {
-        self.expect(Fixed::Wcet)?;
-        let wcet = self.number()?;
+        let wcet = self.number_after(Fixed::Wcet)?;
         self.expect(Fixed::Semicolon)?;
         Ok(small(wcet))
+    }
+
+    /// Takes the outputs of an imported node, and what it takes at most.
+    fn outs_and_wcet(&mut self) -> Result<(Vec<Port>, u32), Stop>
+        ensures { Parses (λ x. (x.0.items, x.1)) (grammar.the kinds.Returns ⊳ grammar.in_parens grammar.Ports & grammar.Wcet) result self.entry.now self.exit.now }
+    {
+        self.expect(Fixed::Returns)?;
+        self.expect(Fixed::Open)?;
+        let outs = self.closed_ports()?;
+        let wcet = self.wcet()?;
+        Ok((outs, wcet))
     }
 
     /// Takes an imported node.
@@ -130,15 +138,11 @@ impl<'a> Parser<'a> {
         self.expect(Fixed::Node)?;
         let (name, at) = self.name()?;
         let ins = self.maybe_ports()?;
-        self.expect(Fixed::Returns)?;
-        let outs = self.enclosed_ports()?;
-        let wcet = self.wcet()?;
-        let ins = Seq::new(ins);
-        let outs = Seq::new(outs);
+        let (outs, wcet) = self.outs_and_wcet()?;
         Ok(Import {
             name,
-            ins,
-            outs,
+            ins: Seq::new(ins),
+            outs: Seq::new(outs),
             wcet,
             at,
         })

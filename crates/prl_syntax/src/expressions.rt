@@ -2,12 +2,11 @@
 
 ghost use Rattle.std.specs.Prelude.{◌≡◌, ◌∷◌, ◌≤◌, [], length, map, IfOk};
 ghost use Rattle.prl_base.specs.Reading.{Gives};
-ghost use Rattle.prl_ast.specs.Trees.{root_of, tree_of};
+ghost use Rattle.prl_ast.specs.Trees.{none, root_of, tree_of};
 ghost use Rattle.prl_grammar.specs.Lexemes.{first_place};
 ghost use Rattle.prl_grammar.specs.code.Stops.{stop_of};
 ghost use Rattle.prl_grammar.specs.code.Loops.{with_front};
-ghost use Rattle.prl_ast.specs.Trees.{none};
-ghost use Rattle.prl_grammar.specs.Combinators.{◌⊳◌};
+ghost use Rattle.prl_grammar.specs.Combinators.{◌&◌, ◌⊳◌, number};
 ghost use Rattle.prl_syntax.specs.code.Links.{link_view, with_prefixes};
 ghost use Rattle.prl_syntax.specs.code.Links as links;
 ghost use Rattle.prl_syntax.specs.Grammar as grammar;
@@ -24,24 +23,31 @@ use crate::parser::Parser;
 use crate::values::small;
 use crate::words::Fixed;
 use prl_ast::{Base, Expr, PlacedOp};
-use prl_base::{Op, Seq};
+use prl_base::{Op, Seq, Span};
 use prl_grammar::Stop;
 
 impl<'a> Parser<'a> {
+    /// Takes this token and a factor.
+    fn factor(&mut self, fixed: Fixed) -> Result<(Span, u64), Stop>
+        ensures { Parses (λ x. x) (grammar.the fixed & number) result self.entry.now self.exit.now }
+    {
+        let at = self.expect(fixed)?;
+        let factor = self.number()?;
+        Ok((at, factor))
+    }
+
     /// Takes a postfix.
     #[tactic(auto, unfolding(crate::specs::Grammar::Postfix))]
     fn postfix(&mut self) -> Result<PlacedOp, Stop>
         ensures { Parses (λ x. x) grammar.Postfix result self.entry.now self.exit.now }
     {
         if self.next_is(Fixed::Up) {
-            let at = self.expect(Fixed::Up)?;
-            let factor = self.number()?;
+            let (at, factor) = self.factor(Fixed::Up)?;
             let op = Op::Up(small(factor));
             return Ok(PlacedOp { op, at });
         }
         if self.next_is(Fixed::Down) {
-            let at = self.expect(Fixed::Down)?;
-            let factor = self.number()?;
+            let (at, factor) = self.factor(Fixed::Down)?;
             let op = Op::Down(small(factor));
             return Ok(PlacedOp { op, at });
         }
@@ -215,12 +221,10 @@ impl<'a> Parser<'a> {
         let at = self.place_of_first();
         let (pre, base) = self.stem(Vec::new(self.alloc))?;
         let post = self.postfixes()?;
-        let pre = Seq::new(pre);
-        let post = Seq::new(post);
         Ok(Expr {
-            pre,
+            pre: Seq::new(pre),
             base,
-            post,
+            post: Seq::new(post),
             at,
         })
     }

@@ -1,12 +1,12 @@
 //! Equations, nodes and whole programs.
 
-ghost use Rattle.std.specs.Prelude.{◌≡◌, ◌∷◌, [], map, reverse, IfOk};
+ghost use Rattle.std.specs.Prelude.{◌≡◌, ◌∷◌, [], map, reverse, IfOk, OnOk};
 ghost use Rattle.prl_base.specs.Reading.{Gives};
 ghost use Rattle.prl_ast.specs.Trees.{equation_tree, node_tree, program_tree};
 ghost use Rattle.prl_grammar.specs.code.Stops.{stop_of};
 ghost use Rattle.prl_grammar.specs.code.Whole.{all_at};
 ghost use Rattle.prl_grammar.specs.Combinators as combinators;
-ghost use Rattle.prl_syntax.specs.code.Nodes.{declared_view, declarations_view, with_last};
+ghost use Rattle.prl_syntax.specs.code.Nodes.{declared_view, declarations_view, with_last, ClosedEquations, NodeBody, OutsAndBody};
 ghost use Rattle.prl_syntax.specs.Grammar as grammar;
 ghost use Rattle.prl_syntax.specs.code.Parses.{Parses};
 ghost use Rattle.prl_syntax.specs.Grammar.{programs};
@@ -19,7 +19,7 @@ ghost use Rattle.prl_syntax.specs.declared.words.Fixed.TheVariants as kinds;
 
 use crate::parser::Parser;
 use crate::words::Fixed;
-use prl_ast::{Device, Equation, Import, Node, Placed, Program};
+use prl_ast::{Device, Equation, Import, Node, Param, Placed, Program};
 use prl_base::{Seq, Span};
 use prl_grammar::{Stop, Terminal};
 use std::alloc::{AllocError, Global};
@@ -52,8 +52,11 @@ impl<'a> Parser<'a> {
         self.expect(Fixed::Equals)?;
         let right = self.expr()?;
         self.expect(Fixed::Semicolon)?;
-        let lefts = Seq::new(lefts);
-        Ok(Equation { lefts, right, at })
+        Ok(Equation {
+            lefts: Seq::new(lefts),
+            right,
+            at,
+        })
     }
 
     #[tactic(auto, unfolding(crate::specs::Grammar::Equation, crate::specs::Grammar::Left, crate::specs::Grammar::Name))]
@@ -79,10 +82,39 @@ impl<'a> Parser<'a> {
         ensures { Parses (λ x. x) (combinators.maybe (grammar.the kinds.Semicolon)) result self.entry.now self.exit.now }
     {
         if self.next_is(Fixed::Semicolon) {
-            let at = self.expect(Fixed::Semicolon)?;
-            return Ok(Some(at));
+            return Ok(Some(self.expect(Fixed::Semicolon)?));
         }
         Ok(None)
+    }
+
+    /// Takes the equations of a node.
+    fn closed_equations(&mut self) -> Result<Vec<Equation>, Stop>
+        ensures { Parses (λ x. map equation_tree x.items) ClosedEquations result self.entry.now self.exit.now }
+    {
+        self.expect(Fixed::Let)?;
+        let eqs = self.equations()?;
+        self.expect(Fixed::Tel)?;
+        self.maybe_semicolon()?;
+        Ok(eqs)
+    }
+
+    /// Takes the local variables and the equations of a node.
+    fn body(&mut self) -> Result<(Vec<Param>, Vec<Equation>), Stop>
+        ensures { Parses (λ x. (x.0.items, map equation_tree x.1.items)) NodeBody result self.entry.now self.exit.now }
+    {
+        let locals = self.maybe_locals()?;
+        let eqs = self.closed_equations()?;
+        Ok((locals, eqs))
+    }
+
+    /// Takes the outputs of a node, and its body.
+    fn outs_and_body(&mut self) -> Result<(Vec<Param>, (Vec<Param>, Vec<Equation>)), Stop>
+        ensures { Parses (λ x. (x.0.items, (x.1.0.items, map equation_tree x.1.1.items))) OutsAndBody result self.entry.now self.exit.now }
+    {
+        self.expect(Fixed::Returns)?;
+        let outs = self.enclosed_params()?;
+        let body = self.body()?;
+        Ok((outs, body))
     }
 
     /// Takes a node.
@@ -93,23 +125,13 @@ impl<'a> Parser<'a> {
         self.expect(Fixed::Node)?;
         let (name, at) = self.name()?;
         let ins = self.maybe_params()?;
-        self.expect(Fixed::Returns)?;
-        let outs = self.enclosed_params()?;
-        let locals = self.maybe_locals()?;
-        self.expect(Fixed::Let)?;
-        let eqs = self.equations()?;
-        self.expect(Fixed::Tel)?;
-        self.maybe_semicolon()?;
-        let ins = Seq::new(ins);
-        let outs = Seq::new(outs);
-        let locals = Seq::new(locals);
-        let eqs = Seq::new(eqs);
+        let (outs, (locals, eqs)) = self.outs_and_body()?;
         Ok(Node {
             name,
-            ins,
-            outs,
-            locals,
-            eqs,
+            ins: Seq::new(ins),
+            outs: Seq::new(outs),
+            locals: Seq::new(locals),
+            eqs: Seq::new(eqs),
             at,
         })
     }
@@ -136,24 +158,20 @@ impl<'a> Parser<'a> {
     }
 
     /// Takes a declaration.
-    #[tactic(auto, unfolding(crate::specs::Grammar::Declaration, crate::specs::Grammar::Import, crate::specs::Grammar::Device, crate::specs::Grammar::Node))]
+    #[tactic(auto, unfolding(crate::specs::Grammar::Declaration, crate::specs::Grammar::Import, crate::specs::Grammar::Device, crate::specs::Grammar::Node, crate::specs::code::Nodes::declared_view))]
     fn read_declaration(&mut self) -> Result<Declaration, Stop>
         ensures { Parses declared_view grammar.Declaration result self.entry.now self.exit.now }
     {
         if self.next_is(Fixed::Imported) {
-            let import = self.read_import()?;
-            return Ok(Declaration::Import(import));
+            return Ok(Declaration::Import(self.read_import()?));
         }
         if self.next_is(Fixed::Sensor) {
-            let sensor = self.read_device(Fixed::Sensor)?;
-            return Ok(Declaration::Sensor(sensor));
+            return Ok(Declaration::Sensor(self.read_device(Fixed::Sensor)?));
         }
         if self.next_is(Fixed::Actuator) {
-            let actuator = self.read_device(Fixed::Actuator)?;
-            return Ok(Declaration::Actuator(actuator));
+            return Ok(Declaration::Actuator(self.read_device(Fixed::Actuator)?));
         }
-        let node = self.read_node()?;
-        Ok(Declaration::Node(node))
+        Ok(Declaration::Node(self.read_node()?))
     }
 
     /// Takes declarations, as many as there are.
@@ -178,21 +196,18 @@ struct Declarations {
     nodes: Vec<Node>,
 }
 
-/// One declaration more at the end of its kind.
-fn with_declaration(
-    sorted: Declarations,
-    declaration: Declaration,
-) -> Result<Declarations, AllocError>
-    ensures { IfOk result (λ p. declarations_view p ≡ with_last (declarations_view sorted) (declared_view declaration)) }
+/// Appends the declaration to its kind.
+#[tactic(auto, unfolding(crate::specs::code::Nodes::declared_view))]
+fn push_declaration(sorted: &mut Declarations, declaration: Declaration) -> Result<(), AllocError>
+    ensures { OnOk result (declarations_view sorted.new ≡ with_last (declarations_view sorted.old) (declared_view declaration)) }
 {
-    let mut sorted = sorted;
     match declaration {
         Declaration::Import(import) => sorted.imports.push(import)?,
         Declaration::Sensor(sensor) => sorted.sensors.push(sensor)?,
         Declaration::Actuator(actuator) => sorted.actuators.push(actuator)?,
         Declaration::Node(node) => sorted.nodes.push(node)?,
     }
-    Ok(sorted)
+    Ok(())
 }
 
 /// The declarations, the last one first, by kind.
@@ -207,7 +222,7 @@ fn by_kind(alloc: Global, backward: Vec<Declaration>) -> Result<Declarations, Al
         nodes: Vec::new(alloc),
     };
     'each: while let Some(declaration) = declarations.pop() {
-        sorted = with_declaration(sorted, declaration)?;
+        push_declaration(&mut sorted, declaration)?;
     }
     Ok(sorted)
 }
@@ -219,21 +234,11 @@ fn program_of(alloc: Global, declarations: Vec<Declaration>) -> Result<Program, 
     let mut declarations = declarations;
     declarations.reverse();
     let sorted = by_kind(alloc, declarations)?;
-    let Declarations {
-        imports,
-        sensors,
-        actuators,
-        nodes,
-    } = sorted;
-    let imports = Seq::new(imports);
-    let sensors = Seq::new(sensors);
-    let actuators = Seq::new(actuators);
-    let nodes = Seq::new(nodes);
     Ok(Program {
-        imports,
-        sensors,
-        actuators,
-        nodes,
+        imports: Seq::new(sorted.imports),
+        sensors: Seq::new(sorted.sensors),
+        actuators: Seq::new(sorted.actuators),
+        nodes: Seq::new(sorted.nodes),
     })
 }
 

@@ -67,7 +67,7 @@ impl<'a> Parser<'a> {
 }
 
 /// What a note says of a name.
-#[derive(Clone, Copy, PartialEq, Eq)]
+#[derive(Clone, Copy)]
 pub struct Note {
     pub ty: Option<Ty>,
     pub rate: Option<Rate>,
@@ -99,8 +99,10 @@ impl<'a> Parser<'a> {
         self.expect(Fixed::Comma)?;
         let phase = self.ratio()?;
         self.expect(Fixed::Close)?;
-        let period = small(period);
-        Ok(Rate { period, phase })
+        Ok(Rate {
+            period: small(period),
+            phase,
+        })
     }
 
     #[tactic(auto, unfolding(crate::specs::Grammar::Rate))]
@@ -108,8 +110,7 @@ impl<'a> Parser<'a> {
         ensures { Parses (λ x. x) (combinators.maybe grammar.Rate) result self.entry.now self.exit.now }
     {
         if self.next_is(Fixed::Rate) {
-            let rate = self.rate()?;
-            return Ok(Some(rate));
+            return Ok(Some(self.rate()?));
         }
         Ok(None)
     }
@@ -119,9 +120,7 @@ impl<'a> Parser<'a> {
     fn due(&mut self) -> Result<u32, Stop>
         ensures { Parses (λ x. x) grammar.Due result self.entry.now self.exit.now }
     {
-        self.expect(Fixed::Due)?;
-        let due = self.number()?;
-        Ok(small(due))
+        Ok(small(self.number_after(Fixed::Due)?))
     }
 
     #[tactic(auto, unfolding(crate::specs::Grammar::Due))]
@@ -129,8 +128,7 @@ impl<'a> Parser<'a> {
         ensures { Parses (λ x. x) (combinators.maybe grammar.Due) result self.entry.now self.exit.now }
     {
         if self.next_is(Fixed::Due) {
-            let due = self.due()?;
-            return Ok(Some(due));
+            return Ok(Some(self.due()?));
         }
         Ok(None)
     }
@@ -142,32 +140,29 @@ impl<'a> Parser<'a> {
     {
         if self.next_is(Fixed::Due) {
             let due = self.due()?;
-            let note = Note {
+            return Ok(Note {
                 ty: None,
                 rate: None,
                 due: Some(due),
-            };
-            return Ok(note);
+            });
         }
         if self.next_is(Fixed::Rate) {
             let rate = self.rate()?;
             let due = self.maybe_due()?;
-            let note = Note {
+            return Ok(Note {
                 ty: None,
                 rate: Some(rate),
                 due,
-            };
-            return Ok(note);
+            });
         }
         let ty = self.ty()?;
         let rate = self.maybe_rate()?;
         let due = self.maybe_due()?;
-        let note = Note {
+        Ok(Note {
             ty: Some(ty),
             rate,
             due,
-        };
-        Ok(note)
+        })
     }
 }
 
@@ -184,8 +179,7 @@ impl<'a> Parser<'a> {
     {
         if self.next_is(Fixed::Colon) {
             self.expect(Fixed::Colon)?;
-            let note = self.read_note()?;
-            return Ok(Some(note));
+            return Ok(Some(self.read_note()?));
         }
         Ok(None)
     }
@@ -233,21 +227,16 @@ fn param(name: Placed, note: &Option<Note>) -> Param
     ensures { result ≡ param_of name note.now }
 {
     let Placed { name, at } = name;
-    match note {
-        Some(note) => Param {
-            name,
-            ty: note.ty,
-            rate: note.rate,
-            due: note.due,
-            at,
-        },
-        None => Param {
-            name,
-            ty: None,
-            rate: None,
-            due: None,
-            at,
-        },
+    let (ty, rate, due) = match note {
+        Some(note) => (note.ty, note.rate, note.due),
+        None => (None, None, None),
+    };
+    Param {
+        name,
+        ty,
+        rate,
+        due,
+        at,
     }
 }
 
@@ -315,14 +304,20 @@ impl<'a> Parser<'a> {
         self.more_runs(first)
     }
 
+    fn closed_params(&mut self) -> Result<Vec<Param>, Stop>
+        ensures { Parses (λ x. x.items) (grammar.closed grammar.Params) result self.entry.now self.exit.now }
+    {
+        let params = self.params()?;
+        self.expect(Fixed::Close)?;
+        Ok(params)
+    }
+
     /// Takes parameters in parentheses.
     pub fn enclosed_params(&mut self) -> Result<Vec<Param>, Stop>
         ensures { Parses (λ x. x.items) (grammar.in_parens grammar.Params) result self.entry.now self.exit.now }
     {
         self.expect(Fixed::Open)?;
-        let params = self.params()?;
-        self.expect(Fixed::Close)?;
-        Ok(params)
+        self.closed_params()
     }
 
     /// Takes parameters in parentheses, or parentheses alone.
@@ -334,9 +329,7 @@ impl<'a> Parser<'a> {
             self.expect(Fixed::Close)?;
             return Ok(Vec::new(self.alloc));
         }
-        let params = self.params()?;
-        self.expect(Fixed::Close)?;
-        Ok(params)
+        self.closed_params()
     }
 
     /// Takes a run and its semicolon.

@@ -3,7 +3,7 @@
 ghost use Rattle.std.specs.Prelude.{◌≡◌, ◌∷◌, []};
 ghost use Rattle.prl_grammar.specs.Lexemes.{first_place};
 ghost use Rattle.prl_grammar.specs.code.Readers.{next_in};
-ghost use Rattle.prl_grammar.specs.Combinators.{named, number};
+ghost use Rattle.prl_grammar.specs.Combinators.{◌⊳◌, named, number};
 ghost use Rattle.prl_syntax.specs.Grammar.{the};
 ghost use Rattle.prl_syntax.specs.code.Parses.{Parses};
 ghost use Rattle.prl_syntax.specs.Words.{class_of};
@@ -87,5 +87,13 @@ impl<'a> Parser<'a> {
         let (number, _, rest) = prl_grammar::number(self.rest)?;
         self.rest = rest;
         Ok(number)
+    }
+
+    /// Takes this token and a number.
+    pub fn number_after(&mut self, fixed: Fixed) -> Result<u64, Stop>
+        ensures { Parses (λ x. x) (the fixed ⊳ number) result self.entry.now self.exit.now }
+    {
+        self.expect(fixed)?;
+        self.number()
     }
 }

@@ -38,12 +38,9 @@ impl<'a> Parser<'a> {
             return Ok(Value::Bool(false));
         }
         if self.next_is(Fixed::Minus) {
-            self.expect(Fixed::Minus)?;
-            let value = self.number()?;
-            return Ok(negative(value));
+            return Ok(negative(self.number_after(Fixed::Minus)?));
         }
-        let value = self.number()?;
-        Ok(positive(value))
+        Ok(positive(self.number()?))
     }
 }
 
@@ -77,9 +74,7 @@ impl<'a> Parser<'a> {
         ensures { Parses (λ x. x) (combinators.maybe (grammar.the kinds.Slash ⊳ combinators.number)) result self.entry.now self.exit.now }
     {
         if self.next_is(Fixed::Slash) {
-            self.expect(Fixed::Slash)?;
-            let den = self.number()?;
-            return Ok(Some(den));
+            return Ok(Some(self.number_after(Fixed::Slash)?));
         }
         Ok(None)
     }
@@ -91,10 +86,6 @@ impl<'a> Parser<'a> {
     {
         let num = self.number()?;
         let den = self.maybe_denominator()?;
-        let ratio = match den {
-            Some(den) => ratio_of(num, den),
-            None => ratio_of(num, 1),
-        };
-        Ok(ratio)
+        Ok(ratio_of(num, den.unwrap_or(1)))
     }
 }

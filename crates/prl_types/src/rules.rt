@@ -202,6 +202,22 @@ fn add_lefts(
     Ok(())
 }
 
+/// The types of the flows of a right side. Adds its rules.
+fn right_terms(
+    alloc: Global,
+    rules: &mut Met,
+    context: &Signatures<'_, '_, '_>,
+    node: usize,
+    right: &Expr,
+) -> Result<Vec<Term>, AllocError>
+    ensures flows { IfOk result (λ terms. terms.items ≡ flows_of (program_tree context.now) node (tree_of right.now)) }
+    ensures count { OnOk result (rules.new.count ≡ rules.old.count) }
+    ensures rules { OnOk result (rules.new.rules ≡ rules.old.rules ++ rules_in (program_tree context.now) node (tree_of right.now)) }
+{
+    let segments = expression(alloc, context, node, right, rules)?;
+    terms(alloc, segments.as_slice())
+}
+
 fn add_equations(
     alloc: Global,
     rules: &mut Met,
@@ -213,8 +229,7 @@ fn add_equations(
     ensures rules { OnOk result (rules.new.rules ≡ rules.old.rules ++ equations_rules (program_tree context.now) node (map equation_tree equations.now)) }
 {
     for equation in equations {
-        let segments = expression(alloc, context, node, &equation.right, rules)?;
-        let flows = terms(alloc, segments.as_slice())?;
+        let flows = right_terms(alloc, rules, context, node, &equation.right)?;
         add_lefts(
             rules,
             context,
@@ -240,15 +255,23 @@ fn add_nodes(
     Ok(())
 }
 
+/// Adds the rules of all equations.
+fn add_all(alloc: Global, rules: &mut Met, context: &Context<'_, '_>) -> Result<(), AllocError>
+    ensures count { OnOk result (rules.new.count ≡ rules.old.count) }
+    ensures rules { OnOk result (rules.new.rules ≡ rules.old.rules ++ nodes_rules (program_tree context.now) 0 (program_tree context.now).nodes) }
+{
+    let signatures = Signatures::new(alloc, context)?;
+    add_nodes(alloc, rules, &signatures)
+}
+
 /// The rules of the program, each met as it is made.
 #[tactic(auto, unfolding(crate::specs::Rules::rules_of))]
 pub fn rules(alloc: Global, context: &Context<'_, '_>) -> Result<Met, AllocError>
     ensures count { IfOk result (λ met. met.count ≡ count_of (program_tree context.now)) }
     ensures rules { IfOk result (λ met. met.rules ≡ rules_of (program_tree context.now)) }
 {
-    let signatures = Signatures::new(alloc, context)?;
     let mut list = Met::new(alloc, context.parameters().len())?;
     add_declared(&mut list, context.parameters())?;
-    add_nodes(alloc, &mut list, &signatures)?;
+    add_all(alloc, &mut list, context)?;
     Ok(list)
 }

@@ -118,6 +118,22 @@ fn of_types(alloc: Global, context: &Context<'_, '_>, fault: Unsolved) -> TypeFa
     }
 }
 
+/// The types of the parameters of all nodes of a program whose names are right.
+fn solved(alloc: Global, context: &Context<'_, '_>) -> Result<Vec<Ty>, TypeFault>
+    ensures arity { IfOk result (λ types. arity_faults (program_tree context.now) ≡ []) }
+    ensures types { IfOk result (λ types. AreTypes (rules_of (program_tree context.now)) (count_of (program_tree context.now)) types.items) }
+    ensures fault { IfErr result (λ fault. (main : Option (List ℕ)) (node : ℕ) → names_of (program_tree context.now) main ≡ Ok node
+        → FailsWith (program_tree context.now) main fault) }
+{
+    if let Some(at) = arity_fault(context) {
+        return Err(TypeFault::Arity(at));
+    }
+    match types(alloc, context) {
+        Ok(types) => Ok(types),
+        Err(fault) => Err(of_types(alloc, context, fault)),
+    }
+}
+
 /// The types of a program whose names these are.
 #[tactic(auto, using(crate::proofs::Opening::names_fault))]
 fn check<'a>(
@@ -135,17 +151,14 @@ fn check<'a>(
     let node = check_names(alloc, names, main)?;
     right_names_stand_for_something();
     let context = Context::new(alloc, names)?;
-    if let Some(at) = arity_fault(&context) {
-        return Err(TypeFault::Arity(at));
-    }
-    match types(alloc, &context) {
+    match solved(alloc, &context) {
         Ok(types) => Ok(Typed {
             program,
             main: node as u32,
             types,
             firsts: context.into_firsts(),
         }),
-        Err(fault) => Err(of_types(alloc, &context, fault)),
+        Err(fault) => Err(fault),
     }
 }
 

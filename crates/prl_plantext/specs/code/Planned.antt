@@ -1,11 +1,12 @@
 -- Graphs that no plan has.
-use Rattle.std.specs.Prelude.{◌≡◌}
+use Rattle.std.specs.Prelude.{◌≡◌, ℕ, List}
 use Rattle.prl_buffers.specs.declared.tables.CellFault.{CellFault}
 use Rattle.prl_buffers.specs.declared.tables.CellFault.TheVariants as cell_faults
 use Rattle.prl_dates.specs.declared.faults.DateFault.{DateFault}
 use Rattle.prl_dates.specs.declared.faults.DateFault.TheVariants as date_faults
 use Rattle.prl_plan.specs.Plans.{PlanView, IsPlan}
 use Rattle.prl_plan.specs.declared.graphs.TaskGraph.{TaskGraph}
+use Rattle.prl_plantext.specs.PlanTexts.{plan_text}
 use Rattle.prl_plantext.specs.declared.plans.PlanFault.{PlanFault}
 use Rattle.prl_plantext.specs.declared.plans.PlanFault.TheVariants as faults
 use Rattle.prl_words.specs.declared.graphs.WordFault.{WordFault}
@@ -15,6 +16,11 @@ use Rattle.prl_words.specs.declared.graphs.WordFault.TheVariants as word_faults
 abbrev pub IsGraphFault : TaskGraph → PlanFault → Type 0
 IsGraphFault graph faults.NotPlan = (plan : PlanView) → IsPlan plan → plan.graph ≡ graph → ⊥
 IsGraphFault graph faults.Memory = Unit {0}
+
+-- the text is not this plan's; want of memory is free
+abbrev pub IsOtherText : PlanView → List ℕ → PlanFault → Type 0
+IsOtherText plan text faults.NotPlan = plan_text plan ≡ text → ⊥
+IsOtherText plan text faults.Memory = Unit {0}
 
 abbrev pub of_words : WordFault → PlanFault
 of_words (word_faults.Limit limit) = faults.NotPlan

@@ -1,4 +1,4 @@
-use Rattle.std.proofs.Common.{◌≡◌, ◌∙◌, ◌&&◌, Bool, true, false, map, refl, sym, ap, Some, None}
+use Rattle.std.proofs.Common.{◌≡◌, ◌∙◌, ◌&&◌, Bool, map, refl, sym, ap, Some, None}
 use Rattle.std.specs.Option.{is_some, option_copied}
 use Rattle.prl_body.specs.Checks.{body_tree, import_named}
 use Rattle.prl_body.specs.Texts.{text_tree}

@@ -2,11 +2,10 @@ use Rattle.std.proofs.Common.{◌≡◌, suc, List, ◌+◌, Result, Ok, sym, ap
 use Rattle.std.proofs.lemmas.List.{drop_all}
 use Rattle.std.proofs.lemmas.Result.{err_from_is_err_and}
 use Rattle.prl_base.specs.declared.values.Ty.{Ty}
-use Rattle.prl_body.specs.declared.codes.Code.{Code}
 use Rattle.prl_body.specs.declared.faults.BodyFault.{BodyFault}
 use Rattle.prl_body.specs.declared.texts.ExprRight.{ExprRight}
 use Rattle.prl_body.specs.Codes.{expression_of, pair_expressions}
-use Rattle.prl_body.specs.Expressions.{Expression, series, Rights}
+use Rattle.prl_body.specs.Expressions.{Expression, Rights}
 use Rattle.prl_body.specs.Texts.{tree_of, pair_trees}
 use Rattle.prl_body.specs.TypeChecks.{typed, typed_rights}
 use Rattle.prl_body.proofs.TextSeries.{tree_of_Series}
@@ -20,12 +19,12 @@ typed-returns-in_err-rights-in-Series t c =
     let tree = tree_of c.in-Series.first.value in
     let rights = pair_trees c.in-Series.rights.items in
     let p = err_from_is_err_and c.from_residual-in_err-rights-in-Series.result c.from_residual-in_err-rights-in-Series.ensures.1 in
-    let first : typed ins registers tree ≡ Ok (expression_of c.in_ok-code-in-Series.code, c.in_ok-code-in-Series.left) = rw c.deref-in-Series.ensures at c.in_ok-code-in-Series.ensures in
+    let code = expression_of c.in_ok-first-in-Series.first.value in
+    let first : typed ins registers tree ≡ Ok (code, c.in_ok-first-in-Series.left) = rw c.deref-in-Series.ensures at c.in_ok-first-in-Series.ensures in
     let later = rw c.deref-in-Series-2.ensures.value at c.in_err-rights-in-Series.ensures in
     let whole = ap (typed ins registers) (tree_of_Series c.in-Series.first c.in-Series.rights) in
     let fault = c.in_err-rights-in-Series.field-0.0 in
-    let code = expression_of c.in_ok-code-in-Series.code in
-    rw (p.1, p.2, c.in-Series.is) (λ other. whole ∙ fails_series ins registers tree rights code c.in_ok-code-in-Series.left fault first (later other))
+    rw (p.1, p.2, c.in-Series.is) (λ other. whole ∙ fails_series ins registers tree rights code c.in_ok-first-in-Series.left fault first (later other))
 
 pub typed-returns-in_ok-rights-in-Series : goal.typed-returns-in_ok-rights-in-Series
 typed-returns-in_ok-rights-in-Series t c =
@@ -33,16 +32,15 @@ typed-returns-in_ok-rights-in-Series t c =
     let registers = c.args.scope.now.registers in
     let tree = tree_of c.in-Series.first.value in
     let rights = pair_trees c.in-Series.rights.items in
-    let code = c.in_ok-code-in-Series.code in
+    let code = expression_of c.in_ok-first-in-Series.first.value in
     let ty = c.in_ok-rights-in-Series.ty in
     let items = c.in_ok-rights-in-Series.rights.items in
-    let first : typed ins registers tree ≡ Ok (expression_of code, c.in_ok-code-in-Series.left) = rw c.deref-in-Series.ensures at c.in_ok-code-in-Series.ensures in
-    let later : typed_rights ins registers c.in_ok-code-in-Series.left rights ≡ Ok (pair_expressions items, ty) = rw c.deref-in-Series-2.ensures.value at c.in_ok-rights-in-Series.ensures in
+    let first : typed ins registers tree ≡ Ok (code, c.in_ok-first-in-Series.left) = rw c.deref-in-Series.ensures at c.in_ok-first-in-Series.ensures in
+    let later : typed_rights ins registers c.in_ok-first-in-Series.left rights ≡ Ok (pair_expressions items, ty) = rw c.deref-in-Series-2.ensures.value at c.in_ok-rights-in-Series.ensures in
     let whole = ap (typed ins registers) (tree_of_Series c.in-Series.first c.in-Series.rights) in
-    let boxed = ap (λ (v : Code). series (expression_of v) (pair_expressions items)) (sym c.in_ok-first-in-Series.ensures.ok) in
     let finish : Expression → Result (Expression × Ty) BodyFault = λ e. Ok (e, ty) in
-    let done = ap finish (boxed ∙ sym (expression_of_Series c.in_ok-first-in-Series.first c.in_ok-rights-in-Series.rights)) in
-    rw c.in-Series.is (whole ∙ typed_series ins registers tree rights (expression_of code) (pair_expressions items) c.in_ok-code-in-Series.left ty first later ∙ done)
+    let done = ap finish (sym (expression_of_Series c.in_ok-first-in-Series.first c.in_ok-rights-in-Series.rights)) in
+    rw c.in-Series.is (whole ∙ typed_series ins registers tree rights code (pair_expressions items) c.in_ok-first-in-Series.left ty first later ∙ done)
 
 pub typed_rights-loop-pair-preserved : goal.typed_rights-loop-pair-preserved
 typed_rights-loop-pair-preserved t c =

@@ -11,6 +11,6 @@ pub loop-equation-preserved : goal.loop-equation-preserved
 loop-equation-preserved c =
     let test = λ (p : Placed). is_some (param_at (program_tree c.args.names.now) c.args.k p.name) in
     let es = c.as_slice-equation-items.result.now in
-    rw (c.in_ok-push_defined.ensures, c.as_slice.ensures)
+    rw (c.in_ok-push_defined.ensures, c.as_slice-in-loop-equation.ensures)
     (defined_from test es c.loop-equation.equation-index c.equation-item.result (all_placed c.loop-equation.list.items) c.loop-equation-test.true c.equation-item.is
     ∙ c.loop-equation.invariant)

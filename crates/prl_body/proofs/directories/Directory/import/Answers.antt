@@ -1,6 +1,6 @@
 use Rattle.prl_body.proofs.FirstOf.{in_table, nothing, nothing_there, one}
 use Rattle.prl_body.proofs.Lookups.{import_name, imports_searched}
-use Rattle.std.proofs.Common.{sym, ◌∙◌}
+use Rattle.std.proofs.Common.{sym}
 use Rattle.prl_body.proofs.directories.Directory.import.Goals as goal
 
 pub returns-in_err-k : goal.returns-in_err-k

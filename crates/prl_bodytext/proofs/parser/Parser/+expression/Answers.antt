@@ -6,7 +6,7 @@ use Rattle.prl_bodytext.specs.declared.levels.Level.TheVariants as levels
 use Rattle.prl_bodytext.specs.declared.words.Fixed.TheVariants as fixed
 use Rattle.prl_bodytext.specs.Grammar.{Operand, Expression, bodies}
 use Rattle.prl_bodytext.specs.Trees.{pair_view}
-use Rattle.prl_bodytext.proofs.Right.{right, pair_steps, operand_fewer, token_fewer, inner_fewer, run_left}
+use Rattle.prl_bodytext.proofs.Right.{right, pair_steps, operand_fewer, token_fewer, after_fewer, run_left}
 use Rattle.prl_bodytext.proofs.parser.Parser.+expression.Goals as goal
 
 pub comparison-pair-requires : goal.comparison-pair-requires
@@ -38,20 +38,15 @@ rights-more-preserved t c =
       shorter = omega (arith, less);
     }
 
-pub conditional-expression-requires-2 : goal.conditional-expression-requires-2
-conditional-expression-requires-2 t c =
+pub conditional-boxed_after-requires-2 : goal.conditional-boxed_after-requires-2
+conditional-boxed_after-requires-2 t c =
     let at = token_fewer fixed.If c.args.self.now _ _ c.in_ok-at.ensures in
-    let opened = token_fewer fixed.Open c.expect.new.self _ _ c.in_ok-expect.ensures in
-    let test = inner_fewer c.expect-2.new.self _ _ c.in_ok-test.ensures in
-    let comma = token_fewer fixed.Comma c.expression.new.self _ _ c.in_ok-expect-2.ensures in
-    (omega (arith, at, opened, test, comma), tt)
+    let test = after_fewer fixed.Open c.expect.new.self _ _ c.in_ok-test.ensures in
+    (omega (arith, at, test), tt)
 
-pub conditional-expression-requires-3 : goal.conditional-expression-requires-3
-conditional-expression-requires-3 t c =
+pub conditional-closing-requires : goal.conditional-closing-requires
+conditional-closing-requires t c =
     let at = token_fewer fixed.If c.args.self.now _ _ c.in_ok-at.ensures in
-    let opened = token_fewer fixed.Open c.expect.new.self _ _ c.in_ok-expect.ensures in
-    let test = inner_fewer c.expect-2.new.self _ _ c.in_ok-test.ensures in
-    let comma = token_fewer fixed.Comma c.expression.new.self _ _ c.in_ok-expect-2.ensures in
-    let chosen = inner_fewer c.expect-3.new.self _ _ c.in_ok-chosen.ensures in
-    let second = token_fewer fixed.Comma c.expression-2.new.self _ _ c.in_ok-expect-3.ensures in
-    (omega (arith, at, opened, test, comma, chosen, second), tt)
+    let test = after_fewer fixed.Open c.expect.new.self _ _ c.in_ok-test.ensures in
+    let chosen = after_fewer fixed.Comma c.boxed_after.new.self _ _ c.in_ok-chosen.ensures in
+    (omega (arith, at, test, chosen), tt)

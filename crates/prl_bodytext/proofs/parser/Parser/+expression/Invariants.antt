@@ -11,6 +11,12 @@ decreases-enclosed l = 32 * length l.self.now
 abbrev pub decreases-conditional : goal.decreases-conditional
 decreases-conditional l = 32 * length l.self.now
 
+abbrev pub decreases-boxed_after : goal.decreases-boxed_after
+decreases-boxed_after l = 32 * length l.self.now
+
+abbrev pub decreases-closing : goal.decreases-closing
+decreases-closing l = 32 * length l.self.now + 1
+
 abbrev pub decreases-pair : goal.decreases-pair
 decreases-pair l = 32 * length l.self.now
 

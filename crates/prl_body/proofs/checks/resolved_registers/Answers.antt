@@ -1,0 +1,59 @@
+use Rattle.std.proofs.Common.{◌≡◌, ◌+◌, suc, [], ◌∷◌, map, drop, drop-cons, add-one, refl, sym, ap, ◌∙◌, Ok, Err}
+use Rattle.std.proofs.lemmas.List.{drop_all}
+use Rattle.std.proofs.lemmas.Result.{err_from_is_err_and}
+use Rattle.prl_base.specs.Reading.{◌>>=◌}
+use Rattle.prl_base.specs.Values.{type_of}
+use Rattle.prl_body.specs.declared.bodies.Register.{Register}
+use Rattle.prl_body.specs.declared.texts.RegisterText.{RegisterText}
+use Rattle.prl_body.specs.Checks.{register_tree, next_value, resolved_registers, statement_named}
+use Rattle.prl_body.specs.Codes.{expression_of}
+use Rattle.prl_body.specs.Texts.{statement_tree}
+use Rattle.prl_body.proofs.Lists.{added_step, added_fails, added_ends}
+use Rattle.prl_body.proofs.checks.resolved_registers.Goals as goal
+
+pub loop-k-preserved : goal.loop-k-preserved
+loop-k-preserved c =
+    let ins = c.args.scope.now.ins in
+    let all = c.args.scope.now.registers in
+    let statements = map statement_tree c.args.statements.now in
+    let k = c.loop-k.k in
+    let register = c.register-item.result in
+    let below = rw c.registers-register-items.ensures at c.loop-k-test.true in
+    let item = rw c.registers-register-items.ensures at c.register-item.is in
+    let next : drop k all ≡ register ∷ drop (k + 1) all =
+    rw add-one (drop-cons all k register below ∙ ap (λ (x : RegisterText). x ∷ drop (suc k) all) (sym item)) in
+    let made : Register = record { name = c.in_ok-name.name; first = register.first; next = c.in_ok-next.next } in
+    let later = resolved_registers ins all statements (k + 1) (drop (k + 1) all) in
+    let is : next_value ins all k (type_of register.first) (statement_named statements register.name) ≡ Ok (expression_of c.in_ok-next.next) = c.in_ok-next.ensures in
+    let named : c.in_ok-name.name ≡ register.name = c.in_ok-name.ensures in
+    let one : resolved_registers ins all statements k (drop k all) ≡ (later >>= λ ys. Ok (register_tree made ∷ ys)) = rw (next, is, named) refl in
+    rw c.in_ok-push.ensures.items (added_step register_tree c.loop-k.resolved.items made (resolved_registers ins all statements k (drop k all)) later
+    (resolved_registers ins all statements 0 all) one c.loop-k.invariant)
+
+pub returns-in_err-next : goal.returns-in_err-next
+returns-in_err-next c =
+    let ins = c.args.scope.now.ins in
+    let all = c.args.scope.now.registers in
+    let statements = map statement_tree c.args.statements.now in
+    let k = c.loop-k.k in
+    let register = c.register-item.result in
+    let below = rw c.registers-register-items.ensures at c.loop-k-test.true in
+    let item = rw c.registers-register-items.ensures at c.register-item.is in
+    let next : drop k all ≡ register ∷ drop (k + 1) all =
+    rw add-one (drop-cons all k register below ∙ ap (λ (x : RegisterText). x ∷ drop (suc k) all) (sym item)) in
+    let p = err_from_is_err_and c.from_residual.result c.from_residual.ensures.1 in
+    let left = resolved_registers ins all statements k (drop k all) in
+    rw (p.1, p.2) (λ other.
+    let one : left ≡ Err c.in_err-next.field-0.0 = rw (next, c.in_err-next.ensures other) refl in
+    added_fails (map register_tree c.loop-k.resolved.items) left (resolved_registers ins all statements 0 all) c.in_err-next.field-0.0 one c.loop-k.invariant)
+
+pub returns : goal.returns
+returns c =
+    let ins = c.args.scope.now.ins in
+    let all = c.args.scope.now.registers in
+    let statements = map statement_tree c.args.statements.now in
+    let k = c.loop-k.k in
+    let past = rw c.registers-register-items.ensures at c.loop-k-test.false in
+    let left = resolved_registers ins all statements k (drop k all) in
+    let over : left ≡ Ok [] = rw (drop_all k all past) refl in
+    added_ends (map register_tree c.loop-k.resolved.items) left (resolved_registers ins all statements 0 all) over c.loop-k.invariant
