@@ -7,7 +7,7 @@ ghost use Rattle.prl_expand.specs.Expanding.{IsExpanded};
 ghost use Rattle.prl_flow.specs.Uses.{IsOrder};
 ghost use Rattle.prl_graph.specs.TaskGraphs.{IsGraphOf};
 ghost use Rattle.prl_types.specs.Typing.{IsTyped};
-ghost use Rattle.prl_stages.specs.Flattened.{HasClocks};
+ghost use Rattle.prl_stages.specs.Flattened.{HasClocks, IsFlattened};
 ghost use Rattle.prl_stages.specs.Parts.{IsMain, IsProgram};
 ghost use Rattle.prl_stages.specs.Planned.{HasPlan, HasWords};
 ghost use Rattle.prl_stages.specs.Stages.{front, graphed, named_bodies, planned, stages_after};
@@ -25,6 +25,19 @@ use prl_stages::{MAX_BODIES, MAX_PROGRAM, Stage, Stop};
 use prl_types::Typed;
 use std::alloc::Global;
 
+/// An order of the flat program's flows, and their clocks.
+fn order_and_clocks(alloc: Global, request: &Request, flat: &Flat) -> Result<(Order, Clocks), Stop>
+    requires { IsFlattened (given_of request.now) flat.now }
+    ensures order { IfOk result (λ f. IsOrder flat.now f.0.flows) }
+    ensures clocks { IfOk result (λ f. HasClocks (given_of request.now) flat.now f.1.of) }
+    ensures holds { IfOk result (λ _. AllHold (given_of request.now) (Stage.Causality ∷ Stage.Clocks ∷ [])) }
+    ensures stop { IfErr result (StopsIn (given_of request.now) (Stage.Causality ∷ Stage.Clocks ∷ [])) }
+{
+    let order = ordered(alloc, request, flat)?;
+    let clocks = clocked(alloc, request, flat)?;
+    Ok((order, clocks))
+}
+
 /// The flat program with an order of its flows and their clocks.
 pub fn flat_of(
     alloc: Global,
@@ -40,8 +53,8 @@ pub fn flat_of(
     ensures stop { IfErr result (StopsIn (given_of request.now) (Stage.Expansion ∷ Stage.Causality ∷ Stage.Clocks ∷ [])) }
 {
     let flat = flattened(alloc, request, typed)?;
-    let order = ordered(alloc, request, &flat)?;
-    let clocks = clocked(alloc, request, &flat)?;
+    let made = order_and_clocks(alloc, request, &flat)?;
+    let (order, clocks) = made;
     Ok((flat, order, clocks))
 }
 
@@ -108,17 +121,15 @@ pub fn make_graphed(
     Ok((graph, words))
 }
 
-/// The same, with the task graph and its words.
-fn read_graphed(alloc: Global, request: &Request) -> Result<(Front, (TaskGraph, Words)), Stop>
+/// The task graph of the program with its words.
+fn read_graphed(alloc: Global, request: &Request) -> Result<(TaskGraph, Words), Stop>
     requires program { length request.now.texts.program.items ≤ MAX_PROGRAM }
-    ensures main { IfOk result (λ made. IsMain (given_of request.now) (program_tree made.0.program) made.0.main) }
-    ensures found { IfOk result (λ made. HasWords (given_of request.now) made.1.0 made.1.1.of) }
+    ensures found { IfOk result (λ made. HasWords (given_of request.now) made.0 made.1.of) }
     ensures holds { IfOk result (λ _. AllHold (given_of request.now) (front ++ graphed)) }
     ensures stop { IfErr result (StopsIn (given_of request.now) (front ++ graphed)) }
 {
     let front = read_front(alloc, request)?;
-    let made = make_graphed(alloc, request, &front.flat, &front.clocks)?;
-    Ok((front, made))
+    make_graphed(alloc, request, &front.flat, &front.clocks)
 }
 
 /// The plan of the task graph with its words.
@@ -146,7 +157,7 @@ pub fn planned_program(alloc: Global, request: &Request) -> Result<Plan, Stop>
     ensures stop { IfErr result (StopsIn (given_of request.now) (front ++ graphed ++ planned)) }
 {
     let made = read_graphed(alloc, request)?;
-    make_planned(alloc, request, made.1)
+    make_planned(alloc, request, made)
 }
 
 /// Looks at the bodies, where their file is named.
@@ -162,6 +173,36 @@ fn check_named_bodies(alloc: Global, request: &Request, front: &Front) -> Result
     Ok(())
 }
 
+/// The task graph with its words; then the bodies are looked at, where their file is named.
+fn checked_graphed(
+    alloc: Global,
+    request: &Request,
+    front: &Front,
+) -> Result<(TaskGraph, Words), Stop>
+    requires main { IsMain (given_of request.now) (program_tree front.now.program) front.now.main }
+    requires clocks { HasClocks (given_of request.now) front.now.flat front.now.clocks.of }
+    requires bodies { length request.now.texts.bodies.items ≤ MAX_BODIES }
+    ensures found { IfOk result (λ made. HasWords (given_of request.now) made.0 made.1.of) }
+    ensures holds { IfOk result (λ _. AllHold (given_of request.now) (graphed ++ named_bodies request.now.named)) }
+    ensures stop { IfErr result (StopsIn (given_of request.now) (graphed ++ named_bodies request.now.named)) }
+{
+    let made = make_graphed(alloc, request, &front.flat, &front.clocks)?;
+    check_named_bodies(alloc, request, front)?;
+    Ok(made)
+}
+
+/// The task graph of the program with its words, where bodies whose file is named are right.
+fn read_checked(alloc: Global, request: &Request) -> Result<(TaskGraph, Words), Stop>
+    requires program { length request.now.texts.program.items ≤ MAX_PROGRAM }
+    requires bodies { length request.now.texts.bodies.items ≤ MAX_BODIES }
+    ensures found { IfOk result (λ made. HasWords (given_of request.now) made.0 made.1.of) }
+    ensures holds { IfOk result (λ _. AllHold (given_of request.now) (front ++ graphed ++ named_bodies request.now.named)) }
+    ensures stop { IfErr result (StopsIn (given_of request.now) (front ++ graphed ++ named_bodies request.now.named)) }
+{
+    let front = read_front(alloc, request)?;
+    checked_graphed(alloc, request, &front)
+}
+
 /// The plan of the program, whose bodies are looked at where their file is named.
 pub fn checked_plan(alloc: Global, request: &Request) -> Result<Plan, Stop>
     requires program { length request.now.texts.program.items ≤ MAX_PROGRAM }
@@ -170,7 +211,6 @@ pub fn checked_plan(alloc: Global, request: &Request) -> Result<Plan, Stop>
     ensures holds { IfOk result (λ _. AllHold (given_of request.now) (stages_after Mode.Check request.now.named)) }
     ensures stop { IfErr result (StopsIn (given_of request.now) (stages_after Mode.Check request.now.named)) }
 {
-    let made = read_graphed(alloc, request)?;
-    check_named_bodies(alloc, request, &made.0)?;
-    make_planned(alloc, request, made.1)
+    let made = read_checked(alloc, request)?;
+    make_planned(alloc, request, made)
 }

@@ -1,7 +1,7 @@
 //! The last stages of mode `cores`: the tasks are placed on the processors of the text, the schedule is done on the machine of the
 //! plan that is spread so, or the dispatched list where no schedule is named, and what this tells is written.
 
-ghost use Rattle.std.specs.Prelude.{◌≡◌, ◌≢◌, ◌≤◌, List, Some, Ok, IfOk, IfErr, IfSome, length};
+ghost use Rattle.std.specs.Prelude.{◌≡◌, ◌≢◌, ◌≤◌, List, [], ◌∷◌, Some, Ok, IfOk, IfErr, IfSome, length};
 ghost use Rattle.prl_core.specs.Cores.{opened_on};
 ghost use Rattle.prl_cores.specs.Processors.{IsOfTasks};
 ghost use Rattle.prl_cores.specs.Spreads.{SpreadView, IsSpreadOf};
@@ -170,6 +170,17 @@ fn placed_of(
     }
 }
 
+/// The text of the run on the processors that the text of the command gives, after the stages of a run.
+fn placed_text(alloc: Global, request: &Request, ready: &Ready) -> Result<Vec<u8>, Stop>
+    requires { IsReady (given_of request.now) ready.now }
+    ensures text { IfOk result (λ text. IsText (given_of request.now) Mode.Cores text.items) }
+    ensures holds { IfOk result (λ _. AllHold (given_of request.now) (Stage.Cores ∷ Stage.Placed ∷ [])) }
+    ensures stop { IfErr result (StopsIn (given_of request.now) (Stage.Cores ∷ Stage.Placed ∷ [])) }
+{
+    let spread = make_placement(alloc, request, &ready.plan)?;
+    placed_of(alloc, request, ready, &spread)
+}
+
 /// Mode `cores`.
 pub fn cores_text(alloc: Global, request: &Request) -> Result<Vec<u8>, Stop>
     requires program { length request.now.texts.program.items ≤ MAX_PROGRAM }
@@ -179,6 +190,5 @@ pub fn cores_text(alloc: Global, request: &Request) -> Result<Vec<u8>, Stop>
     ensures stop { IfErr result (StopsIn (given_of request.now) (stages_after Mode.Cores request.now.named)) }
 {
     let ready = make_ready(alloc, request)?;
-    let spread = make_placement(alloc, request, &ready.plan)?;
-    placed_of(alloc, request, &ready, &spread)
+    placed_text(alloc, request, &ready)
 }

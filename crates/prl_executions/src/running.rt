@@ -91,9 +91,10 @@ fn ended_text(
     request: &Request,
     ready: &Ready,
     gate: Gate,
-) -> Result<(Vec<u8>, Ran), AllocError>
+) -> Result<(Vec<u8>, Ran), Stop>
     requires { IsReady (given_of request.now) ready.now }
-    ensures { IfOk result (λ made. IsRunText (given_of request.now) gate made.0.items made.1) }
+    ensures text { IfOk result (λ made. IsRunText (given_of request.now) gate made.0.items made.1) }
+    ensures stop { IfErr result (λ stop. stop ≡ Stop.Memory) }
 {
     let closed = closed_alone(alloc, ready, gate)?;
     let text = text_of(alloc, request, ready, gate, &closed)?;
@@ -109,7 +110,7 @@ pub fn run_text(alloc: Global, request: &Request, gate: Gate) -> Result<(Vec<u8>
     ensures stop { IfErr result (StopsIn (given_of request.now) (front ++ ran)) }
 {
     let ready = make_ready(alloc, request)?;
-    Ok(ended_text(alloc, request, &ready, gate)?)
+    ended_text(alloc, request, &ready, gate)
 }
 
 /// What a run of several workers has come to.
@@ -119,6 +120,23 @@ pub enum Outcome {
     Ended(Vec<u8>, Ran),
     /// A read was overrun: the plan, and where that was.
     Overrun(Plan, Stopped),
+}
+
+/// What a run of several workers has come to where all jobs have ended.
+fn ended_outcome(
+    alloc: Global,
+    request: &Request,
+    ready: &Ready,
+    gate: Gate,
+    closed: Closed,
+) -> Result<Outcome, AllocError>
+    requires ready { IsReady (given_of request.now) ready.now }
+    requires known { closed.constants ≡ Some (known ready.now.plan ready.now.horizon gate ready.now.sensors ready.now.bodies) }
+    requires ended { HasEnded closed }
+    ensures { IfOk result (IsOutcome (given_of request.now) gate) }
+{
+    let text = text_of(alloc, request, ready, gate, &closed)?;
+    Ok(Outcome::Ended(text, Ran::Ended(closed)))
 }
 
 /// Mode `run` with several workers, after its stages. It may wait.
@@ -146,10 +164,7 @@ fn outcome_of<R: Threads + Wait + Sync, P: Probe>(
         workers,
         probe,
     ) {
-        Ok(closed) => {
-            let text = text_of(alloc, request, &ready, gate, &closed)?;
-            Ok(Outcome::Ended(text, Ran::Ended(closed)))
-        }
+        Ok(closed) => ended_outcome(alloc, request, &ready, gate, closed),
         Err(RunFault::Overrun(stopped)) => Ok(Outcome::Overrun(ready.plan, stopped)),
         Err(RunFault::Memory) => Err(AllocError),
     }

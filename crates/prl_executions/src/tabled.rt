@@ -153,6 +153,17 @@ fn cycled(
     }
 }
 
+/// The run by the table that the text tells, after the stages of a run.
+fn cycle_of(alloc: Global, request: &Request, ready: &Ready) -> Result<(Vec<u8>, Ran), Stop>
+    requires { IsReady (given_of request.now) ready.now }
+    ensures text { IfOk result (λ made. IsCycleText (given_of request.now) made.0.items made.1) }
+    ensures holds { IfOk result (λ _. Holds (given_of request.now) Stage.Table) }
+    ensures stop { IfErr result (StopsAt (given_of request.now) Stage.Table) }
+{
+    let table = told_table(alloc, request, &ready.plan)?;
+    cycled(alloc, request, ready, &table)
+}
+
 /// Mode `cycle`.
 pub fn cycle_text(alloc: Global, request: &Request) -> Result<(Vec<u8>, Ran), Stop>
     requires program { length request.now.texts.program.items ≤ MAX_PROGRAM }
@@ -162,6 +173,5 @@ pub fn cycle_text(alloc: Global, request: &Request) -> Result<(Vec<u8>, Ran), St
     ensures stop { IfErr result (StopsIn (given_of request.now) ((front ++ ran) ++ (Stage.Table ∷ []))) }
 {
     let ready = make_ready(alloc, request)?;
-    let table = told_table(alloc, request, &ready.plan)?;
-    cycled(alloc, request, &ready, &table)
+    cycle_of(alloc, request, &ready)
 }

@@ -17,7 +17,7 @@ ghost use Rattle.prl_stages.specs.Parts.{AreBodies, IsMain, IsProgram};
 ghost use Rattle.prl_stages.specs.Runs.{HasRows};
 ghost use Rattle.prl_stages.specs.Stages.{Holds, IsText, stages_after};
 ghost use Rattle.prl_calls.specs.Stops.{given_of, AllHold, StopsAt, StopsIn};
-ghost use Rattle.prl_planning.specs.code.Flows.{HasRowsUntil, IsEvaluated};
+ghost use Rattle.prl_planning.specs.code.Flows.{HasRowsUntil, IsEvaluated, flow_stages};
 
 use prl_arguments::Mode;
 use prl_base::FlowNo;
@@ -129,6 +129,24 @@ fn run_of(alloc: Global, request: &Request, typed: &Typed<'_>) -> Result<Run, St
     Ok(run_with(alloc, request, front, bodies)?)
 }
 
+/// The text of the flows of a typed program.
+fn typed_flows(alloc: Global, request: Request, typed: &Typed<'_>) -> Result<Vec<u8>, Stop>
+    requires program { IsProgram (given_of request) (program_tree typed.now.program) }
+    requires bodies { length request.texts.bodies.items ≤ MAX_BODIES }
+    requires until { request.until < 2 ^ 31 }
+    requires main { IsMain (given_of request) (program_tree typed.now.program) typed.now.main }
+    requires typed { IsTyped (program_tree typed.now.program) (given_of request).node typed.now.main typed.now.types }
+    ensures text { IfOk result (λ text. IsText (given_of request) Mode.Flows text.items) }
+    ensures holds { IfOk result (λ _. AllHold (given_of request) flow_stages) }
+    ensures stop { IfErr result (StopsIn (given_of request) flow_stages) }
+{
+    let run = run_of(alloc, &request, typed)?;
+    let until = request.until;
+    // What comes now needs no text any more, and the rows' text may be long.
+    drop(request);
+    flows_of(alloc, until, typed, &run)
+}
+
 /// Mode `flows`.
 pub fn flows_text(alloc: Global, request: Request) -> Result<Vec<u8>, Stop>
     requires program { length request.texts.program.items ≤ MAX_PROGRAM }
@@ -140,9 +158,5 @@ pub fn flows_text(alloc: Global, request: Request) -> Result<Vec<u8>, Stop>
 {
     let program = read_program(alloc, &request)?;
     let typed = check_types(alloc, &request, &program)?;
-    let run = run_of(alloc, &request, &typed)?;
-    let until = request.until;
-    // What comes now needs no text any more, and the rows' text may be long.
-    drop(request);
-    flows_of(alloc, until, &typed, &run)
+    typed_flows(alloc, request, &typed)
 }

@@ -168,6 +168,17 @@ fn make_table(alloc: Global, request: &Request, plan: &Plan) -> Result<Table, St
     }
 }
 
+/// The text of the table that is made of the plan.
+fn table_of(alloc: Global, request: &Request, plan: &Plan) -> Result<Vec<u8>, Stop>
+    requires { HasPlan (given_of request.now) plan.now }
+    ensures text { IfOk result (λ text. IsText (given_of request.now) Mode.Table text.items) }
+    ensures holds { IfOk result (λ _. Holds (given_of request.now) Stage.Made) }
+    ensures stop { IfErr result (StopsAt (given_of request.now) Stage.Made) }
+{
+    let table = make_table(alloc, request, plan)?;
+    Ok(table_text(alloc, plan, &table)?)
+}
+
 /// Mode `table`.
 pub fn made_text(alloc: Global, request: &Request) -> Result<Vec<u8>, Stop>
     requires program { length request.now.texts.program.items ≤ MAX_PROGRAM }
@@ -176,6 +187,5 @@ pub fn made_text(alloc: Global, request: &Request) -> Result<Vec<u8>, Stop>
     ensures stop { IfErr result (StopsIn (given_of request.now) (stages_after Mode.Table request.now.named)) }
 {
     let plan = planned_program(alloc, request)?;
-    let table = make_table(alloc, request, &plan)?;
-    Ok(table_text(alloc, &plan, &table)?)
+    table_of(alloc, request, &plan)
 }

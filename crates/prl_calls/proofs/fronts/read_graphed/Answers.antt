@@ -1,11 +1,17 @@
-use Rattle.std.proofs.lemmas.Result.{err_from_is_err_and}
+use Rattle.std.proofs.Common.{◌++◌}
 use Rattle.prl_stages.specs.Stages.{front, graphed}
-use Rattle.prl_calls.specs.Stops.{given_of}
-use Rattle.prl_calls.proofs.Stops.{stops_rest}
+use Rattle.prl_calls.specs.Stops.{given_of, AllHold, StopsIn}
+use Rattle.prl_calls.proofs.Stops.{both_hold, err_map, ok_map, stops_rest}
 use Rattle.prl_calls.proofs.fronts.read_graphed.Goals as goal
 
-pub returns-in_err-made-clause-stop : goal.returns-in_err-made-clause-stop
-returns-in_err-made-clause-stop c =
-    let p = err_from_is_err_and c.from_residual-in_err-made.result c.from_residual-in_err-made.ensures.1 in
-    rw (p.1, p.2)
-    (stops_rest (given_of c.args.request.now) front graphed c.in_err-made.field-0.0 c.in_ok-front.ensures.holds c.in_err-made.ensures.stop)
+pub returns-clause-holds : goal.returns-clause-holds
+returns-clause-holds c =
+    let g = given_of c.args.request.now in
+    ok_map c.make_graphed.result (λ _. AllHold g graphed) (λ _. AllHold g (front ++ graphed))
+    (λ made holds. both_hold g front graphed c.in_ok-front.ensures.holds holds) c.make_graphed.ensures.holds
+
+pub returns-clause-stop : goal.returns-clause-stop
+returns-clause-stop c =
+    let g = given_of c.args.request.now in
+    err_map c.make_graphed.result (StopsIn g graphed) (StopsIn g (front ++ graphed))
+    (λ stop at. stops_rest g front graphed stop c.in_ok-front.ensures.holds at) c.make_graphed.ensures.stop

@@ -1,11 +1,10 @@
-use Rattle.std.proofs.Common.{◌++◌, List, [], ◌∷◌, inl, inr}
+use Rattle.std.proofs.Common.{◌++◌, List, [], ◌∷◌}
 use Rattle.std.proofs.lemmas.Result.{err_from_is_err_and}
 use Rattle.prl_arguments.specs.declared.arguments.Mode.TheVariants as modes
 use Rattle.prl_stages.specs.declared.stages.Stage.{Stage}
 use Rattle.prl_stages.specs.declared.stages.Stage.TheVariants as stages
-use Rattle.prl_stages.specs.Stages.{Holds, front, ran, stages_after}
-use Rattle.prl_calls.specs.Stops.{given_of, AllHold, StopsAt, StopsIn}
-use Rattle.prl_executions.proofs.Preparing.{has_plan_there}
+use Rattle.prl_stages.specs.Stages.{front, ran, stages_after}
+use Rattle.prl_calls.specs.Stops.{given_of, AllHold, StopsIn}
 use Rattle.prl_calls.proofs.Stops.{both_hold, err_map, ok_map, stops_first, stops_rest}
 use Rattle.prl_executions.proofs.placed.cores_text.Goals as goal
 
@@ -16,27 +15,19 @@ first = front ++ ran
 abbrev last : List Stage
 last = stages.Cores ∷ stages.Placed ∷ []
 
-pub make_placement-requires : goal.make_placement-requires
-make_placement-requires c = has_plan_there (given_of c.args.request.now) c.in_ok-ready.ready c.in_ok-ready.ensures.ready
-
 pub returns-in_err-ready-clause-stop : goal.returns-in_err-ready-clause-stop
 returns-in_err-ready-clause-stop c =
     let x = err_from_is_err_and c.from_residual.result c.from_residual.ensures.1 in
     rw (x.1, x.2) (stops_first (given_of c.args.request.now) first last c.in_err-ready.field-0.0 c.in_err-ready.ensures.stop)
 
-pub returns-in_err-spread-clause-stop : goal.returns-in_err-spread-clause-stop
-returns-in_err-spread-clause-stop c =
-    let x = err_from_is_err_and c.from_residual-in_err-spread.result c.from_residual-in_err-spread.ensures.1 in
-    rw (x.1, x.2) (stops_rest (given_of c.args.request.now) first last c.in_err-spread.field-0.0 c.in_ok-ready.ensures.holds (inl c.in_err-spread.ensures.stop))
-
 pub returns-clause-holds : goal.returns-clause-holds
 returns-clause-holds c =
     let g = given_of c.args.request.now in
-    ok_map c.placed_of.result (λ _. Holds g stages.Placed) (λ _. AllHold g (stages_after modes.Cores (c.args.request.now.named)))
-    (λ text placed. both_hold g first last c.in_ok-ready.ensures.holds (c.in_ok-spread.ensures.holds, (placed, tt))) c.placed_of.ensures.holds
+    ok_map c.placed_text.result (λ _. AllHold g last) (λ _. AllHold g (stages_after modes.Cores (c.args.request.now.named)))
+    (λ text holds. both_hold g first last c.in_ok-ready.ensures.holds holds) c.placed_text.ensures.holds
 
 pub returns-clause-stop : goal.returns-clause-stop
 returns-clause-stop c =
     let g = given_of c.args.request.now in
-    err_map c.placed_of.result (StopsAt g stages.Placed) (StopsIn g (stages_after modes.Cores (c.args.request.now.named)))
-    (λ stop at. stops_rest g first last stop c.in_ok-ready.ensures.holds (inr (c.in_ok-spread.ensures.holds, inl at))) c.placed_of.ensures.stop
+    err_map c.placed_text.result (StopsIn g last) (StopsIn g (stages_after modes.Cores (c.args.request.now.named)))
+    (λ stop at. stops_rest g first last stop c.in_ok-ready.ensures.holds at) c.placed_text.ensures.stop
