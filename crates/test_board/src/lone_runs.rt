@@ -1,7 +1,9 @@
 //! Boards that one thread runs with all seats in one hand.
 
-ghost use Rattle.std.specs.Prelude.{◌≡◌, ◌<◌, ◌≤◌, length};
+ghost use Rattle.std.specs.Prelude.{◌≡◌, ◌<◌, ◌≤◌, [], length};
 ghost use Rattle.std.specs.Vec.{vec_items};
+ghost use Rattle.prl_plan.specs.Horizons.{IsHorizon};
+ghost use Rattle.prl_values.specs.Fitting.{HaveTaskBodies, HaveTypedRows};
 ghost use Rattle.prl_rule.specs.declared.views.ClockPart.{ClockPart};
 ghost use Rattle.prl_board.specs.ClockSeats.{IsClockOf};
 ghost use Rattle.prl_board.specs.Lones.{AreSeatsOf, IsLoneOf};
@@ -12,6 +14,8 @@ use crate::pairs::{pair, shown};
 use prl_base::TaskNo;
 use prl_board::{Board, ClockSeat, Closed, Lone, Place, Steps, TaskSeat, gather, open_board};
 use prl_body::Bodies;
+use prl_flow::Sensors;
+use prl_plan::{Horizon, Plan};
 use std::alloc::Global;
 use std::marker::Brand;
 use std::sync::ledger::{Blank, Ledger};
@@ -63,7 +67,7 @@ fn step<L: Ledger>(lone: &mut Lone, board: &Board, letter: u8, steps: &mut Steps
 }
 
 /// Does the moves of a case. What the last one did, where each did what its letter says.
-fn play<L: Ledger>(lone: &mut Lone, board: &Board, case: Case, steps: &mut Steps<L>) -> Option<Did>
+fn play<L: Ledger>(lone: &mut Lone, board: &Board, case: &Case, steps: &mut Steps<L>) -> Option<Did>
     requires lone { IsLoneOf board.now lone.old }
     requires tasks { 2 ≤ length lone.old.seats }
     ensures lone { IsLoneOf board.now lone.new }
@@ -95,7 +99,7 @@ fn holds_on<L: Ledger>(
     board: Board,
     seats: Vec<TaskSeat>,
     clock: ClockSeat,
-    case: Case,
+    case: &Case,
 ) -> bool
     requires name { blank.name ≡ L.name }
     requires parts { (blank.parts ≡ L.parts) × (0 < blank.parts) }
@@ -109,20 +113,41 @@ fn holds_on<L: Ledger>(
     shown(&closed_pair(lone, board)) == case.shown && last == Some(case.last)
 }
 
-/// Whether a case holds on a new board.
-fn holds(alloc: Global, case: Case) -> Result<bool, Fail> {
-    let (plan, sensors, horizon) = pair(alloc)?;
+/// Whether a case holds on a new board of the pair.
+fn holds(
+    alloc: Global,
+    plan: &Plan,
+    sensors: &Sensors,
+    horizon: Horizon,
+    case: &Case,
+) -> Result<bool, Fail>
+    requires pair { IsPair plan.now }
+    requires horizon { IsHorizon plan.now horizon }
+    requires bodies { HaveTaskBodies plan.now.graph [] }
+    requires rows { HaveTypedRows plan.now.graph horizon.until sensors.now }
+{
     let bodies = Bodies::none(alloc);
-    let (board, seats, clock) = open_board(alloc, &plan, &bodies, &sensors, horizon, case.gate)?;
+    let (board, seats, clock) = open_board(alloc, plan, &bodies, sensors, horizon, case.gate)?;
     Ok(holds_on::<Brand>(Blank::new(1), board, seats, clock, case))
 }
 
-#[test]
-fn each_case_holds_for_one_thread(rt: HostRuntime) -> Result<(), Fail> {
-    for case in CASES {
-        if !holds(rt.alloc(), case)? {
+/// Fails with the name of the first case that does not hold.
+fn each_holds(alloc: Global, plan: &Plan, sensors: &Sensors, horizon: Horizon) -> Result<(), Fail>
+    requires pair { IsPair plan.now }
+    requires horizon { IsHorizon plan.now horizon }
+    requires bodies { HaveTaskBodies plan.now.graph [] }
+    requires rows { HaveTypedRows plan.now.graph horizon.until sensors.now }
+{
+    for case in CASES.iter() {
+        if !holds(alloc, plan, sensors, horizon, case)? {
             return Err(case.name.into());
         }
     }
     Ok(())
+}
+
+#[test]
+fn each_case_holds_for_one_thread(rt: HostRuntime) -> Result<(), Fail> {
+    let made = pair(rt.alloc())?;
+    each_holds(rt.alloc(), &made.0, &made.1, made.2)
 }

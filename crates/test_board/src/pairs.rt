@@ -6,24 +6,13 @@ ghost use Rattle.prl_values.specs.Fitting.{HaveTaskBodies, HaveTypedRows};
 ghost use Rattle.test_board.specs.Pairs.{IsClosedPair, IsPair};
 
 use crate::cases::Shown;
-use prl_base::{CellNo, Seq, TaskNo, Value};
+use prl_base::{CellNo, TaskNo, Value};
 use prl_board::{Closed, Half};
 use prl_flow::Sensors;
 use prl_plan::{Horizon, Kind, Plan, plan_is_one};
-use std::alloc::{AllocError, Global};
+use std::alloc::Global;
 use std::test::Fail;
-use test_plans::{are_served, horizon_of, plan_of};
-
-const PAIR: &[u8] = b"plan 1
-hyperperiod 10
-task 0 i sensor period 10 start 0 due 10 wcet 1
-task 1 o actuator period 10 start 0 due 10 wcet 1
-dates 0 0:9
-dates 1 1:10
-edge 0 from 0.0 to 1.0 type int period 10 ops none
-word 0 prefix 0 repeat 0 step 1 1
-cells 0 base 0 count 1
-";
+use test_plans::{COPIED_PLAN, plan_served};
 
 /// Whether the second task of a plan is its first actuator's, and it has a cell.
 fn is_pair(plan: &Plan) -> bool
@@ -34,12 +23,6 @@ fn is_pair(plan: &Plan) -> bool
     tasks.len() >= 2 && tasks[1].kind == Kind::Actuator(0) && plan.total() > 0
 }
 
-/// The rows of the sensor.
-fn rows(alloc: Global) -> Result<Vec<Seq<Value>>, AllocError> {
-    let rows = Seq::new(vec![in alloc; Value::Int(1), Value::Int(2)]?);
-    Ok(vec![in alloc; rows]?)
-}
-
 /// The plan of the pair with its rows, and the horizon up to 20.
 pub(crate) fn pair(alloc: Global) -> Result<(Plan, Sensors, Horizon), Fail>
     ensures pair { IfOk result (λ r. IsPair r.0) }
@@ -47,18 +30,18 @@ pub(crate) fn pair(alloc: Global) -> Result<(Plan, Sensors, Horizon), Fail>
     ensures bodies { IfOk result (λ r. HaveTaskBodies r.0.graph []) }
     ensures rows { IfOk result (λ r. HaveTypedRows r.0.graph r.2.until r.1) }
 {
-    let plan = plan_of(alloc, PAIR)?;
-    let horizon = horizon_of(&plan, 20)?;
-    let rows = rows(alloc)?;
-    if !is_pair(&plan) || !are_served(&plan, horizon, rows.as_slice()) {
-        return Err("another plan, or too few rows".into());
+    let rows = [Value::Int(1), Value::Int(2)];
+    let made = plan_served(alloc, COPIED_PLAN, 1, rows.as_slice(), 20)?;
+    if is_pair(&made.0) {
+        Ok(made)
+    } else {
+        Err("another plan".into())
     }
-    Ok((plan, Sensors::new(rows), horizon))
 }
 
 /// Of how many of the sensor's rows, from the first one on, these are the values.
 fn count_of(values: &[Value]) -> usize {
-    if values == [].as_slice() {
+    if values.is_empty() {
         0
     } else if values == [Value::Int(1)].as_slice() {
         1

@@ -1,7 +1,9 @@
 //! Boards whose seats stay apart, run in one thread.
 
-ghost use Rattle.std.specs.Prelude.{◌≡◌, ◌<◌, ◌≤◌};
+ghost use Rattle.std.specs.Prelude.{◌≡◌, ◌<◌, ◌≤◌, []};
 ghost use Rattle.std.specs.Vec.{vec_items};
+ghost use Rattle.prl_plan.specs.Horizons.{IsHorizon};
+ghost use Rattle.prl_values.specs.Fitting.{HaveTaskBodies, HaveTypedRows};
 ghost use Rattle.prl_rule.specs.declared.views.ClockPart.{ClockPart};
 ghost use Rattle.prl_rule.specs.Known.{run_of};
 ghost use Rattle.prl_seats.specs.JobSeats.{IsSeatOf};
@@ -15,6 +17,8 @@ use crate::pairs::{pair, shown};
 use prl_base::TaskNo;
 use prl_board::{Board, ClockSeat, Closed, Got, Place, TaskSeat, Ticked, close, open_board};
 use prl_body::Bodies;
+use prl_flow::Sensors;
+use prl_plan::{Horizon, Plan};
 use std::alloc::Global;
 use std::test::Fail;
 
@@ -107,7 +111,7 @@ fn step(board: &Board, seats: &mut Vec<TaskSeat>, clock: &mut ClockSeat, letter:
 }
 
 /// Does the moves of a case. What the last one did, where each did what its letter says.
-fn play(board: &Board, seats: &mut Vec<TaskSeat>, clock: &mut ClockSeat, case: Case) -> Option<Did>
+fn play(board: &Board, seats: &mut Vec<TaskSeat>, clock: &mut ClockSeat, case: &Case) -> Option<Did>
     requires seats { AreSeatsOf board.now (vec_items seats.old) }
     requires clock { (r : ClockPart) × IsClockOf board.now clock.old r }
     requires tasks { 2 ≤ (run_of board.now.known).tasks }
@@ -136,7 +140,7 @@ fn is_told(board: &Board, seats: &mut Vec<TaskSeat>, task: usize, stop: Option<T
 }
 
 /// Whether the moves of a case come to what it says, and each seat is then told of its stop.
-fn comes_to(board: &Board, seats: &mut Vec<TaskSeat>, clock: &mut ClockSeat, case: Case) -> bool
+fn comes_to(board: &Board, seats: &mut Vec<TaskSeat>, clock: &mut ClockSeat, case: &Case) -> bool
     requires seats { AreSeatsOf board.now (vec_items seats.old) }
     requires clock { (r : ClockPart) × IsClockOf board.now clock.old r }
     requires tasks { 2 ≤ (run_of board.now.known).tasks }
@@ -161,7 +165,7 @@ pub(crate) fn closed_pair(board: Board, seats: Vec<TaskSeat>, clock: ClockSeat) 
 }
 
 /// Whether the moves of a case on this board come to what it says, and the closed board shows it.
-fn holds_on(board: Board, mut seats: Vec<TaskSeat>, mut clock: ClockSeat, case: Case) -> bool
+fn holds_on(board: Board, mut seats: Vec<TaskSeat>, mut clock: ClockSeat, case: &Case) -> bool
     requires seats { AreSeatsOf board (vec_items seats) }
     requires clock { (r : ClockPart) × IsClockOf board clock r }
     requires pair { IsPair board.known.plan }
@@ -170,20 +174,41 @@ fn holds_on(board: Board, mut seats: Vec<TaskSeat>, mut clock: ClockSeat, case: 
     shown(&closed_pair(board, seats, clock)) == case.shown && same
 }
 
-/// Whether a case holds on a new board.
-fn holds(alloc: Global, case: Case) -> Result<bool, Fail> {
-    let (plan, sensors, horizon) = pair(alloc)?;
+/// Whether a case holds on a new board of the pair.
+fn holds(
+    alloc: Global,
+    plan: &Plan,
+    sensors: &Sensors,
+    horizon: Horizon,
+    case: &Case,
+) -> Result<bool, Fail>
+    requires pair { IsPair plan.now }
+    requires horizon { IsHorizon plan.now horizon }
+    requires bodies { HaveTaskBodies plan.now.graph [] }
+    requires rows { HaveTypedRows plan.now.graph horizon.until sensors.now }
+{
     let bodies = Bodies::none(alloc);
-    let (board, seats, clock) = open_board(alloc, &plan, &bodies, &sensors, horizon, case.gate)?;
+    let (board, seats, clock) = open_board(alloc, plan, &bodies, sensors, horizon, case.gate)?;
     Ok(holds_on(board, seats, clock, case))
 }
 
-#[test]
-fn each_case_holds_for_seats(rt: HostRuntime) -> Result<(), Fail> {
-    for case in CASES {
-        if !holds(rt.alloc(), case)? {
+/// Fails with the name of the first case that does not hold.
+fn each_holds(alloc: Global, plan: &Plan, sensors: &Sensors, horizon: Horizon) -> Result<(), Fail>
+    requires pair { IsPair plan.now }
+    requires horizon { IsHorizon plan.now horizon }
+    requires bodies { HaveTaskBodies plan.now.graph [] }
+    requires rows { HaveTypedRows plan.now.graph horizon.until sensors.now }
+{
+    for case in CASES.iter() {
+        if !holds(alloc, plan, sensors, horizon, case)? {
             return Err(case.name.into());
         }
     }
     Ok(())
+}
+
+#[test]
+fn each_case_holds_for_seats(rt: HostRuntime) -> Result<(), Fail> {
+    let made = pair(rt.alloc())?;
+    each_holds(rt.alloc(), &made.0, &made.1, made.2)
 }

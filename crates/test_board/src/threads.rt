@@ -1,8 +1,10 @@
 //! Two threads that run the jobs of the pair, one task each.
 
-ghost use Rattle.std.specs.Prelude.{◌≡◌, ◌<◌, ◌≤◌, ℕ, length, slice_index_or};
+ghost use Rattle.std.specs.Prelude.{◌≡◌, ◌<◌, ◌≤◌, ℕ, [], length, slice_index_or};
 ghost use Rattle.std.specs.List.{All};
 ghost use Rattle.std.specs.Vec.{vec_items};
+ghost use Rattle.prl_plan.specs.Horizons.{IsHorizon};
+ghost use Rattle.prl_values.specs.Fitting.{HaveTaskBodies, HaveTypedRows};
 ghost use Rattle.prl_rule.specs.declared.views.ClockPart.{ClockPart};
 ghost use Rattle.prl_board.specs.ClockSeats.{IsClockOf};
 ghost use Rattle.prl_board.specs.Lones.{AreSeatsOf};
@@ -14,6 +16,8 @@ use crate::pairs::{pair, shown};
 use crate::seats::{act, closed_pair, tick};
 use prl_board::{Board, ClockSeat, Gate, TaskSeat, open_board};
 use prl_body::Bodies;
+use prl_flow::Sensors;
+use prl_plan::{Horizon, Plan};
 use std::alloc::Global;
 use std::test::Fail;
 use std::thread;
@@ -64,29 +68,48 @@ fn shown_after<R: Threads + Sync>(
     shown(&closed_pair(board, seats, clock))
 }
 
-/// The same on a new board.
-fn ran<R: Threads + Sync>(rt: &R, alloc: Global, turns: u32) -> Result<Shown, Fail> {
-    let (plan, sensors, horizon) = pair(alloc)?;
+/// What is shown where the actuator's task had no turn behind the sensor's.
+const WITHOUT_THE_READER: Shown = Shown {
+    now: 1,
+    done: (1, 0),
+    words: (4294967297, 4294967296),
+    ended: false,
+    values: 0,
+};
+
+/// What is shown where both tasks have ended their first jobs.
+const WITH_THE_READER: Shown = Shown {
+    done: (1, 1),
+    values: 1,
+    ..WITHOUT_THE_READER
+};
+
+/// Fails where a new board of the pair shows something else after so many turns.
+fn run<R: Threads + Sync>(
+    rt: &R,
+    alloc: Global,
+    plan: &Plan,
+    sensors: &Sensors,
+    horizon: Horizon,
+    turns: u32,
+) -> Result<(), Fail>
+    requires pair { IsPair plan.now }
+    requires horizon { IsHorizon plan.now horizon }
+    requires bodies { HaveTaskBodies plan.now.graph [] }
+    requires rows { HaveTypedRows plan.now.graph horizon.until sensors.now }
+{
     let bodies = Bodies::none(alloc);
-    let (board, seats, clock) = open_board(alloc, &plan, &bodies, &sensors, horizon, Gate::Gated)?;
-    Ok(shown_after(rt, board, seats, clock, turns))
+    let (board, seats, clock) = open_board(alloc, plan, &bodies, sensors, horizon, Gate::Gated)?;
+    let seen = shown_after(rt, board, seats, clock, turns);
+    if seen == WITHOUT_THE_READER || seen == WITH_THE_READER {
+        Ok(())
+    } else {
+        Err("another board is shown".into())
+    }
 }
 
 #[test]
 fn two_threads_run_what_is_released(rt: HostRuntime) -> Result<(), Fail> {
-    let seen = ran(&rt, rt.alloc(), 64)?;
-    let without_the_reader = Shown {
-        now: 1,
-        done: (1, 0),
-        words: (4294967297, 4294967296),
-        ended: false,
-        values: 0,
-    };
-    let with_it = Shown {
-        done: (1, 1),
-        values: 1,
-        ..without_the_reader
-    };
-    assert!(rt; seen == without_the_reader || seen == with_it);
-    Ok(())
+    let made = pair(rt.alloc())?;
+    run(&rt, rt.alloc(), &made.0, &made.1, made.2, 64)
 }

@@ -45,14 +45,9 @@ fn other_dates(plan: &Plan) -> Option<(u32, u64)> {
     None
 }
 
-#[test]
-fn dates_of_a_fast_and_a_slow_task(rt: HostRuntime) -> Result<(), Fail> {
-    let plan = plan_of(rt.alloc(), SAMPLING_PLAN.as_bytes())?;
-    assert!(rt; other_dates(&plan).is_none());
-    Ok(())
-}
-
 /// How many cells each edge has.
+// S may write its first instance to F as early as 3, and F's last reader of it may end as late as
+// 59: two cells.
 const COUNTS: [u32; 4] = [1, 2, 1, 1];
 
 /// The first of the edges that has another count of cells.
@@ -86,15 +81,6 @@ fn other_cell(plan: &Plan) -> Option<(u32, u64)> {
     None
 }
 
-// S may write its first instance to F as early as 3, and F's last reader of it may end as late as 59: two cells.
-#[test]
-fn cells_of_a_fast_and_a_slow_task(rt: HostRuntime) -> Result<(), Fail> {
-    let plan = plan_of(rt.alloc(), SAMPLING_PLAN.as_bytes())?;
-    let others = (other_count(&plan), other_cell(&plan), plan.total());
-    assert!(rt; others == (None, None, 5));
-    Ok(())
-}
-
 /// What some jobs read, by edge and job.
 const OPERANDS: [(u32, u64, Operand); 5] = [
     (1, 0, Operand::Const(Value::Int(0))),
@@ -114,13 +100,6 @@ fn other_operand(plan: &Plan) -> Option<(u32, u64)> {
     None
 }
 
-#[test]
-fn operands_of_a_fast_and_a_slow_task(rt: HostRuntime) -> Result<(), Fail> {
-    let plan = plan_of(rt.alloc(), SAMPLING_PLAN.as_bytes())?;
-    assert!(rt; other_operand(&plan).is_none());
-    Ok(())
-}
-
 /// Six jobs each of three tasks and two of S have 89 actions.
 const HORIZON: Horizon = Horizon {
     until: 60,
@@ -135,10 +114,30 @@ const LIMIT: Limit = Limit {
     found: 200_004,
 };
 
-#[test]
-fn horizons_of_a_fast_and_a_slow_task(rt: HostRuntime) -> Result<(), Fail> {
-    let plan = plan_of(rt.alloc(), SAMPLING_PLAN.as_bytes())?;
-    let two = (Horizon::new(&plan, 60), Horizon::new(&plan, 600_010));
-    assert!(rt; two == (Ok(HORIZON), Err(LIMIT)));
+/// Whether the plan has the one horizon, and not the other.
+fn are_horizons(plan: &Plan) -> bool {
+    Horizon::new(plan, 60) == Ok(HORIZON) && Horizon::new(plan, 600_010) == Err(LIMIT)
+}
+
+/// Fails with the name of the first look-up that gives something else.
+fn look_up(plan: &Plan) -> Result<(), Fail> {
+    if other_dates(plan).is_some() {
+        return Err("other dates".into());
+    }
+    if other_operand(plan).is_some() {
+        return Err("other operands".into());
+    }
+    if (other_count(plan), other_cell(plan), plan.total()) != (None, None, 5) {
+        return Err("other cells".into());
+    }
+    if !are_horizons(plan) {
+        return Err("other horizons".into());
+    }
     Ok(())
+}
+
+#[test]
+fn look_ups_of_a_fast_and_a_slow_task(rt: HostRuntime) -> Result<(), Fail> {
+    let plan = plan_of(rt.alloc(), SAMPLING_PLAN.as_bytes())?;
+    look_up(&plan)
 }

@@ -9,9 +9,9 @@ ghost use Rattle.prl_rule.specs.Known.{known};
 ghost use Rattle.prl_board.specs.Closings.{Drives};
 ghost use Rattle.prl_values.specs.Fitting.{HaveTaskBodies, HaveTypedRows};
 
-use crate::plans::{COPIED, FAR, LANES};
-use holders::{Hold, Holder};
-use prl_base::{CellNo, Seq, TaskNo, Value};
+use crate::plans::{FAR, LANES};
+use holders::Holder;
+use prl_base::{CellNo, TaskNo, Value};
 use prl_board::{Closed, Gate, Steps};
 use prl_body::Bodies;
 use prl_exec::{RunFault, run_alone, run_threads};
@@ -24,7 +24,7 @@ use std::sync::Wait;
 use std::sync::ledger::{Blank, Ledger};
 use std::test::Fail;
 use std::thread::Threads;
-use test_plans::{are_served, horizon_of, plan_of};
+use test_plans::{COPIED_PLAN, plan_served};
 
 /// A run: the text of a plan, how many sensors it has with the rows 1, 2, 3, which actuator is looked
 /// at, with its task, and how the run goes. With no worker one thread runs alone.
@@ -47,16 +47,6 @@ enum Outcome {
     Got(Option<usize>),
     Stopped(TaskNo, u64, u32, CellNo, u32, u32),
     NoMemory,
-}
-
-/// So many sensors, each with the rows 1, 2, 3.
-fn rows(alloc: Global, sensors: u32) -> Result<Vec<Seq<Value>>, AllocError> {
-    let mut all = Vec::new(alloc);
-    for _ in 0..sensors {
-        let rows = vec![in alloc; Value::Int(1), Value::Int(2), Value::Int(3)]?;
-        all.push(Seq::new(rows))?;
-    }
-    Ok(all)
 }
 
 /// Whether the task drives the actuator.
@@ -154,13 +144,13 @@ fn prepared(alloc: Global, run: Run) -> Result<(Plan, Sensors, Horizon), Fail>
     ensures rows { IfOk result (λ r. HaveTypedRows r.0.graph r.2.until r.1) }
     ensures drives { IfOk result (λ r. (run.task < length r.0.graph.tasks) × ((task_at r.0.graph run.task).kind ≡ kinds.Actuator run.actuator)) }
 {
-    let plan = plan_of(alloc, run.plan)?;
-    let horizon = horizon_of(&plan, run.until)?;
-    let rows = rows(alloc, run.sensors)?;
-    if !drives(&plan, run.task, run.actuator) || !are_served(&plan, horizon, rows.as_slice()) {
-        return Err("another plan, or too few rows".into());
+    let rows = [Value::Int(1), Value::Int(2), Value::Int(3)];
+    let made = plan_served(alloc, run.plan, run.sensors, rows.as_slice(), run.until)?;
+    if drives(&made.0, run.task, run.actuator) {
+        Ok(made)
+    } else {
+        Err("another plan".into())
     }
-    Ok((plan, Sensors::new(rows), horizon))
 }
 
 /// Of how many rows, from the first one on, these are the values, if they are.
@@ -202,13 +192,13 @@ fn outcome_of<R: Threads + Wait + Sync, P: Probe>(
 ) -> Result<Outcome, Fail>
     requires { run.workers ≤ 16 }
 {
-    let (plan, sensors, horizon) = prepared(alloc, run)?;
-    let ended = ran(rt, alloc, &plan, &sensors, horizon, run, probe);
+    let made = prepared(alloc, run)?;
+    let ended = ran(rt, alloc, &made.0, &made.1, made.2, run, probe);
     Ok(came_of(ended, run.actuator))
 }
 
 const COPY: Run = Run {
-    plan: COPIED,
+    plan: COPIED_PLAN,
     sensors: 1,
     actuator: 0,
     task: 1,
@@ -217,20 +207,14 @@ const COPY: Run = Run {
     workers: 0,
 };
 
-/// A hold of a job that no plan here has.
-const NO_HOLD: Hold = Hold {
-    task: 9,
-    job: 0,
-    other: 9,
-    begun: 0,
-};
-
 #[test]
 fn one_thread_runs_to_the_end(rt: HostRuntime) -> Result<(), Fail> {
-    for gate in [Gate::Gated, Gate::Free] {
-        let copy = Run { gate, ..COPY };
-        assert!(rt; outcome_of(&rt, rt.alloc(), copy, &NoProbe)? == Outcome::Got(Some(2)));
-    }
+    let free = Run {
+        gate: Gate::Free,
+        ..COPY
+    };
+    assert!(rt; outcome_of(&rt, rt.alloc(), COPY, &NoProbe)? == Outcome::Got(Some(2)));
+    assert!(rt; outcome_of(&rt, rt.alloc(), free, &NoProbe)? == Outcome::Got(Some(2)));
     Ok(())
 }
 
@@ -253,23 +237,9 @@ fn two_workers_run_at_once(rt: HostRuntime) -> Result<(), Fail> {
         workers: 2,
         ..COPY
     };
-    let holder = Holder::new([
-        Hold {
-            task: 0,
-            job: 1,
-            other: 1,
-            begun: 1,
-        },
-        Hold {
-            task: 1,
-            job: 1,
-            other: 0,
-            begun: 1,
-        },
-    ]);
-    assert!(rt; outcome_of(&rt, rt.alloc(), lanes, &holder)? == Outcome::Got(Some(2)));
-    assert_eq!(rt; holder.calls(), 8);
-    assert!(rt; !holder.in_vain());
+    let holder = Holder::of_two_lanes();
+    let outcome = outcome_of(&rt, rt.alloc(), lanes, &holder)?;
+    assert!(rt; outcome == Outcome::Got(Some(2)) && holder.calls() == 8 && !holder.in_vain());
     Ok(())
 }
 
@@ -281,20 +251,11 @@ fn a_reader_that_is_held_is_overrun(rt: HostRuntime) -> Result<(), Fail> {
         workers: 2,
         ..COPY
     };
-    let holder = Holder::new([
-        Hold {
-            task: 1,
-            job: 0,
-            other: 0,
-            begun: 2,
-        },
-        NO_HOLD,
-    ]);
+    let holder = Holder::of_a_reader();
     let outcome = outcome_of(&rt, rt.alloc(), free, &holder)?;
     let second = Outcome::Stopped(TaskNo(1), 0, 0, CellNo(0), 1, 2);
     let third = Outcome::Stopped(TaskNo(1), 0, 0, CellNo(0), 1, 3);
-    assert!(rt; outcome == second || outcome == third);
-    assert!(rt; !holder.in_vain());
+    assert!(rt; (outcome == second || outcome == third) && !holder.in_vain());
     Ok(())
 }
 
@@ -309,21 +270,8 @@ fn four_workers_of_a_free_board_end(rt: HostRuntime) -> Result<(), Fail> {
         gate: Gate::Free,
         workers: 4,
     };
-    let holder = Holder::new([
-        Hold {
-            task: 1,
-            job: 1,
-            other: 3,
-            begun: 1,
-        },
-        Hold {
-            task: 1,
-            job: 2,
-            other: 3,
-            begun: 2,
-        },
-    ]);
-    assert!(rt; outcome_of(&rt, rt.alloc(), far, &holder)? == Outcome::Got(Some(3)));
-    assert!(rt; !holder.in_vain());
+    let holder = Holder::of_a_far_reader();
+    let outcome = outcome_of(&rt, rt.alloc(), far, &holder)?;
+    assert!(rt; outcome == Outcome::Got(Some(3)) && !holder.in_vain());
     Ok(())
 }

@@ -2,7 +2,7 @@
 //! works out from the rule.
 
 use prl_bodytext::parse_bodies;
-use prl_gen::generate;
+use prl_gen::{Texts, generate};
 use prl_print::print;
 use prl_syntax::parse;
 use sha2::{Digest, Sha256};
@@ -47,13 +47,24 @@ const SENSORS_OF_ONE: Known = Known {
     digest: "e8f8046d9a4fe3dc0933bbceffb88e4e94c75a11940e1a7a0c6a4d6682f77e7d",
 };
 
+/// Fails with the name of the first text of one lane that is another.
+fn compare_one(alloc: Global, texts: &Texts) -> Result<(), Fail> {
+    if texts.program.as_slice() != PROGRAM_OF_ONE {
+        return Err("another program".into());
+    }
+    if texts.bodies.as_slice() != BODIES_OF_ONE {
+        return Err("other bodies".into());
+    }
+    if !is_as_known(alloc, texts.sensors.as_slice(), SENSORS_OF_ONE)? {
+        return Err("other rows".into());
+    }
+    Ok(())
+}
+
 #[test]
 fn one_lane(rt: HostRuntime) -> Result<(), Fail> {
     let texts = generate(rt.alloc(), 1, 1)?;
-    assert!(rt; texts.program.as_slice() == PROGRAM_OF_ONE);
-    assert!(rt; texts.bodies.as_slice() == BODIES_OF_ONE);
-    assert!(rt; is_as_known(rt.alloc(), texts.sensors.as_slice(), SENSORS_OF_ONE)?);
-    Ok(())
+    compare_one(rt.alloc(), &texts)
 }
 
 const PROGRAM_OF_TWENTY: Known = Known {
@@ -77,15 +88,6 @@ const SENSORS_OF_TWENTY: Known = Known {
     digest: "ef3008297b90d8c3f8fd9376354707c4ee36c02d17af2c71157c76ef9319cf78",
 };
 
-#[test]
-fn twenty_lanes(rt: HostRuntime) -> Result<(), Fail> {
-    let texts = generate(rt.alloc(), 7, 20)?;
-    assert!(rt; is_as_known(rt.alloc(), texts.program.as_slice(), PROGRAM_OF_TWENTY)?);
-    assert!(rt; is_as_known(rt.alloc(), texts.bodies.as_slice(), BODIES_OF_TWENTY)?);
-    assert!(rt; is_as_known(rt.alloc(), texts.sensors.as_slice(), SENSORS_OF_TWENTY)?);
-    Ok(())
-}
-
 /// Whether a program is in its printed form.
 fn is_printed(alloc: Global, text: &[u8]) -> Result<bool, Fail> {
     if text.len() >= 10_000 {
@@ -106,11 +108,28 @@ fn count_of_bodies(alloc: Global, text: &[u8]) -> Result<usize, Fail> {
     }
 }
 
-#[test]
-fn printed_form(rt: HostRuntime) -> Result<(), Fail> {
-    let alloc = rt.alloc();
-    let texts = generate(alloc, 7, 20)?;
-    assert!(rt; is_printed(alloc, texts.program.as_slice())?);
-    assert!(rt; count_of_bodies(alloc, texts.bodies.as_slice())? == 20);
+/// Fails with the name of the first text of twenty lanes that is another, or not in its printed form.
+fn compare_twenty(alloc: Global, texts: &Texts) -> Result<(), Fail> {
+    if !is_as_known(alloc, texts.program.as_slice(), PROGRAM_OF_TWENTY)? {
+        return Err("another program".into());
+    }
+    if !is_as_known(alloc, texts.bodies.as_slice(), BODIES_OF_TWENTY)? {
+        return Err("other bodies".into());
+    }
+    if !is_as_known(alloc, texts.sensors.as_slice(), SENSORS_OF_TWENTY)? {
+        return Err("other rows".into());
+    }
+    if !is_printed(alloc, texts.program.as_slice())? {
+        return Err("a program in another form".into());
+    }
+    if count_of_bodies(alloc, texts.bodies.as_slice())? != 20 {
+        return Err("not twenty bodies".into());
+    }
     Ok(())
+}
+
+#[test]
+fn twenty_lanes_in_printed_form(rt: HostRuntime) -> Result<(), Fail> {
+    let texts = generate(rt.alloc(), 7, 20)?;
+    compare_twenty(rt.alloc(), &texts)
 }

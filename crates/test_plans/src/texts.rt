@@ -1,11 +1,15 @@
-//! The plans and horizons of texts.
+//! The plans and horizons of texts, and rows for their sensors.
 
-ghost use Rattle.std.specs.Prelude.{◌≡◌, IfOk};
+ghost use Rattle.std.specs.Prelude.{◌≡◌, [], IfOk};
 ghost use Rattle.prl_plan.specs.Horizons.{IsHorizon};
+ghost use Rattle.prl_values.specs.Fitting.{HaveTaskBodies, HaveTypedRows};
 
+use crate::devices::are_served;
+use prl_base::{Seq, Value};
+use prl_flow::Sensors;
 use prl_plan::{Horizon, Plan};
 use prl_plantext::read_plan;
-use std::alloc::Global;
+use std::alloc::{AllocError, Global};
 use std::test::Fail;
 
 /// The plan of the sampling program: a fast task between a sensor and an actuator reads a slow one that reads it.
@@ -61,4 +65,46 @@ pub fn horizon_of(plan: &Plan, until: u32) -> Result<Horizon, Fail>
         Ok(horizon) => Ok(horizon),
         Err(_) => Err("past a limit".into()),
     }
+}
+
+/// So many sensors, each with these rows.
+fn rows_of(alloc: Global, sensors: u32, rows: &[Value]) -> Result<Vec<Seq<Value>>, AllocError> {
+    let mut all = Vec::new(alloc);
+    for _ in 0..sensors {
+        all.push(Seq::new(Vec::from_slice(alloc, rows)?))?;
+    }
+    Ok(all)
+}
+
+/// The horizon of a plan up to a date, where no task runs a body and these rows serve its sensors.
+fn horizon_served(plan: &Plan, until: u32, rows: &[Seq<Value>]) -> Result<Horizon, Fail>
+    ensures horizon { IfOk result (IsHorizon plan.now) }
+    ensures bodies { IfOk result (λ _. HaveTaskBodies plan.now.graph []) }
+    ensures rows { IfOk result (λ r. HaveTypedRows plan.now.graph r.until rows.now) }
+{
+    let horizon = horizon_of(plan, until)?;
+    if are_served(plan, horizon, rows) {
+        Ok(horizon)
+    } else {
+        Err("another plan, or too few rows".into())
+    }
+}
+
+/// The plan of a text, so many sensors with these rows each, and the horizon up to a date, where no
+/// task runs a body.
+pub fn plan_served(
+    alloc: Global,
+    text: &[u8],
+    sensors: u32,
+    rows: &[Value],
+    until: u32,
+) -> Result<(Plan, Sensors, Horizon), Fail>
+    ensures horizon { IfOk result (λ r. IsHorizon r.0 r.2) }
+    ensures bodies { IfOk result (λ r. HaveTaskBodies r.0.graph []) }
+    ensures rows { IfOk result (λ r. HaveTypedRows r.0.graph r.2.until r.1) }
+{
+    let rows = rows_of(alloc, sensors, rows)?;
+    let plan = plan_of(alloc, text)?;
+    let horizon = horizon_served(&plan, until, rows.as_slice())?;
+    Ok((plan, Sensors::new(rows), horizon))
 }

@@ -3,5 +3,3 @@
 
 #[cfg(test)]
 mod machines;
-#[cfg(test)]
-mod texts;

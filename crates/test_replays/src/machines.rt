@@ -1,20 +1,30 @@
 //! The machine over plans of a sensor and its actuator: what each event tells, and what the actuator got.
 
-ghost use Rattle.std.specs.Prelude.{◌≡◌, List, true};
-ghost use Rattle.prl_body.specs.declared.bodies.CheckedBody.{CheckedBody};
+ghost use Rattle.std.specs.Prelude.{◌≡◌, [], IfOk, true};
 ghost use Rattle.prl_plan.specs.Horizons.{IsHorizon};
 ghost use Rattle.prl_track.specs.Machine.{Drives};
 ghost use Rattle.prl_values.specs.Fitting.{HaveTaskBodies, HaveTypedRows};
 
-use crate::texts::{COPIED, LATE};
-use prl_base::{CellNo, EdgeNo, Seq, TaskNo, Value};
+use prl_base::{CellNo, EdgeNo, TaskNo, Value};
 use prl_body::Bodies;
 use prl_core::{Core, Event, Illegal, Rule, Seen, Unfinished};
 use prl_flow::Sensors;
 use prl_plan::{Horizon, Kind, Plan, plan_is_one};
 use std::alloc::Global;
 use std::test::Fail;
-use test_plans::{are_served, horizon_of, plan_of};
+use test_plans::{COPIED_PLAN, plan_served};
+
+/// The plan of an actuator that takes 9 and then each value of a sensor one period late.
+const LATE_PLAN: &[u8] = b"plan 1
+hyperperiod 10
+task 0 i sensor period 10 start 0 due 10 wcet 1
+task 1 o actuator period 10 start 0 due 10 wcet 1
+dates 0 0:10
+dates 1 0:10
+edge 0 from 0.0 to 1.0 type int period 10 ops fby 9
+word 0 prefix 1 9 repeat 0 step 1 1
+cells 0 base 0 count 2
+";
 
 /// Whether task 1 drives the first actuator.
 fn drives(plan: &Plan) -> bool
@@ -25,9 +35,33 @@ fn drives(plan: &Plan) -> bool
     tasks.len() > 1 && tasks[1].kind == Kind::Actuator(0)
 }
 
+/// The plan of a sensor with these rows and its actuator, and the horizon up to a date.
+fn ready(
+    alloc: Global,
+    plan: &[u8],
+    rows: &[Value],
+    until: u32,
+) -> Result<(Plan, Sensors, Horizon), Fail>
+    ensures drives { IfOk result (λ r. Drives r.0 1 0) }
+    ensures horizon { IfOk result (λ r. IsHorizon r.0 r.2) }
+    ensures bodies { IfOk result (λ r. HaveTaskBodies r.0.graph []) }
+    ensures rows { IfOk result (λ r. HaveTypedRows r.0.graph r.2.until r.1) }
+{
+    let made = plan_served(alloc, plan, 1, rows, until)?;
+    if drives(&made.0) {
+        Ok(made)
+    } else {
+        Err("another plan".into())
+    }
+}
+
+/// What the last event of a list told; or the number of the first that is refused, from 1, and the
+/// rule that it breaks.
+type Told = Result<Option<Seen>, (usize, Rule)>;
+
 /// Does the events of a list in which `t` is a tick, `0` an act of task 0 and `1` one of task 1, up to the first that is
-/// refused: its number in the list, from 1, and the rule that it breaks. Else what the last one told.
-fn play(core: &mut Core<'_>, events: &[u8]) -> Result<Option<Seen>, (usize, Rule)>
+/// refused.
+fn play(core: &mut Core<'_>, events: &[u8]) -> Told
     requires { Drives core.old.plan 1 0 }
     ensures { Drives core.new.plan 1 0 }
 {
@@ -47,185 +81,210 @@ fn play(core: &mut Core<'_>, events: &[u8]) -> Result<Option<Seen>, (usize, Rule
 }
 
 /// What comes of a list of events.
-#[derive(Drop)]
+#[derive(Clone, Copy)]
 struct Outcome {
-    seen: Result<Option<Seen>, (usize, Rule)>,
+    told: Told,
     finished: Result<(), Unfinished>,
     next: Option<Event>,
-    output: Vec<Value>,
+    /// Whether the actuator got just the values that are wanted.
+    is_output: bool,
     has_machine: bool,
 }
 
-/// Plays a list on a plan that runs no body, with these rows, up to a horizon.
+/// Plays a list on a plan with these rows, up to a horizon. No task runs a body.
 fn played(
     alloc: Global,
     plan: &Plan,
-    horizon: Horizon,
     sensors: &Sensors,
+    horizon: Horizon,
     events: &[u8],
+    output: &[Value],
 ) -> Result<Outcome, Fail>
-    requires horizon { IsHorizon plan.now horizon }
     requires drives { Drives plan.now 1 0 }
-    requires bodies { (bodies : List CheckedBody) → HaveTaskBodies plan.now.graph bodies }
+    requires horizon { IsHorizon plan.now horizon }
+    requires bodies { HaveTaskBodies plan.now.graph [] }
     requires rows { HaveTypedRows plan.now.graph horizon.until sensors.now }
 {
     let bodies = Bodies::none(alloc);
     let mut core = Core::new(alloc, plan, &bodies, sensors, horizon)?;
-    let seen = play(&mut core, events);
-    let output = core.output(0).to_vec(alloc)?;
+    let told = play(&mut core, events);
     Ok(Outcome {
-        seen,
+        told,
         finished: core.finished(),
         next: core.next(),
-        output,
+        is_output: core.output(0) == output,
         has_machine: core.machine(TaskNo(1)).is_some(),
     })
 }
 
 /// Plays a list on the plan of a sensor with these rows and its actuator, up to a date.
 fn outcome_of(
-    rt: &HostRuntime,
+    alloc: Global,
     plan: &[u8],
     rows: &[Value],
     until: u32,
     events: &[u8],
+    output: &[Value],
 ) -> Result<Outcome, Fail> {
-    let alloc = rt.alloc();
-    let rows = vec![in alloc; Seq::new(Vec::from_slice(alloc, rows)?)]?;
-    let plan = plan_of(alloc, plan)?;
-    let horizon = horizon_of(&plan, until)?;
-    if !drives(&plan) || !are_served(&plan, horizon, &rows) {
-        return Err("another plan, or too few rows".into());
-    }
-    played(alloc, &plan, horizon, &Sensors::new(rows), events)
+    let made = ready(alloc, plan, rows, until)?;
+    played(alloc, &made.0, &made.1, made.2, events, output)
 }
 
 const ONE_AND_TWO: [Value; 2] = [Value::Int(1), Value::Int(2)];
 
-/// A copy of 1 and 2 up to 20.
-fn copied(rt: &HostRuntime, events: &[u8]) -> Result<Outcome, Fail> {
-    outcome_of(rt, COPIED, ONE_AND_TWO.as_slice(), 20, events)
-}
-
-/// 9 and then 1, one period late, up to 20.
-fn late(rt: &HostRuntime, events: &[u8]) -> Result<Outcome, Fail> {
-    outcome_of(rt, LATE, ONE_AND_TWO.as_slice(), 20, events)
-}
-
-/// What the last event of a list told, where all keep the rules.
-fn told(outcome: Outcome) -> Result<Seen, Fail> {
-    match outcome.seen {
-        Ok(Some(seen)) => Ok(seen),
-        _ => Err("a refused event".into()),
+/// The number of the first of these lists, up to 20 with the rows 1 and 2, after which another
+/// thing is told.
+fn other_told(alloc: Global, plan: &[u8], lists: &[(&[u8], Told)]) -> Result<Option<usize>, Fail> {
+    for (k, (events, told)) in lists.iter().enumerate() {
+        let outcome = outcome_of(alloc, plan, ONE_AND_TWO.as_slice(), 20, events, &[])?;
+        if outcome.told != *told {
+            return Ok(Some(k));
+        }
     }
+    Ok(None)
 }
+
+/// What is told of copies: a write and a read by halves, an end and a tick.
+const COPIES: [(&[u8], Told); 6] = [
+    (
+        b"0",
+        Ok(Some(Seen::Half {
+            task: TaskNo(0),
+            job: 0,
+            edge: EdgeNo(0),
+            cell: CellNo(0),
+        })),
+    ),
+    (
+        b"00",
+        Ok(Some(Seen::Wrote {
+            task: TaskNo(0),
+            job: 0,
+            edge: EdgeNo(0),
+            cell: CellNo(0),
+        })),
+    ),
+    (
+        b"000",
+        Ok(Some(Seen::Ended {
+            task: TaskNo(0),
+            job: 0,
+        })),
+    ),
+    (b"000t", Ok(Some(Seen::Ticked(1)))),
+    (
+        b"000t1",
+        Ok(Some(Seen::Half {
+            task: TaskNo(1),
+            job: 0,
+            edge: EdgeNo(0),
+            cell: CellNo(0),
+        })),
+    ),
+    (
+        b"000t11",
+        Ok(Some(Seen::Read {
+            task: TaskNo(1),
+            job: 0,
+            port: 0,
+            edge: EdgeNo(0),
+            instance: 0,
+            cell: CellNo(0),
+            value: Value::Int(1),
+        })),
+    ),
+];
 
 #[test]
 fn writes_and_reads_are_told_by_halves(rt: HostRuntime) -> Result<(), Fail> {
-    let half = |task, job| Seen::Half {
-        task: TaskNo(task),
-        job,
-        edge: EdgeNo(0),
-        cell: CellNo(0),
-    };
-    assert_eq!(rt; told(copied(&rt, b"0")?)?, half(0, 0));
-    let wrote = Seen::Wrote {
-        task: TaskNo(0),
-        job: 0,
-        edge: EdgeNo(0),
-        cell: CellNo(0),
-    };
-    assert_eq!(rt; told(copied(&rt, b"00")?)?, wrote);
-    let ended = Seen::Ended {
-        task: TaskNo(0),
-        job: 0,
-    };
-    assert_eq!(rt; told(copied(&rt, b"000")?)?, ended);
-    assert_eq!(rt; told(copied(&rt, b"000t")?)?, Seen::Ticked(1));
-    assert_eq!(rt; told(copied(&rt, b"000t1")?)?, half(1, 0));
-    let read = Seen::Read {
-        task: TaskNo(1),
-        job: 0,
-        port: 0,
-        edge: EdgeNo(0),
-        instance: 0,
-        cell: CellNo(0),
-        value: Value::Int(1),
-    };
-    assert_eq!(rt; told(copied(&rt, b"000t11")?)?, read);
+    assert!(rt; other_told(rt.alloc(), COPIED_PLAN, COPIES.as_slice())? == None);
     Ok(())
 }
 
+/// What is told of values that come one period late: the constant, then the first instance, while
+/// the second is written.
+const LATE: [(&[u8], Told); 3] = [
+    (
+        b"0001",
+        Ok(Some(Seen::ReadConst {
+            task: TaskNo(1),
+            job: 0,
+            port: 0,
+            value: Value::Int(9),
+        })),
+    ),
+    (
+        b"00011tttttttttt00011",
+        Ok(Some(Seen::Read {
+            task: TaskNo(1),
+            job: 1,
+            port: 0,
+            edge: EdgeNo(0),
+            instance: 0,
+            cell: CellNo(0),
+            value: Value::Int(1),
+        })),
+    ),
+    (
+        b"00011tttttttttt00",
+        Ok(Some(Seen::Wrote {
+            task: TaskNo(0),
+            job: 1,
+            edge: EdgeNo(0),
+            cell: CellNo(1),
+        })),
+    ),
+];
+
 #[test]
 fn a_constant_is_read_before_instances(rt: HostRuntime) -> Result<(), Fail> {
-    let constant = Seen::ReadConst {
-        task: TaskNo(1),
-        job: 0,
-        port: 0,
-        value: Value::Int(9),
-    };
-    assert_eq!(rt; told(late(&rt, b"0001")?)?, constant);
-    let read = Seen::Read {
-        task: TaskNo(1),
-        job: 1,
-        port: 0,
-        edge: EdgeNo(0),
-        instance: 0,
-        cell: CellNo(0),
-        value: Value::Int(1),
-    };
-    assert_eq!(rt; told(late(&rt, b"00011tttttttttt00011")?)?, read);
-    let second = Seen::Wrote {
-        task: TaskNo(0),
-        job: 1,
-        edge: EdgeNo(0),
-        cell: CellNo(1),
-    };
-    assert_eq!(rt; told(late(&rt, b"00011tttttttttt00")?)?, second);
+    assert!(rt; other_told(rt.alloc(), LATE_PLAN, LATE.as_slice())? == None);
     Ok(())
+}
+
+/// Copies that break a rule.
+const BROKEN: [(&[u8], Told); 4] = [
+    (b"1", Err((1, Rule::L1))),
+    (b"t1", Err((2, Rule::L3))),
+    (b"ttttttttt", Err((9, Rule::L4))),
+    (b"000t111ttttttttt000t1111", Err((24, Rule::L2))),
+];
+
+#[test]
+fn events_that_break_a_rule(rt: HostRuntime) -> Result<(), Fail> {
+    assert!(rt; other_told(rt.alloc(), COPIED_PLAN, BROKEN.as_slice())? == None);
+    Ok(())
+}
+
+/// Whether all is done, and the actuator got just what is wanted.
+fn is_whole(outcome: Outcome) -> bool {
+    outcome.finished == Ok(()) && outcome.is_output
 }
 
 #[test]
 fn an_actuator_gets_the_values_in_order(rt: HostRuntime) -> Result<(), Fail> {
-    let whole = copied(&rt, b"000t111ttttttttt000t111")?;
-    assert_eq!(rt; whole.finished, Ok(()));
-    assert_eq!(rt; whole.next, None);
-    assert_eq!(rt; whole.output.as_slice(), ONE_AND_TWO.as_slice());
-    assert!(rt; !whole.has_machine);
-    let half = copied(&rt, b"000t11")?;
-    assert!(rt; half.output.is_empty());
-    assert_eq!(rt; half.next, Some(Event::Act(TaskNo(1))));
+    let alloc = rt.alloc();
+    let rows = ONE_AND_TWO.as_slice();
+    let whole = b"000t111ttttttttt000t111";
+    let copied = outcome_of(alloc, COPIED_PLAN, rows, 20, whole, rows)?;
+    assert!(rt; is_whole(copied) && copied.next == None && !copied.has_machine);
+    let half = outcome_of(alloc, COPIED_PLAN, rows, 20, b"000t11", &[])?;
     let left = Unfinished {
         task: TaskNo(0),
         job: 1,
     };
-    assert_eq!(rt; half.finished, Err(left));
-    let whole = late(&rt, b"00011tttttttttt000111")?;
-    assert_eq!(rt; whole.finished, Ok(()));
-    assert_eq!(rt;
-        whole.output.as_slice(),
-        [Value::Int(9), Value::Int(1)].as_slice()
-    );
-    Ok(())
-}
-
-#[test]
-fn events_that_break_a_rule(rt: HostRuntime) -> Result<(), Fail> {
-    assert_eq!(rt; copied(&rt, b"1")?.seen, Err((1, Rule::L1)));
-    assert_eq!(rt; copied(&rt, b"t1")?.seen, Err((2, Rule::L3)));
-    assert_eq!(rt; copied(&rt, b"ttttttttt")?.seen, Err((9, Rule::L4)));
-    assert_eq!(rt;
-        copied(&rt, b"000t111ttttttttt000t1111")?.seen,
-        Err((24, Rule::L2))
-    );
+    assert!(rt; half.is_output && half.finished == Err(left));
+    assert!(rt; half.next == Some(Event::Act(TaskNo(1))));
+    let nine_and_one = [Value::Int(9), Value::Int(1)];
+    let whole = b"00011tttttttttt000111";
+    let late = outcome_of(alloc, LATE_PLAN, rows, 20, whole, nine_and_one.as_slice())?;
+    assert!(rt; is_whole(late));
     Ok(())
 }
 
 #[test]
 fn no_row_is_needed_until_0(rt: HostRuntime) -> Result<(), Fail> {
-    let none = outcome_of(&rt, COPIED, &[], 0, b"t")?;
-    assert_eq!(rt; none.seen, Err((1, Rule::L4)));
-    assert_eq!(rt; none.finished, Ok(()));
-    assert!(rt; none.output.is_empty());
+    let none = outcome_of(rt.alloc(), COPIED_PLAN, &[], 0, b"t", &[])?;
+    assert!(rt; none.told == Err((1, Rule::L4)) && is_whole(none));
     Ok(())
 }

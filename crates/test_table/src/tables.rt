@@ -1,6 +1,7 @@
 //! The tables of two plans, and texts that are no good table of them.
 
 use prl_base::{EdgeNo, TaskNo};
+use prl_plan::Plan;
 use prl_table::{TableFault, check_table, make, read_table, table_text};
 use std::alloc::Global;
 use std::test::Fail;
@@ -22,98 +23,107 @@ at 21 task 1 job 2 units 2
 at 23 task 3 job 2 units 1
 ";
 
-/// Whether the table that is made of a plan has this text, and that text is accepted.
-fn is_made(alloc: Global, plan: &[u8], text: &[u8]) -> Result<bool, Fail> {
-    let plan = plan_of(alloc, plan)?;
-    match make(alloc, &plan) {
-        Err(_) => Ok(false),
-        Ok(table) => Ok(
-            table_text(alloc, &plan, &table)?.as_slice() == text
-                && told(alloc, &plan, text)?.is_none(),
-        ),
+/// The table of the plan that copies.
+const COPIED_TABLE: &[u8] = b"table 1
+hyperperiod 10
+at 0 task 0 job 0 units 1
+at 1 task 1 job 0 units 1
+";
+
+/// Why a text is no good table of a plan.
+fn told(alloc: Global, plan: &Plan, text: &[u8]) -> Option<TableFault> {
+    match read_table(alloc, text, plan) {
+        Err(fault) => Some(fault),
+        Ok(table) => check_table(alloc, plan, &table).err(),
     }
 }
 
-/// Why a text is no good table of a plan.
-fn told(alloc: Global, plan: &prl_plan::Plan, text: &[u8]) -> Result<Option<TableFault>, Fail> {
-    match read_table(alloc, text, plan) {
-        Err(fault) => Ok(Some(fault)),
-        Ok(table) => match check_table(alloc, plan, &table) {
-            Err(fault) => Ok(Some(fault)),
-            Ok(_) => Ok(None),
-        },
+/// Whether the table that is made of a plan has this text.
+fn is_made(alloc: Global, plan: &Plan, text: &[u8]) -> Result<bool, Fail> {
+    match make(alloc, plan) {
+        Err(_) => Ok(false),
+        Ok(table) => Ok(table_text(alloc, plan, &table)?.as_slice() == text),
     }
+}
+
+/// Whether the table that is made of a plan has this text, and that text is accepted.
+fn is_table(alloc: Global, plan: &[u8], text: &[u8]) -> Result<bool, Fail> {
+    let plan = plan_of(alloc, plan)?;
+    Ok(is_made(alloc, &plan, text)? && told(alloc, &plan, text).is_none())
 }
 
 #[test]
 fn tables_are_made(rt: HostRuntime) -> Result<(), Fail> {
-    let alloc = rt.alloc();
-    assert!(rt; is_made(alloc, SAMPLING_PLAN.as_bytes(), SAMPLING_TABLE)?);
-    let copied = b"table 1\nhyperperiod 10\nat 0 task 0 job 0 units 1\nat 1 task 1 job 0 units 1\n";
-    assert!(rt; is_made(alloc, COPIED_PLAN, copied)?);
+    assert!(rt; is_table(rt.alloc(), SAMPLING_PLAN.as_bytes(), SAMPLING_TABLE)?);
+    assert!(rt; is_table(rt.alloc(), COPIED_PLAN, COPIED_TABLE)?);
     Ok(())
 }
 
-/// Why lines after the two first ones are no good table of the plan that copies.
-fn copies(alloc: Global, lines: &[u8]) -> Result<Option<TableFault>, Fail> {
-    let plan = plan_of(alloc, COPIED_PLAN)?;
-    let mut text = Vec::new(alloc);
-    text.extend_from_slice(b"table 1\nhyperperiod 10\n")?;
-    text.extend_from_slice(lines)?;
-    told(alloc, &plan, &text)
+/// Texts by name, and why each is no good table of the plan that copies.
+const CAUSES: [(&str, &[u8], Option<TableFault>); 8] = [
+    (
+        "a good table",
+        b"table 1\nhyperperiod 10\nat 3 task 0 job 0 units 1\nat 5 task 1 job 0 units 1\n",
+        None,
+    ),
+    (
+        "a wrong order",
+        b"table 1\nhyperperiod 10\nat 3 task 1 job 0 units 1\nat 5 task 0 job 0 units 1\n",
+        Some(TableFault::Order {
+            edge: EdgeNo(0),
+            job: 0,
+        }),
+    ),
+    (
+        "lines that are turned",
+        b"table 1\nhyperperiod 10\nat 5 task 1 job 0 units 1\nat 3 task 0 job 0 units 1\n",
+        Some(TableFault::Syntax(4)),
+    ),
+    (
+        "a number with a zero before it",
+        b"table 1\nhyperperiod 10\nat 03 task 0 job 0 units 1\n",
+        Some(TableFault::Syntax(3)),
+    ),
+    (
+        "a piece past its window",
+        b"table 1\nhyperperiod 10\nat 9 task 0 job 0 units 1\nat 9 task 1 job 0 units 1\n",
+        Some(TableFault::Piece(3)),
+    ),
+    (
+        "too few units",
+        b"table 1\nhyperperiod 10\nat 3 task 0 job 0 units 1\n",
+        Some(TableFault::Units {
+            task: TaskNo(1),
+            job: 0,
+        }),
+    ),
+    (
+        "two pieces at one tick",
+        b"table 1\nhyperperiod 10\nat 3 task 0 job 0 units 1\nat 3 task 1 job 0 units 1\n",
+        Some(TableFault::Clash {
+            first: 3,
+            second: 4,
+        }),
+    ),
+    (
+        "an open end",
+        b"table 1\nhyperperiod 10\nat 3 task 0 job 0 units 1\nat 5 task 1 job 0 units 1",
+        Some(TableFault::Syntax(4)),
+    ),
+];
+
+/// Fails with the name of the first of the texts of which another cause is told.
+fn tell(alloc: Global, plan: &Plan) -> Result<(), Fail> {
+    for (name, text, cause) in CAUSES.iter() {
+        if told(alloc, plan, text) != *cause {
+            return Err((*name).into());
+        }
+    }
+    Ok(())
 }
 
 #[test]
 fn first_cause_is_told(rt: HostRuntime) -> Result<(), Fail> {
-    let alloc = rt.alloc();
-    let good = copies(
-        alloc,
-        b"at 3 task 0 job 0 units 1\nat 5 task 1 job 0 units 1\n",
-    )?;
-    assert!(rt; good == None);
-    let late = copies(
-        alloc,
-        b"at 3 task 1 job 0 units 1\nat 5 task 0 job 0 units 1\n",
-    )?;
-    assert!(rt;
-        late == Some(TableFault::Order {
-            edge: EdgeNo(0),
-            job: 0
-        })
-    );
-    let turned = copies(
-        alloc,
-        b"at 5 task 1 job 0 units 1\nat 3 task 0 job 0 units 1\n",
-    )?;
-    assert!(rt; turned == Some(TableFault::Syntax(4)));
-    let zero = copies(alloc, b"at 03 task 0 job 0 units 1\n")?;
-    assert!(rt; zero == Some(TableFault::Syntax(3)));
-    let past = copies(
-        alloc,
-        b"at 9 task 0 job 0 units 1\nat 9 task 1 job 0 units 1\n",
-    )?;
-    assert!(rt; past == Some(TableFault::Piece(3)));
-    let few = copies(alloc, b"at 3 task 0 job 0 units 1\n")?;
-    assert!(rt;
-        few == Some(TableFault::Units {
-            task: TaskNo(1),
-            job: 0
-        })
-    );
-    let both = copies(
-        alloc,
-        b"at 3 task 0 job 0 units 1\nat 3 task 1 job 0 units 1\n",
-    )?;
-    assert!(rt;
-        both == Some(TableFault::Clash {
-            first: 3,
-            second: 4
-        })
-    );
-    let open = copies(
-        alloc,
-        b"at 3 task 0 job 0 units 1\nat 5 task 1 job 0 units 1",
-    )?;
-    assert!(rt; open == Some(TableFault::Syntax(4)));
-    Ok(())
+    let plan = plan_of(rt.alloc(), COPIED_PLAN)?;
+    tell(rt.alloc(), &plan)
 }

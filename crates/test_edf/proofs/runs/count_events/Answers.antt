@@ -6,16 +6,16 @@ use Rattle.prl_edf.specs.declared.analysis.Verdict.{Verdict}
 use Rattle.prl_edf.specs.declared.analysis.Verdict.TheVariants as verdicts
 use Rattle.prl_edf.specs.UnitLists.{wcets_of}
 use Rattle.prl_edf.specs.Verdicts.{IsVerdict}
-use Rattle.test_edf.proofs.runs.events_counted.Goals as goal
+use Rattle.test_edf.proofs.runs.count_events.Goals as goal
 
 pub events_of-requires-clause-run : goal.events_of-requires-clause-run
 events_of-requires-clause-run c =
-    let k : RunConstants = constants_of c.in_ok-plan.plan c.in_ok-horizon.horizon in
-    let cost : ℕ → ℕ → ℕ = wcets_of c.in_ok-plan.plan in
+    let k : RunConstants = constants_of c.args.plan.now c.in_ok-horizon.horizon in
+    let cost : ℕ → ℕ → ℕ = wcets_of c.args.plan.now in
     let verdict : IsVerdict k cost (verdicts.Run c.in-Run.timed) = subst (λ (v : Verdict). IsVerdict k cost v) c.in-Run.is c.in_ok-timed.ensures in
     record {
       units = cost;
-      are = λ i n job. ((task_is c.in_ok-plan.plan.graph c.plan_is_one.ensures.graph i job.task).wcet.0, omega arith);
+      are = λ i n job. ((task_is c.args.plan.now.graph c.plan_is_one.ensures.graph i job.task).wcet.0, omega arith);
       edf = verdict.1.plain.edf;
       met = verdict.1.met;
     }
