@@ -3,21 +3,10 @@
 #![tactic(auto)]
 
 use prl_app::prelude;
-use prl_io::{HostFiles, HostSink, NoProbe};
+use prl_io::{HostFiles, HostSink, NoProbe, words_of};
 use std::process::ExitCode;
 use std::sync::Wait;
 use std::thread::Threads;
-use std::{env, io};
-
-/// The status where the process has no memory for its own words.
-const NO_MEMORY: u8 = 6;
-
-/// The status where the process cannot read its own words, which no call of `prelude` answers.
-const NO_WORDS: u8 = 11;
-
-fn words(rt: &HostRuntime) -> io::Result<Vec<String>> {
-    Ok(env::args(rt)?.collect(rt.alloc())?)
-}
 
 /// Does what the words ask for, on the files and the streams of the process: the status. It may wait for its threads.
 fn run<R: Threads + Wait + Sync>(threads: &R, rt: &HostRuntime, words: &[String]) -> u8 {
@@ -37,9 +26,8 @@ fn run<R: Threads + Wait + Sync>(threads: &R, rt: &HostRuntime, words: &[String]
 }
 
 fn main(rt: HostRuntime) -> ExitCode {
-    match words(&rt) {
+    match words_of(&rt) {
         Ok(words) => ExitCode::from(run(&rt, &rt, &words)),
-        Err(error) if error.kind() == io::ErrorKind::OutOfMemory => ExitCode::from(NO_MEMORY),
-        Err(_) => ExitCode::from(NO_WORDS),
+        Err(status) => ExitCode::from(status),
     }
 }

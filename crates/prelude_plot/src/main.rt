@@ -2,28 +2,14 @@
 //! `prl_plot` alone.
 #![tactic(auto)]
 
-use prl_io::{HostFiles, HostSink};
+use prl_io::{HostFiles, HostSink, words_of};
 use prl_plot::plot;
 use std::process::ExitCode;
-use std::{env, io};
-
-/// The status where the process has no memory for its own words.
-const NO_MEMORY: u8 = 6;
-
-/// The status where the process cannot read its own words.
-const NO_WORDS: u8 = 11;
-
-fn words(rt: &HostRuntime) -> io::Result<Vec<String>> {
-    Ok(env::args(rt)?.collect(rt.alloc())?)
-}
 
 fn main(rt: HostRuntime) -> ExitCode {
-    let words = match words(&rt) {
+    let words = match words_of(&rt) {
         Ok(words) => words,
-        Err(error) if error.kind() == io::ErrorKind::OutOfMemory => {
-            return ExitCode::from(NO_MEMORY);
-        }
-        Err(_) => return ExitCode::from(NO_WORDS),
+        Err(status) => return ExitCode::from(status),
     };
     let mut files = HostFiles::new(&rt);
     let mut out = HostSink::new(rt.stdout());

@@ -15,7 +15,7 @@ use Rattle.prl_arguments.specs.declared.arguments.Mode.{Mode}
 use Rattle.prl_arguments.specs.declared.arguments.Mode.TheVariants as modes
 use Rattle.prl_io.specs.Views.{FolderView, SinkView}
 use Rattle.prl_exec.specs.declared.runs.Stopped.{Stopped}
-use Rattle.prl_pipeline.specs.Answers.{IsAnswerOf, IsAnswerStop}
+use Rattle.prl_app.specs.Answers.{IsAnswerOf, IsAnswerStop}
 use Rattle.prl_executions.specs.declared.running.Outcome.TheVariants as outcomes
 use Rattle.prl_plan.specs.Plans.{PlanView}
 use Rattle.prl_rule.specs.declared.views.Gate.{Gate}

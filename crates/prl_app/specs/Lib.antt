@@ -1,5 +1,7 @@
 -- The lines on err.
 pub mod ErrorLines
+-- What comes of a command before its text is written.
+pub mod Answers
 -- Statuses, endings, and what a call says.
 pub mod Endings
 -- What private functions say to one another.

@@ -10,9 +10,10 @@ ghost use Rattle.prl_app.specs.code.Performed.{IsWrittenBy, Performs, line_is};
 
 use crate::endings::{Ending, Status, status_of};
 use crate::lines::tell;
+use crate::pipeline::{answer, answer_threads};
 use prl_arguments::{Command, Mode, WordsFault, read_words};
+use prl_executions::Outcome;
 use prl_io::{Files, Probe, Sink, write_all};
-use prl_pipeline::{Outcome, answer, answer_threads};
 use prl_stages::{Ran, Stop, stages_end_one_way};
 use std::alloc::Global;
 use std::sync::Wait;

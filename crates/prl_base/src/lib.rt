@@ -19,7 +19,7 @@ pub use decimals::{
     MAX_NEGATIVE, MAX_POSITIVE, are_digits, decimal_of, integer_of, negative, positive,
 };
 pub use limits::{Limit, What};
-pub use lines::{cut_line, line_len};
+pub use lines::{cut_line, len_before, line_len};
 pub use names::{Label, Name, NameFault, is_word, is_word_byte, is_word_start};
 pub use numbers::{CellNo, EdgeNo, FlowNo, TaskNo};
 pub use operators::{Clock, MAX_FACTOR, Op};

@@ -85,6 +85,16 @@ impl Name {
         }
     }
 
+    /// The name of a word.
+    pub fn of_word(alloc: Global, word: &[u8]) -> Result<Name, AllocError>
+        requires { IsName word.now }
+        ensures { IfOk result (λ name. name ≡ word.now) }
+    {
+        Ok(Name {
+            bytes: Vec::from_slice(alloc, word)?,
+        })
+    }
+
     /// The bytes of the name.
     pub fn bytes(&self) -> &[u8]
         ensures bytes { result.now ≡ self.now }
@@ -97,9 +107,7 @@ impl Name {
     pub fn copy(&self, alloc: Global) -> Result<Name, AllocError>
         ensures { IfOk result (λ name. name ≡ self.now) }
     {
-        Ok(Name {
-            bytes: Vec::from_slice(alloc, self.bytes.as_slice())?,
-        })
+        Name::of_word(alloc, self.bytes())
     }
 }
 

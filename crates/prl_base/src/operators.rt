@@ -1,5 +1,8 @@
 //! Strictly periodic clocks, and the operators on flows.
 
+ghost use Rattle.std.specs.Prelude.{◌≡◌};
+ghost use Rattle.prl_base.specs.Operators.{delays};
+
 use crate::{Ratio, Value};
 
 /// The greatest factor of `*^` and `/^`: 2^31 - 1.
@@ -31,4 +34,20 @@ pub enum Op {
     Down(u32),
     /// `x ~> q`: later by `q` periods.
     Shift(Ratio),
+}
+
+impl Op {
+    /// Whether the result has only values of earlier dates.
+    pub fn delays(&self) -> bool
+        ensures { result ≡ delays self.now }
+    {
+        match self {
+            Op::Fby(_) => true,
+            Op::Cons(_) => false,
+            Op::Tail => false,
+            Op::Up(_) => false,
+            Op::Down(_) => false,
+            Op::Shift(by) => by.num > 0,
+        }
+    }
 }

@@ -1,10 +1,9 @@
 //! What the values of flows are made of: undelayed, and through no application.
 
 ghost use Rattle.std.specs.Prelude.{◌≡◌, ◌<◌, IfOk, length};
-ghost use Rattle.prl_base.specs.Operators.{delays};
 ghost use Rattle.prl_causal.specs.code.Sources.{AreArguments, AreWithin, all_inside, all_undelayed, inside_of, undelayed_of};
 
-use prl_base::{FlowNo, Op};
+use prl_base::FlowNo;
 use prl_flow::{Arg, Def, Flat};
 use std::alloc::{AllocError, Global};
 
@@ -17,20 +16,6 @@ pub enum Source {
     Arguments(u32),
 }
 
-/// Whether the operator's result has only values of earlier dates.
-fn delays(op: &Op) -> bool
-    ensures { result ≡ delays op.now }
-{
-    match op {
-        Op::Fby(_) => true,
-        Op::Cons(_) => false,
-        Op::Tail => false,
-        Op::Up(_) => false,
-        Op::Down(_) => false,
-        Op::Shift(by) => by.num > 0,
-    }
-}
-
 /// What a definition uses undelayed.
 fn undelayed_of(def: &Def) -> Source
     ensures { result ≡ undelayed_of def.now }
@@ -41,7 +26,7 @@ fn undelayed_of(def: &Def) -> Source
         Def::Const(_) => Source::Nothing,
         Def::Apply { app, .. } => Source::Arguments(*app),
         Def::Op { op, of } => {
-            if delays(op) {
+            if op.delays() {
                 Source::Nothing
             } else {
                 Source::Flow(*of)

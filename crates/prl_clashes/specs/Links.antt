@@ -25,13 +25,6 @@ pub record IsOver (link timing result : Timing) : Type 0 where
   pub shifted : IsReducedForm (link.start.num *ℤ timing.period.num) (pos (link.start.den * timing.period.den)) shift
   pub start : IsReducedForm (timing.start.num *ℤ pos shift.den +ℤ shift.num *ℤ pos timing.start.den) (pos (timing.start.den * shift.den)) result.start
 
--- flow `j` is among the arguments
-pub record HasAmong (args : List Arg) (j : ℕ) : Type 0 where
-  pub index : ℕ
-  pub arg : Arg
-  pub found : slice_get args index ≡ Some arg
-  pub is : arg.flow.0 ≡ j
-
 -- an argument stands at this byte
 pub record HasAt (args : List Arg) (at : ℕ) : Type 0 where
   pub index : ℕ

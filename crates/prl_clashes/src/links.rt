@@ -2,35 +2,12 @@
 
 ghost use Rattle.std.specs.Prelude.{IfSome};
 ghost use Rattle.std.specs.Bool.{OnTrue};
-ghost use Rattle.prl_flow.specs.Uses.{IsArgument};
 ghost use Rattle.prl_clashes.specs.ClockWays.{HasArgumentAt, IsToldAt, StandsAt};
-ghost use Rattle.prl_clashes.specs.Links.{HasAmong, HasAt, HasLink, IsApplied, IsFirstOutput, IsLink};
+ghost use Rattle.prl_clashes.specs.Links.{HasAt, HasLink, IsApplied, IsFirstOutput, IsLink};
 
 use crate::timings::{same_clock, timing_of_operator};
 use prl_clock::Timing;
 use prl_flow::{Arg, Def, Flat};
-
-/// Whether a flow is among the arguments.
-pub(crate) fn has_among(args: &[Arg], flow: u32) -> bool
-    ensures { OnTrue result (HasAmong args.now flow) }
-{
-    for arg in args {
-        if arg.flow.0 == flow {
-            return true;
-        }
-    }
-    false
-}
-
-/// Whether a flow is an argument of the application of this number.
-fn is_argument(flat: &Flat, app: u32, flow: u32) -> bool
-    ensures { OnTrue result (IsArgument flat.now app flow) }
-{
-    match flat.apps().get(app as usize) {
-        None => false,
-        Some(app) => has_among(app.args.as_slice(), flow),
-    }
-}
 
 /// Whether a flow is the first output of the application of this number.
 fn is_first_output(flat: &Flat, app: u32, flow: u32) -> bool
@@ -51,7 +28,7 @@ fn is_applied(flat: &Flat, app: u32, out: u32, flow: u32) -> bool
     ensures { OnTrue result (IsApplied flat.now app out flow) }
 {
     if out == 0 {
-        is_argument(flat, app, flow)
+        flat.is_argument(app, flow)
     } else {
         is_first_output(flat, app, flow)
     }

@@ -1,8 +1,8 @@
 //! Searches for ways from declared rates. Nothing is promised of what they find.
 
-use crate::links::{has_among, link};
+use crate::links::link;
 use crate::ways::Hop;
-use prl_flow::{Arg, Def, Flat};
+use prl_flow::{Arg, Def, Flat, has_argument};
 use std::alloc::{AllocError, Global};
 
 /// Stands where no flow is.
@@ -27,7 +27,7 @@ struct Search {
 
 /// Whether the constraint is looked at by which the one flow is over the other.
 fn is_open(flat: &Flat, bound: Bound<'_>, user: u32, flow: u32) -> bool {
-    let is_within = user < bound.flow || (user == bound.flow && has_among(bound.args, flow));
+    let is_within = user < bound.flow || (user == bound.flow && has_argument(bound.args, flow));
     is_within && link(flat, user, flow).is_some()
 }
 

@@ -16,4 +16,4 @@ pub use laws::{
 };
 pub use spreading::spread;
 pub use spreads::Spread;
-pub use texts::{CoresFault, read_cores};
+pub use texts::{CoresFault, processor_in, read_cores};

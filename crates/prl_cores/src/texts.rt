@@ -2,16 +2,15 @@
 
 ghost use Rattle.std.specs.Prelude.{◌≡◌, ◌<◌, ◌≤◌, ◌^◌, List, Option, Some, None, length, replicate, IfErr, IfOk, IfSome, MatchOption};
 ghost use Rattle.std.specs.Bool.{OnTrue, OnFalse};
-ghost use Rattle.std.specs.List.{position_or_len};
 ghost use Rattle.std.specs.Vec.{vec_items};
 ghost use Rattle.prl_base.specs.Reading.{GivesBut};
 ghost use Rattle.prl_cores.specs.declared.texts.CoresFault.TheVariants as faults;
 ghost use Rattle.prl_base.specs.Lines.{lines_of};
-ghost use Rattle.prl_cores.specs.Processors.{IsOfTasks, is_blank, processor_in, placing_of, placed_in, or_line, placed_from, all_placed, processors_of};
+ghost use Rattle.prl_cores.specs.Processors.{IsOfTasks, processor_in, placing_of, placed_in, or_line, placed_from, all_placed, processors_of};
 ghost use Rattle.prl_schedules.specs.Schedules.{without_return};
 ghost use Rattle.prl_schedules.specs.ScheduleTexts.{task_names};
 
-use prl_base::{TaskNo, cut_line};
+use prl_base::{TaskNo, cut_line, len_before};
 use prl_plan::{Plan, plan_is_one};
 use prl_schedules::{TaskNames, without_return};
 use std::alloc::{AllocError, AllocFailed, Global};
@@ -48,21 +47,8 @@ impl<T: Drop> From<AllocFailed<T>> for CoresFault {
     }
 }
 
-/// How many bytes there are up to a blank or the end.
-fn name_len(line: &[u8]) -> usize
-    ensures exact { result ≡ position_or_len is_blank line.now }
-    ensures within { result ≤ length line.now }
-{
-    for (i, byte) in line.iter().enumerate() {
-        if *byte == b' ' {
-            return i;
-        }
-    }
-    line.len()
-}
-
 /// The number of a processor, 0 to 15, without leading zeros.
-fn processor_in(bytes: &[u8]) -> Option<u32>
+pub fn processor_in(bytes: &[u8]) -> Option<u32>
     ensures { result ≡ processor_in bytes.now }
 {
     match bytes {
@@ -77,7 +63,7 @@ fn placing_of(names: &TaskNames<'_>, line: &[u8]) -> Option<(TaskNo, u32)>
     ensures exact { result ≡ placing_of names.now line.now }
     ensures task { IfSome result (λ placing. placing.0.0 < length names.now) }
 {
-    let len = name_len(line);
+    let len = len_before(line, b' ');
     if len == line.len() {
         return None;
     }

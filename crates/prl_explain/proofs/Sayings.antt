@@ -1,5 +1,5 @@
 -- What is told, from its parts.
-use Rattle.std.proofs.Common.{◌≡◌, ◌++◌, ◌∙◌, ℕ, ℤ, List, [], Option, Some, None, Ok, Err, ap, inl, inr, refl, subst}
+use Rattle.std.proofs.Common.{◌≡◌, ◌++◌, ◌∙◌, ℕ, ℤ, List, [], Option, Some, None, ap, inl, inr, refl}
 use Rattle.prl_base.specs.Decimals.{decimal_of}
 use Rattle.prl_flow.specs.Programs.{FlatProgram}
 use Rattle.prl_plan.specs.declared.graphs.TaskGraph.{TaskGraph}
@@ -20,7 +20,7 @@ use Rattle.prl_sentences.specs.declared.kinds.Part.TheVariants as parts
 use Rattle.prl_sentences.specs.Kinds.{IsLineOf, rest_of}
 use Rattle.prl_explain.specs.declared.texts.Texts.{Texts}
 use Rattle.prl_explain.specs.Details.{IsPlanFrom}
-use Rattle.prl_explain.specs.Explanations.{IfPlan, IsByPlan, IsCountedAt, IsDetail, IsExplanation, IsFront, IsOfKind, program_in}
+use Rattle.prl_explain.specs.Explanations.{IsByPlan, IsCountedAt, IsDetail, IsExplanation, IsFront, IsOfKind, program_in}
 use Rattle.prl_programs.specs.Programs.{IsFlatOf, IsGraphIn}
 use Rattle.prl_explain.specs.Texts.{AreNamed, Folder, text_in}
 use Rattle.prl_explain.specs.Ways.{IsChainTold, IsCircleTold, IsClashTold, IsCycleTold, IsDated, IsJobNamed}

@@ -1,5 +1,5 @@
 -- What is told beside the place and the sentence, by the plan of the program.
-use Rattle.std.specs.Prelude.{◌≡◌, ◌++◌, ◌⊎◌, ℕ, zero, suc, List, [], ◌∷◌, Option, Some, None, Result, Ok, Err, codes}
+use Rattle.std.specs.Prelude.{◌≡◌, ◌⊎◌, ℕ, zero, suc, List, [], Option, Some, None, Result, Ok, Err}
 use Rattle.prl_base.specs.Decimals.{decimal_of}
 use Rattle.prl_broken.specs.declared.causes.Finding.{Finding}
 use Rattle.prl_broken.specs.declared.lefts.Left.{Left}

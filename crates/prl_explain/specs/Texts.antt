@@ -1,5 +1,5 @@
 -- The files that the words name, and their bytes.
-use Rattle.std.specs.Prelude.{◌≡◌, ◌≤◌, ◌⊎◌, ℕ, List, [], ◌∷◌, Option, Some, None, IfSome, length, codes, vec_items}
+use Rattle.std.specs.Prelude.{◌≡◌, ◌≤◌, ◌⊎◌, ℕ, List, Option, Some, None, IfSome, length, codes, vec_items}
 use Rattle.std.specs.Option.{option_map}
 use Rattle.prl_io.specs.Views.{FolderView}
 use Rattle.prl_companions.specs.declared.endings.Stop.{Stop}

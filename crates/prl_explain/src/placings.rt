@@ -1,12 +1,13 @@
 //! What is told of the tasks of a plan, and of a line of a text of processors that places none.
 
 ghost use Rattle.std.specs.Prelude.{◌≡◌, ◌++◌, ◌≤◌, ◌<◌, ◌^◌, IfOk, OnOk, length};
-ghost use Rattle.std.specs.List.{flat_map, position_or_len};
-ghost use Rattle.prl_cores.specs.Processors.{is_blank, processor_in};
+ghost use Rattle.std.specs.List.{flat_map};
+ghost use Rattle.prl_cores.specs.Processors.{processor_in};
 ghost use Rattle.prl_schedules.specs.ScheduleTexts.{names_of};
 ghost use Rattle.prl_explain.specs.Placings.{again_text, marks_text, name_text, no_blank_text, no_number_text, placing_text, tasks_text, unnamed_text, worded};
 
-use prl_base::TaskNo;
+use prl_base::{TaskNo, len_before};
+use prl_cores::processor_in;
 use prl_plan::Task;
 use prl_schedules::TaskNames;
 use std::alloc::{AllocError, Global};
@@ -30,30 +31,6 @@ pub(crate) fn push_tasks(told: &mut Vec<u8>, tasks: &[Task]) -> Result<(), Alloc
     told.extend_from_slice(b"The tasks are")?;
     push_names(told, tasks)?;
     told.extend_from_slice(b".\n")
-}
-
-/// How many bytes there are up to a blank or the end.
-fn name_len(line: &[u8]) -> usize
-    ensures exact { result ≡ position_or_len is_blank line.now }
-    ensures within { result ≤ length line.now }
-{
-    for (i, byte) in line.iter().enumerate() {
-        if *byte == b' ' {
-            return i;
-        }
-    }
-    line.len()
-}
-
-/// The number of a processor, 0 to 15, without leading zeros.
-fn processor_in(bytes: &[u8]) -> Option<u32>
-    ensures { result ≡ processor_in bytes.now }
-{
-    match bytes {
-        [digit @ b'0'..=b'9'] => Some(u32::from(*digit - b'0')),
-        [b'1', digit @ b'0'..=b'5'] => Some(10 + u32::from(*digit - b'0')),
-        _ => None,
-    }
 }
 
 /// Appends a word between others.
@@ -130,7 +107,7 @@ pub(crate) fn placing_told(
     ensures { IfOk result (λ told. told.items ≡ placing_text (names_of tasks.now) line.now) }
 {
     let mut told = Vec::new(alloc);
-    let len = name_len(line);
+    let len = len_before(line, b' ');
     if len == line.len() {
         push_no_blank(&mut told)?;
         return Ok(told);

@@ -9,6 +9,13 @@ use Rattle.prl_flow.specs.declared.programs.Def.TheVariants as definitions
 use Rattle.prl_flow.specs.declared.programs.Flow.{Flow}
 use Rattle.prl_flow.specs.Programs.{FlatProgram}
 
+-- flow `j` is among the arguments
+pub record HasArgument (args : List Arg) (j : ℕ) : Type 0 where
+  pub index : ℕ
+  pub arg : Arg
+  pub found : slice_get args index ≡ Some arg
+  pub is : arg.flow.0 ≡ j
+
 -- flow `j` is an argument of the application of this number
 pub record IsArgument (p : FlatProgram) (k j : ℕ) : Type 0 where
   pub app : App

@@ -8,5 +8,5 @@ mod programs;
 mod rows;
 
 pub use dates::dates_before;
-pub use programs::{App, Arg, Clocks, Def, Flat, Flow, Order, OutFlow};
+pub use programs::{App, Arg, Clocks, Def, Flat, Flow, Order, OutFlow, has_argument};
 pub use rows::Sensors;

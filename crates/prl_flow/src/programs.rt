@@ -1,7 +1,9 @@
 //! Flat programs and the clocks of their flows.
 
 ghost use Rattle.std.specs.Prelude.{◌≡◌, ◌<◌, length};
+ghost use Rattle.std.specs.Bool.{OnTrue};
 ghost use Rattle.prl_flow.specs.Programs.{name_of, wcet_of, IsFlat};
+ghost use Rattle.prl_flow.specs.Uses.{HasArgument, IsArgument};
 
 use prl_ast::Rate;
 use prl_base::{Clock, FlowNo, Label, Name, Op, Seq, Span, Ty, Value};
@@ -135,6 +137,16 @@ impl Flat {
         self.apps.as_slice()
     }
 
+    /// Whether a flow is an argument of the application of this number.
+    pub fn is_argument(&self, app: u32, flow: u32) -> bool
+        ensures { OnTrue result (IsArgument self.now app flow) }
+    {
+        match self.apps().get(app as usize) {
+            None => false,
+            Some(app) => has_argument(app.args.as_slice(), flow),
+        }
+    }
+
     /// The flows that are main's inputs, in order.
     pub fn ins(&self) -> &[FlowNo]
         ensures { result.now ≡ self.now.ins }
@@ -183,6 +195,18 @@ impl Flat {
     {
         self.out_devices[k as usize].1
     }
+}
+
+/// Whether a flow is among the arguments.
+pub fn has_argument(args: &[Arg], flow: u32) -> bool
+    ensures { OnTrue result (HasArgument args.now flow) }
+{
+    for arg in args {
+        if arg.flow.0 == flow {
+            return true;
+        }
+    }
+    false
 }
 
 /// The clocks of the flows of a flat program, in the order of the flows.

@@ -5,10 +5,10 @@ ghost use Rattle.std.specs.Char.{is_ascii_digit};
 ghost use Rattle.std.specs.List.{prefix_len};
 ghost use Rattle.prl_base.specs.Names.{is_word_byte};
 ghost use Rattle.prl_lex.specs.FirstByte.{symbol_by_bytes, token_by_first};
-ghost use Rattle.prl_lex.specs.Tokens.{is_blank, is_one_byte_symbol, is_two_byte_symbol, line_len, begins, closing_len, closed, token_of_len, longest, piece_of, FitsPiece};
+ghost use Rattle.prl_lex.specs.Tokens.{is_blank, is_one_byte_symbol, is_two_byte_symbol, begins, closing_len, closed, token_of_len, longest, piece_of, FitsPiece};
 
 use crate::tokens::Kind;
-use prl_base::{is_word_byte, is_word_start};
+use prl_base::{is_word_byte, is_word_start, line_len};
 
 /// What stands at the front of a text.
 #[derive(Clone, Copy, PartialEq, Eq)]
@@ -66,18 +66,6 @@ fn digits_len(text: &[u8]) -> usize
 {
     for (i, byte) in text.iter().enumerate() {
         if !byte.is_ascii_digit() {
-            return i;
-        }
-    }
-    text.len()
-}
-
-/// How many bytes there are up to a line feed or the end.
-fn line_len(text: &[u8]) -> usize
-    ensures { result ≡ line_len text.now }
-{
-    for (i, byte) in text.iter().enumerate() {
-        if *byte == b'\n' {
             return i;
         }
     }

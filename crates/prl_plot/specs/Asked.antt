@@ -1,7 +1,8 @@
 -- The flows and the range that the words ask for.
-use Rattle.std.specs.Prelude.{◌≡◌, ◌==◌, ◌<◌, ◌-◌, ◌++◌, ℕ, Bool, true, false, List, [], Option, Some, Ok, IfSome, MatchOption, bytes_eq, codes}
+use Rattle.std.specs.Prelude.{◌≡◌, ◌==◌, ◌<◌, ◌-◌, ◌++◌, ℕ, Bool, true, false, List, [], Some, Ok, IfSome, MatchOption, bytes_eq, codes}
 use Rattle.std.specs.List.{filter, list_any, slice_split}
 use Rattle.prl_base.specs.Decimals.{decimal_of}
+use Rattle.prl_companions.specs.Faults.{Folder}
 use Rattle.prl_companions.specs.Pairs.{value_of}
 use Rattle.prl_drawing.specs.declared.scales.Scale.{Scale}
 use Rattle.prl_plan.specs.Plans.{PlanView}
@@ -11,10 +12,6 @@ use Rattle.prl_steps.specs.Flows.{FlowView}
 use Rattle.prl_readings.specs.declared.forms.Form.{Form}
 use Rattle.prl_plot.specs.Inputs.{inputs_of}
 use Rattle.prl_readings.specs.Rows.{flows_of}
-
--- files by name; none where they are not known
-abbrev pub Folder : Type 0
-Folder = Option (List ℕ → Option (List ℕ))
 
 -- the flows are those of the rows in the file of this name
 abbrev pub AreFlows : Folder → Form → List FlowView → List ℕ → Type 0

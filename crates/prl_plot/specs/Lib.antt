@@ -2,7 +2,5 @@
 pub mod Inputs
 -- the flows and the range that the words ask for
 pub mod Asked
--- how a call ends
-pub mod Faults
 -- the plots
 pub mod Answers

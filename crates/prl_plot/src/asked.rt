@@ -5,12 +5,12 @@ ghost use Rattle.std.specs.String.{string_bytes};
 ghost use Rattle.prl_companions.specs.Pairs.{value_of};
 ghost use Rattle.prl_plot.specs.Asked.{AreFlows, AreSensors, IsAsked, IsPlanAsked, dated_form, timed_form};
 
-use crate::faults::{Fault, bad_rows, unfit};
+use crate::faults::bad_rows;
 use crate::inputs::inputs_of;
 use crate::words::FORM;
 use prl_base::{Label, Seq};
 use prl_calls::plan_of;
-use prl_companions::{Stop, read_named, value_of};
+use prl_companions::{Fault, Stop, read_named, unfit_for, value_of};
 use prl_io::Files;
 use prl_plan::Plan;
 use prl_readings::{Form, read_flows};
@@ -66,8 +66,13 @@ fn plan_asked<F: Files>(alloc: Global, words: &[String], files: &mut F) -> Resul
     match plan_of(alloc, program, node) {
         Ok(plan) => Ok(plan),
         Err(prl_stages::Stop::Memory) => Err(Fault::Stop(Stop::Memory)),
-        Err(_) => Err(unfit(alloc, name, NO_PLAN)),
+        Err(_) => Err(no_plan(alloc, name)),
     }
+}
+
+/// Says that the program in the file of a name has no plan.
+fn no_plan(alloc: Global, name: &[u8]) -> Fault {
+    unfit_for(alloc, name, Vec::from_slice(alloc, NO_PLAN.as_bytes()))
 }
 
 /// The form of the rows of a plan's sensors.

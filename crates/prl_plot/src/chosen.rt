@@ -1,28 +1,15 @@
 //! The flows that the words choose.
 
 ghost use Rattle.std.specs.Prelude.{◌≡◌, ◌<◌, ◌≤◌, ◌+◌, IfOk, drop, length, map};
-ghost use Rattle.std.specs.List.{filter, position_or_len};
+ghost use Rattle.std.specs.List.{filter};
 ghost use Rattle.std.specs.String.{string_bytes};
-ghost use Rattle.prl_plot.specs.Asked.{AreChosen, is_comma, is_named};
+ghost use Rattle.prl_plot.specs.Asked.{AreChosen, is_named};
 
-use crate::faults::{Fault, unfit};
-use prl_companions::value_of;
+use prl_base::len_before;
+use prl_companions::{Fault, unfit_for, value_of};
 use prl_readings::place_of;
 use prl_steps::Flow;
 use std::alloc::{AllocError, Global};
-
-/// How many bytes stand before the first comma.
-fn comma_in(text: &[u8]) -> usize
-    ensures exact { result ≡ position_or_len is_comma text.now }
-    ensures within { result ≤ length text.now }
-{
-    for (i, byte) in text.iter().enumerate() {
-        if *byte == b',' {
-            return i;
-        }
-    }
-    text.len()
-}
 
 /// What stands behind the byte at a place.
 fn behind(text: &[u8], at: usize) -> &[u8]
@@ -37,7 +24,7 @@ fn behind(text: &[u8], at: usize) -> &[u8]
 fn is_named(names: &[u8], name: &[u8]) -> bool
     ensures { result ≡ is_named names.now name.now }
 {
-    let at = comma_in(names);
+    let at = len_before(names, b',');
     if at >= names.len() {
         return names == name;
     }
@@ -46,7 +33,7 @@ fn is_named(names: &[u8], name: &[u8]) -> bool
 
 /// The first name of a list with commas that no flow has.
 fn unknown<'a>(names: &'a [u8], flows: &[Flow]) -> Option<&'a [u8]> {
-    let at = comma_in(names);
+    let at = len_before(names, b',');
     let name = &names[..at];
     if place_of(flows, name) >= flows.len() {
         return Some(name);
@@ -72,6 +59,15 @@ fn kept(alloc: Global, flows: Vec<Flow>, names: &[u8]) -> Result<Vec<Flow>, Allo
     Ok(kept)
 }
 
+/// Says that no flow of a name has a row.
+fn no_row(alloc: Global, name: &[u8]) -> Fault {
+    unfit_for(
+        alloc,
+        name,
+        Vec::from_slice(alloc, b"no flow of this name has a row"),
+    )
+}
+
 /// The flows that the words choose.
 pub(crate) fn chosen(alloc: Global, words: &[String], flows: Vec<Flow>) -> Result<Vec<Flow>, Fault>
     ensures { IfOk result (λ chosen. AreChosen (map string_bytes words.now) flows.items chosen.items) }
@@ -80,7 +76,7 @@ pub(crate) fn chosen(alloc: Global, words: &[String], flows: Vec<Flow>) -> Resul
         return Ok(flows);
     };
     if let Some(name) = unknown(names, &flows) {
-        return Err(unfit(alloc, name, "no flow of this name has a row"));
+        return Err(no_row(alloc, name));
     }
     Ok(kept(alloc, flows, names)?)
 }

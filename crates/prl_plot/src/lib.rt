@@ -10,5 +10,4 @@ mod inputs;
 mod plots;
 mod words;
 
-pub use faults::Fault;
 pub use plots::plot;

@@ -4,7 +4,6 @@ ghost use Rattle.std.specs.Prelude.{◌≡◌, ◌-◌, ◌<◌, ◌≤◌, IfSo
 ghost use Rattle.std.specs.String.{string_bytes};
 ghost use Rattle.prl_base.specs.Decimals.{decimal_of};
 ghost use Rattle.prl_companions.specs.Pairs.{value_of};
-ghost use Rattle.prl_plot.specs.Answers.{asks_help};
 ghost use Rattle.prl_plot.specs.Asked.{IsRange};
 
 use prl_base::decimal_of;
@@ -50,16 +49,6 @@ pub static OPTIONS: [&[u8]; 8] = [
     b"--until",
     b"--tick",
 ];
-
-/// Whether the words ask for what the options mean.
-pub(crate) fn asks_help(words: &[String]) -> bool
-    ensures { result ≡ asks_help (map string_bytes words.now) }
-{
-    match words {
-        [word] => word.as_bytes() == b"--help".as_slice(),
-        _ => false,
-    }
-}
 
 /// The tick that a word writes.
 fn tick_of(word: &[u8]) -> Option<u64>

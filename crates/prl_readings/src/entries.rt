@@ -11,32 +11,13 @@ ghost use Rattle.prl_sensors.specs.SensorRows.{truth_of};
 
 use crate::faults::RowFault;
 use crate::forms::{Form, Input};
-use crate::records::{Four, Three, four, three};
+use crate::records::{Four, four};
 use csv::ByteRecord;
-use prl_base::{Clock, Value, decimal_of, integer_of};
+use prl_base::{Clock, Value, decimal_of};
+use prl_sensors::{Fields, int_of, three, truth_of};
 
 /// A name, a date and a value.
 pub(crate) type Entry<'a> = (&'a [u8], u64, Value);
-
-/// The truth value that a field is written as.
-fn truth_of(text: &[u8]) -> Option<bool>
-    ensures { result ≡ truth_of text.now }
-{
-    if text == b"true".as_slice() {
-        Some(true)
-    } else if text == b"false".as_slice() {
-        Some(false)
-    } else {
-        None
-    }
-}
-
-/// The integer that a field is written as, as a value.
-fn int_of(text: &[u8]) -> Option<Value>
-    ensures { result ≡ option_map values.Int (integer_of text.now) }
-{
-    Some(Value::Int(integer_of(text)?))
-}
 
 /// The value that a field is written as.
 fn value_of(text: &[u8]) -> Option<Value>
@@ -100,7 +81,7 @@ fn instance_date(clock: Clock, instance: &[u8]) -> Option<u64>
 fn timed_entry<'a>(
     inputs: &[Input],
     number: u64,
-    fields: Option<Three<'a>>,
+    fields: Option<Fields<'a>>,
 ) -> Result<Entry<'a>, RowFault>
     ensures { GivesBut RowFault.Memory (λ e. (e.0.now, e.1, e.2)) result
         (timed_entry inputs.now number (option_map (λ f. (f.0.now, f.1.now, f.2.now)) fields.entry)) }

@@ -1,6 +1,5 @@
 //! Why rows are no flows.
 
-use csv::Error;
 use std::alloc::AllocError;
 
 /// Why a text is no rows of flows. A record's number counts the records before it, from 1; a header counts, and empty
@@ -25,18 +24,6 @@ impl From<AllocError> for RowFault {
     ghost from_gives = { λ _ e. e ≡ Memory };
 
     fn from(_error: AllocError) -> RowFault {
-        RowFault::Memory
-    }
-}
-
-/// Records of bytes that are all there, of any length, are refused for want of memory alone.
-impl From<Error> for RowFault {
-    ghost use Rattle.std.specs.Prelude.{◌≡◌};
-    ghost use Rattle.prl_readings.specs.declared.faults.RowFault.TheVariants.{Memory};
-
-    ghost from_gives = { λ _ e. e ≡ Memory };
-
-    fn from(_error: Error) -> RowFault {
         RowFault::Memory
     }
 }

@@ -8,9 +8,10 @@ ghost use Rattle.prl_readings.specs.Rows.{added, added_at, begun, flows_of, is_a
 use crate::entries::{Entry, entry_of};
 use crate::faults::RowFault;
 use crate::forms::Form;
-use crate::records::{is_header, read_record, reader_of};
+use crate::records::is_header;
 use csv::ByteRecord;
 use prl_base::{Name, NameFault, Ty, Value};
+use prl_sensors::{read_record, reader_of};
 use prl_steps::{Flow, Sample, level_of};
 use std::alloc::{AllocError, Global};
 

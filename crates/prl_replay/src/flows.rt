@@ -7,23 +7,26 @@ ghost use Rattle.prl_track.specs.Machine.{Drives};
 ghost use Rattle.prl_core.specs.Cores.{AreOutputs};
 ghost use Rattle.prl_replay.specs.Replays.{AddsFlow, AreFlowsBelow};
 
-use prl_base::{Label, Name, NameFault, Seq};
+use prl_base::{Name, Seq, Value};
 use prl_core::Core;
 use prl_flow::OutFlow;
 use prl_plan::{Kind, Plan, Task, plan_is_one};
 use std::alloc::{AllocError, Global};
 
-/// The name of an actuator, which is that of its task.
-fn name_of(alloc: Global, label: &Label) -> Result<Name, AllocError>
-    requires { IsName label.now }
-    ensures { IfOk result (λ name. name ≡ label.now) }
+/// The flow of an actuator, by its task and its values.
+pub fn out_flow(alloc: Global, task: &Task, values: &[Value]) -> Result<OutFlow, AllocError>
+    requires { IsName task.now.name }
+    ensures name { IfOk result (λ out. out.name ≡ task.now.name) }
+    ensures clock { IfOk result (λ out. out.clock ≡ task.now.clock) }
+    ensures values { IfOk result (λ out. out.values ≡ values.now) }
 {
-    match Name::new(alloc, label.bytes()) {
-        Ok(name) => Ok(name),
-        Err(NameFault::Memory) => Err(AllocError),
-        Err(NameFault::Shape) => unreachable!(),
-        Err(NameFault::Long(_)) => unreachable!(),
-    }
+    let name = Name::of_word(alloc, task.name.bytes())?;
+    let values = Vec::from_slice(alloc, values)?;
+    Ok(OutFlow {
+        name,
+        clock: task.clock,
+        values: Seq::new(values),
+    })
 }
 
 /// The flow of the actuator of this number, whose task is told.
@@ -39,13 +42,7 @@ fn flow_of(
     ensures clock { IfOk result (λ out. out.clock ≡ task.now.clock) }
     ensures values { IfOk result (λ out. (i : ℕ) × Drives core.now.plan i actuator × AreOutputs core.now i out.values) }
 {
-    let name = name_of(alloc, &task.name)?;
-    let values = Vec::from_slice(alloc, core.output(actuator))?;
-    Ok(OutFlow {
-        name,
-        clock: task.clock,
-        values: Seq::new(values),
-    })
+    out_flow(alloc, task, core.output(actuator))
 }
 
 /// Adds the flow of task `i`, where it is an actuator's.

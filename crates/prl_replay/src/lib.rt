@@ -10,6 +10,7 @@ mod replays;
 mod texts;
 
 pub use faults::ReplayFault;
+pub use flows::out_flow;
 pub use laws::{
     actuators_get_the_outputs, placed_lists_are_replayed, replays_end_one_way,
     whole_lists_are_replayed,

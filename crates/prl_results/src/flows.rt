@@ -8,24 +8,11 @@ ghost use Rattle.prl_results.specs.Shown.{AddsShown, AreShown};
 ghost use Rattle.prl_rule.specs.declared.views.Constants.{Constants};
 ghost use Rattle.prl_seats.specs.JobSeats.{JobSeatView};
 
-use prl_base::{Label, Name, NameFault, Seq};
 use prl_board::Closed;
 use prl_flow::OutFlow;
 use prl_plan::{Kind, Plan, Task, plan_is_one};
+use prl_replay::out_flow;
 use std::alloc::{AllocError, Global};
-
-/// The name of an actuator, which is that of its task.
-fn name_of(alloc: Global, label: &Label) -> Result<Name, AllocError>
-    requires { IsName label.now }
-    ensures { IfOk result (λ name. name ≡ label.now) }
-{
-    match Name::new(alloc, label.bytes()) {
-        Ok(name) => Ok(name),
-        Err(NameFault::Memory) => Err(AllocError),
-        Err(NameFault::Shape) => unreachable!(),
-        Err(NameFault::Long(_)) => unreachable!(),
-    }
-}
 
 /// The flow of the actuator of this number, whose task is told.
 fn flow_of(
@@ -41,13 +28,7 @@ fn flow_of(
     ensures values { IfOk result (λ out. (k : Constants) (i : ℕ) (s : JobSeatView) → closed.now.constants ≡ Some k → Drives k i actuator →
         slice_get closed.now.seats i ≡ Some s → AreOutputs k i s.job out.values) }
 {
-    let name = name_of(alloc, &task.name)?;
-    let values = Vec::from_slice(alloc, closed.output(actuator))?;
-    Ok(OutFlow {
-        name,
-        clock: task.clock,
-        values: Seq::new(values),
-    })
+    out_flow(alloc, task, closed.output(actuator))
 }
 
 /// Adds the flow of task `i`, where it is an actuator's.

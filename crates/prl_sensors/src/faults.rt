@@ -1,6 +1,5 @@
 //! Why a text has no rows for a program.
 
-use csv::Error;
 use prl_base::Name;
 use std::alloc::AllocError;
 
@@ -28,18 +27,6 @@ impl From<AllocError> for SensorFault {
     ghost from_gives = { λ _ e. e ≡ Memory };
 
     fn from(_error: AllocError) -> SensorFault {
-        SensorFault::Memory
-    }
-}
-
-/// Records of bytes that are all there, of any length, are refused for want of memory alone.
-impl From<Error> for SensorFault {
-    ghost use Rattle.std.specs.Prelude.{◌≡◌};
-    ghost use Rattle.prl_sensors.specs.declared.faults.SensorFault.TheVariants.{Memory};
-
-    ghost from_gives = { λ _ e. e ≡ Memory };
-
-    fn from(_error: Error) -> SensorFault {
         SensorFault::Memory
     }
 }

@@ -22,4 +22,5 @@ pub use faults::SensorFault;
 pub use laws::rows_are_typed_and_enough;
 pub use outcomes::each_text_has_rows_or_a_fault;
 pub use outputs::OutRows;
-pub use rows::read_sensors;
+pub use records::{Fields, field, read_record, reader_of, three};
+pub use rows::{int_of, read_sensors, truth_of};

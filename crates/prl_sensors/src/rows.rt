@@ -52,7 +52,7 @@ fn no_rows(
 }
 
 /// The truth value that a field is written as.
-fn truth_of(text: &[u8]) -> Option<bool>
+pub fn truth_of(text: &[u8]) -> Option<bool>
     ensures { result ≡ truth_of text.now }
 {
     if text == b"true".as_slice() {
@@ -65,7 +65,7 @@ fn truth_of(text: &[u8]) -> Option<bool>
 }
 
 /// The integer that a field is written as, as a value.
-fn int_of(text: &[u8]) -> Option<Value>
+pub fn int_of(text: &[u8]) -> Option<Value>
     ensures { result ≡ option_map values.Int (integer_of text.now) }
 {
     Some(Value::Int(integer_of(text)?))

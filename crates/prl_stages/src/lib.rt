@@ -1,5 +1,5 @@
 //! The stages of the command: what each finds, why it refuses, the modes as lists of them, and the laws that each list comes to
-//! one end. The calls that do them stand in `prl_pipeline`. It stands on the crates whose calls the stages are.
+//! one end. The calls that do them stand in `prl_calls`. It stands on the crates whose calls the stages are.
 #![tactic(auto)]
 
 mod faults;

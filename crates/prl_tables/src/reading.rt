@@ -1,7 +1,7 @@
 //! Reading the text of a table.
 
 ghost use Rattle.std.specs.Prelude.{◌≡◌, ◌≤◌, None, length};
-ghost use Rattle.std.specs.List.{after_first, before_first, position_or_len};
+ghost use Rattle.std.specs.List.{after_first, before_first};
 ghost use Rattle.std.specs.Option.{option_map};
 ghost use Rattle.std.specs.Vec.{vec_items};
 ghost use Rattle.prl_base.specs.Lines.{lines_of};
@@ -12,7 +12,7 @@ ghost use Rattle.prl_tables.specs.TableTexts.{is_header, keeps_order, last_field
 
 use crate::tables::{Entry, Table};
 use itoa::Buffer;
-use prl_base::{EdgeNo, Seq, TaskNo, cut_line, decimal_of};
+use prl_base::{EdgeNo, Seq, TaskNo, cut_line, decimal_of, len_before};
 use prl_plan::Plan;
 use std::alloc::{AllocError, AllocFailed, Global};
 
@@ -67,25 +67,12 @@ fn number_of(word: &[u8]) -> Option<u64>
     }
 }
 
-/// How many bytes there are up to a blank or the end.
-fn word_len(text: &[u8]) -> usize
-    ensures exact { result ≡ position_or_len is_blank text.now }
-    ensures within { result ≤ length text.now }
-{
-    for (i, byte) in text.iter().enumerate() {
-        if *byte == b' ' {
-            return i;
-        }
-    }
-    text.len()
-}
-
 /// What stands before the first blank, and after it.
 fn cut_word(text: &[u8]) -> (&[u8], &[u8])
     ensures front { result.0.now ≡ before_first is_blank text.now }
     ensures rest { result.1.now ≡ after_first is_blank text.now }
 {
-    let at = word_len(text);
+    let at = len_before(text, b' ');
     if at < text.len() {
         (&text[..at], &text[at + 1..])
     } else {

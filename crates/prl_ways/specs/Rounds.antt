@@ -1,19 +1,11 @@
 -- Cycles of flows that a refusal is about.
-use Rattle.std.specs.Prelude.{◌≡◌, ℕ, List, [], ◌∷◌, Some, slice_get}
-use Rattle.prl_flow.specs.declared.programs.Arg.{Arg}
+use Rattle.std.specs.Prelude.{◌≡◌, ℕ, List, [], ◌∷◌}
 use Rattle.prl_flow.specs.declared.programs.Def.{Def}
 use Rattle.prl_flow.specs.Programs.{FlatProgram}
 use Rattle.prl_flow.specs.Uses.{NamesInside, NamesNow, UsesInside, UsesNow}
 use Rattle.prl_ways.specs.declared.rounds.Round.{Round}
 use Rattle.prl_ways.specs.declared.uses.Along.{Along}
 use Rattle.prl_ways.specs.declared.uses.Along.TheVariants as along
-
--- flow `j` is among the arguments
-pub record HasArgument (args : List Arg) (j : ℕ) : Type 0 where
-  pub index : ℕ
-  pub arg : Arg
-  pub found : slice_get args index ≡ Some arg
-  pub is : arg.flow.0 ≡ j
 
 -- the definition uses flow `j`: without a delay, or through no application
 abbrev pub Names : FlatProgram → Along → Def → ℕ → Type 0

@@ -1,12 +1,9 @@
 //! Which flows of a flat program use which.
 
-ghost use Rattle.std.specs.Prelude.{◌≡◌};
 ghost use Rattle.std.specs.Bool.{OnTrue};
-ghost use Rattle.prl_base.specs.Operators.{delays};
-ghost use Rattle.prl_flow.specs.Uses.{IsArgument};
-ghost use Rattle.prl_ways.specs.Rounds.{HasArgument, Names, Uses};
+ghost use Rattle.prl_ways.specs.Rounds.{Names, Uses};
 
-use prl_base::{FlowNo, Op};
+use prl_base::FlowNo;
 use prl_flow::{Arg, Def, Flat};
 
 /// Which uses are followed: those without a delay, or those that go through no application.
@@ -14,42 +11,6 @@ use prl_flow::{Arg, Def, Flat};
 pub enum Along {
     Undelayed,
     Inside,
-}
-
-/// Whether an operator's result has only values of earlier dates.
-fn delays(op: &Op) -> bool
-    ensures { result ≡ delays op.now }
-{
-    match op {
-        Op::Fby(_) => true,
-        Op::Cons(_) => false,
-        Op::Tail => false,
-        Op::Up(_) => false,
-        Op::Down(_) => false,
-        Op::Shift(ratio) => ratio.num > 0,
-    }
-}
-
-/// Whether a flow is among the arguments.
-fn has_argument(args: &[Arg], flow: u32) -> bool
-    ensures { OnTrue result (HasArgument args.now flow) }
-{
-    for arg in args {
-        if arg.flow.0 == flow {
-            return true;
-        }
-    }
-    false
-}
-
-/// Whether a flow is an argument of the application of this number.
-fn is_argument(flat: &Flat, app: u32, flow: u32) -> bool
-    ensures { OnTrue result (IsArgument flat.now app flow) }
-{
-    match flat.apps().get(app as usize) {
-        None => false,
-        Some(app) => has_argument(app.args.as_slice(), flow),
-    }
 }
 
 /// Whether the definition uses the flow.
@@ -61,11 +22,11 @@ fn names(flat: &Flat, along: Along, def: &Def, flow: u32) -> bool
         Def::Const(_) => false,
         Def::Copy(of) => of.0 == flow,
         Def::Op { op, of } => match along {
-            Along::Undelayed => !delays(op) && of.0 == flow,
+            Along::Undelayed => !op.delays() && of.0 == flow,
             Along::Inside => of.0 == flow,
         },
         Def::Apply { app, .. } => match along {
-            Along::Undelayed => is_argument(flat, *app, flow),
+            Along::Undelayed => flat.is_argument(*app, flow),
             Along::Inside => false,
         },
     }
@@ -87,7 +48,7 @@ pub(crate) fn used<'a>(flat: &'a Flat, along: Along, def: &Def) -> (Option<FlowN
         Def::Sensor(_) | Def::Const(_) => (None, &[]),
         Def::Copy(of) => (Some(*of), &[]),
         Def::Op { op, of } => {
-            if along == Along::Undelayed && delays(op) {
+            if along == Along::Undelayed && op.delays() {
                 (None, &[])
             } else {
                 (Some(*of), &[])

@@ -1,14 +1,13 @@
 //! The worker of a task before its first job. All its memory is taken here.
 
 ghost use Rattle.std.specs.Prelude.{◌≡◌, ◌<◌, ◌^◌, length, IfOk};
-ghost use Rattle.prl_base.specs.Names.{IsName};
 ghost use Rattle.prl_plan.specs.Horizons.{IsHorizon};
 ghost use Rattle.prl_values.specs.Fitting.{HaveTaskBodies, port_types};
 ghost use Rattle.prl_values.specs.JobValues.{word_of};
 ghost use Rattle.prl_workers.specs.Workers.{IsNewWorker, IsNewWork, outs_of};
 
 use crate::workers::{Work, Worker};
-use prl_base::{Name, NameFault, TaskNo, Value};
+use prl_base::{Name, TaskNo, Value};
 use prl_body::{Bodies, Machine};
 use prl_plan::{Edge, Horizon, Kind, Plan, plan_is_one};
 use std::alloc::{AllocError, Global};
@@ -39,19 +38,6 @@ fn word_of(name: &[u8]) -> &[u8]
     name
 }
 
-/// The name of the body of the task of this name.
-fn name_of(alloc: Global, name: &[u8]) -> Result<Name, AllocError>
-    requires { IsName (word_of name.now) }
-    ensures { IfOk result (λ word. word ≡ word_of name.now) }
-{
-    match Name::new(alloc, word_of(name)) {
-        Ok(word) => Ok(word),
-        Err(NameFault::Memory) => Err(AllocError),
-        Err(NameFault::Shape) => unreachable!(),
-        Err(NameFault::Long(_)) => unreachable!(),
-    }
-}
-
 /// How the jobs of a task come to what they give, and how many outputs there are.
 fn work_of(
     alloc: Global,
@@ -70,7 +56,7 @@ fn work_of(
     match task.kind {
         Kind::Sensor(k) => Ok((Work::Sensor(k), 1)),
         Kind::Node(_) => {
-            let word = name_of(alloc, task.name.bytes())?;
+            let word = Name::of_word(alloc, word_of(task.name.bytes()))?;
             match bodies.of(&word) {
                 Some(body) => {
                     let machine = Machine::new(alloc, body)?;

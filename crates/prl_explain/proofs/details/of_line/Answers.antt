@@ -1,4 +1,4 @@
-use Rattle.std.proofs.Common.{◌≡◌, ◌++◌, ◌∙◌, ◌-◌, ℕ, List, Option, Some, ap, subst, sym}
+use Rattle.std.proofs.Common.{◌++◌, ◌∙◌, ◌-◌, ℕ, List, Option, Some, ap, subst, sym}
 use Rattle.prl_base.specs.Decimals.{decimal_of}
 use Rattle.prl_broken.specs.declared.causes.Finding.{Finding}
 use Rattle.prl_broken.specs.Causes.{IsFinding}

@@ -1,4 +1,4 @@
-use Rattle.std.proofs.Common.{◌∙◌, ℕ, List, Option, Some, ap, map, subst}
+use Rattle.std.proofs.Common.{◌∙◌, ℕ, List, Option, ap, map, subst}
 use denote.Ref.{Bor}
 use Rattle.std.specs.Prelude.{IfOk}
 use Rattle.std.specs.Option.{option_map}

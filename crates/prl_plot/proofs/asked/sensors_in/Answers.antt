@@ -4,7 +4,8 @@ use Rattle.std.proofs.lemmas.Result.{IfOk-weaker}
 use Rattle.prl_plan.specs.Plans.{PlanView}
 use Rattle.prl_readings.specs.declared.forms.Form.{Form}
 use Rattle.prl_steps.specs.Flows.{FlowView}
-use Rattle.prl_plot.specs.Asked.{AreFlows, AreSensors, Folder, IsPlanAsked, timed_form}
+use Rattle.prl_companions.specs.Faults.{Folder}
+use Rattle.prl_plot.specs.Asked.{AreFlows, AreSensors, IsPlanAsked, timed_form}
 use Rattle.prl_plot.proofs.asked.sensors_in.Goals as goal
 
 -- the rows are in the form of the plan, and no file was changed before they were read

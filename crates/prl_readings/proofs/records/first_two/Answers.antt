@@ -1,4 +1,4 @@
-use Rattle.std.proofs.Common.{◌≡◌, ◌≤◌, ℕ, List, [], ◌∷◌, length, Some, None, arith, rules, refl}
+use Rattle.std.proofs.Common.{◌≡◌, ◌≤◌, ℕ, List, [], ◌∷◌, length, Some, arith, rules}
 use Rattle.csv.specs.Records.{field_at, fields_of}
 use Rattle.prl_readings.specs.Rows.{first_two}
 use Rattle.prl_readings.proofs.records.first_two.Goals as goal

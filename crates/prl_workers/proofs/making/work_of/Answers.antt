@@ -10,16 +10,17 @@ use Rattle.prl_values.specs.JobValues.{word_of}
 use Rattle.prl_workers.proofs.TaskNames.{node_word, task_read}
 use Rattle.prl_workers.proofs.making.work_of.Goals as goal
 
-pub name_of-requires : goal.name_of-requires
-name_of-requires c =
+pub of_word-requires : goal.of_word-requires
+of_word-requires c =
     let tasks = c.as_slice.ensures ∙ ap (λ g. g.tasks) c.graph.ensures.graph in
     let at : c.index-as_slice-i.result ≡ task_at c.args.plan.now.graph c.args.i.0 =
     task_read c.as_slice.result.now c.args.plan.now.graph.tasks c.args.i.0 c.index-as_slice-i.result tasks c.requires.task c.index-as_slice-i.is in
     let is : IsTask c.args.plan.now.graph.hyper (task_at c.args.plan.now.graph c.args.i.0) =
     task_is c.args.plan.now.graph c.plan_is_one.ensures.graph c.args.i.0 c.requires.task in
     let kind = ap (λ (t : Task). t.kind) (sym at) ∙ c.in-Node.is in
+    subst IsName (sym c.word_of.ensures) (
     subst (λ (bytes : List ℕ). IsName (word_of bytes)) (sym (c.bytes.ensures ∙ ap (λ (t : Task). t.name) at))
-    (node_word (task_at c.args.plan.now.graph c.args.i.0).kind c.in-Node.field-0 (task_at c.args.plan.now.graph c.args.i.0).name kind is.name)
+    (node_word (task_at c.args.plan.now.graph c.args.i.0).kind c.in-Node.field-0 (task_at c.args.plan.now.graph c.args.i.0).name kind is.name))
 
 pub unreachable-requires : goal.unreachable-requires
 unreachable-requires c =
@@ -29,7 +30,7 @@ unreachable-requires c =
     let kind = ap (λ (t : Task). t.kind) (sym at) ∙ c.in-Node.is in
     let has = c.requires.bodies.each c.args.i.0 c.in-Node.field-0 c.requires.task kind in
     let word : c.in_ok-word-in-Node.word ≡ word_of (task_at c.args.plan.now.graph c.args.i.0).name =
-    c.in_ok-word-in-Node.ensures ∙ ap word_of (c.bytes.ensures ∙ ap (λ (t : Task). t.name) at) in
+    c.in_ok-word-in-Node.ensures ∙ c.word_of.ensures ∙ ap word_of (c.bytes.ensures ∙ ap (λ (t : Task). t.name) at) in
     let named : body_named c.args.bodies.now c.in_ok-word-in-Node.word ≡ Some has.0 = ap (body_named c.args.bodies.now) word ∙ has.1 in
     let none : option_copied None ≡ Some has.0 = ap option_copied (sym c.in-None.is) ∙ c.of.ensures ∙ named in
     absurd (cc none)

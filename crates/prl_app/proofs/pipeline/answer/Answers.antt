@@ -1,8 +1,8 @@
 use Rattle.prl_stages.specs.Given.{Folder}
 use Rattle.std.proofs.Common.{Option}
-use Rattle.prl_pipeline.specs.Answers.{IsAnswer}
+use Rattle.prl_app.specs.Answers.{IsAnswer}
 use Rattle.prl_calls.proofs.Stops.{ok_map}
-use Rattle.prl_pipeline.proofs.pipeline.answer.Goals as goal
+use Rattle.prl_app.proofs.pipeline.answer.Goals as goal
 
 pub returns-then-eq-clause-text : goal.returns-then-eq-clause-text
 returns-then-eq-clause-text g c =

@@ -17,9 +17,9 @@ use Rattle.prl_stages.specs.Given.{Folder, Given, IsGiven, IsGivenIn, generated}
 use Rattle.prl_stages.specs.Stages.{Comes, IsText, files, front, ran, stages_after, stages_of}
 use Rattle.prl_executions.specs.declared.running.Outcome.{Outcome}
 use Rattle.prl_executions.specs.declared.running.Outcome.TheVariants as outcomes
-use Rattle.prl_pipeline.specs.Answers.{IsAnswer, IsAnswerOf, IsAnswerStop}
+use Rattle.prl_app.specs.Answers.{IsAnswer, IsAnswerOf, IsAnswerStop}
 use Rattle.prl_calls.specs.Stops.{IsReached, given_of, IsRequestOf, StopsIn, AllHold, IsStopOfFiles}
-use Rattle.prl_pipeline.specs.code.Modes.{HasFiles, RunsNothing}
+use Rattle.prl_app.specs.code.Modes.{HasFiles, RunsNothing}
 use Rattle.prl_executions.specs.Ready.{IsOutcome}
 use Rattle.prl_calls.proofs.Stops.{stops_comes, stops_unread, hold_comes, after_holds, first_refused}
 

@@ -5,8 +5,8 @@ ghost use Rattle.prl_arguments.specs.Arguments.{AreInRange};
 ghost use Rattle.prl_calls.specs.Stops.{given_of, AllHold, StopsIn};
 ghost use Rattle.prl_stages.specs.Ran.{IsMeant};
 ghost use Rattle.prl_stages.specs.Stages.{stages_after, IsText};
-ghost use Rattle.prl_pipeline.specs.Answers.{IsAnswer, IsAnswerOf, IsAnswerStop};
-ghost use Rattle.prl_pipeline.specs.code.Modes.{HasFiles, RunsNothing};
+ghost use Rattle.prl_app.specs.Answers.{IsAnswer, IsAnswerOf, IsAnswerStop};
+ghost use Rattle.prl_app.specs.code.Modes.{HasFiles, RunsNothing};
 
 use crate::generated::generated_text;
 use prl_arguments::{Command, Mode};

@@ -1,11 +1,11 @@
 use Rattle.std.proofs.lemmas.Result.{err_from_is_err_and}
 use Rattle.prl_stages.specs.Stages.{stages_after}
 use Rattle.prl_stages.specs.Ran.{IsMeant}
-use Rattle.prl_pipeline.specs.Answers.{IsAnswer, IsAnswerStop}
+use Rattle.prl_app.specs.Answers.{IsAnswer, IsAnswerStop}
 use Rattle.prl_calls.specs.Stops.{given_of, AllHold, StopsIn}
 use Rattle.prl_calls.proofs.Stops.{ok_both, err_map}
-use Rattle.prl_pipeline.proofs.Answered.{answered, answer_stop, files_stop}
-use Rattle.prl_pipeline.proofs.pipeline.answer_files.Goals as goal
+use Rattle.prl_app.proofs.Answered.{answered, answer_stop, files_stop}
+use Rattle.prl_app.proofs.pipeline.answer_files.Goals as goal
 
 pub returns-in_err-request-clause-stop : goal.returns-in_err-request-clause-stop
 returns-in_err-request-clause-stop g c =

@@ -1,4 +1,0 @@
--- What comes of a command before its text is written.
-pub mod Answers
--- What private functions say to one another.
-pub mod code
