@@ -2,24 +2,21 @@
 use Rattle.std.proofs.Common.{◌≡◌, ◌++◌, ℕ, Bool, List, ◌∷◌, Option, Some, None, refl, sym, ap, ◌∙◌, subst, append_assoc}
 use Rattle.std.specs.Prelude.{is_some}
 use Rattle.prl_io.specs.Views.{FolderView}
+use Rattle.prl_stages.specs.Vocabulary.{IsMeant, IsMeantIn, IsSummary, Folder, Given, IsGiven, IsGivenIn, generated, Comes, IsText, files, front, ran, stages_after, stages_of}
 use Rattle.prl_stages.specs.declared.stages.Stage.{Stage}
-use Rattle.prl_stages.specs.declared.stages.Stage.TheVariants as stages
 use Rattle.prl_stages.specs.declared.stages.Stop.{Stop}
+use Rattle.prl_stages.specs.declared.ran.Ran.{Ran}
+use Rattle.prl_stages.specs.declared.stages.Stage.TheVariants as stages
 use Rattle.prl_stages.specs.declared.stages.Stop.TheVariants as stops
 use Rattle.prl_calls.specs.declared.reading.Request.{Request}
 use Rattle.prl_arguments.specs.declared.arguments.Command.{Command}
 use Rattle.prl_arguments.specs.declared.arguments.Mode.{Mode}
 use Rattle.prl_arguments.specs.declared.arguments.Mode.TheVariants as modes
-use Rattle.prl_stages.specs.declared.ran.Ran.{Ran}
 use Rattle.prl_stages.specs.declared.ran.Ran.TheVariants as runs
-use Rattle.prl_stages.specs.Ran.{IsMeant, IsMeantIn, IsSummary}
-use Rattle.prl_stages.specs.Given.{Folder, Given, IsGiven, IsGivenIn, generated}
-use Rattle.prl_stages.specs.Stages.{Comes, IsText, files, front, ran, stages_after, stages_of}
 use Rattle.prl_executions.specs.declared.running.Outcome.{Outcome}
 use Rattle.prl_executions.specs.declared.running.Outcome.TheVariants as outcomes
-use Rattle.prl_app.specs.Answers.{IsAnswer, IsAnswerOf, IsAnswerStop}
+use Rattle.prl_app.specs.Vocabulary.{IsAnswer, IsAnswerOf, IsAnswerStop, HasFiles, RunsNothing}
 use Rattle.prl_calls.specs.Stops.{IsReached, given_of, IsRequestOf, StopsIn, AllHold, IsStopOfFiles}
-use Rattle.prl_app.specs.code.Modes.{HasFiles, RunsNothing}
 use Rattle.prl_executions.specs.Ready.{IsOutcome}
 use Rattle.prl_calls.proofs.Stops.{stops_comes, stops_unread, hold_comes, after_holds, first_refused}
 

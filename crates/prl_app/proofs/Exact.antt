@@ -1,32 +1,26 @@
 -- What a command comes to over known files is how its call ends.
 use Rattle.std.proofs.Common.{◌≡◌, ◌≤◌, ◌++◌, ℕ, Bool, List, [], ◌∷◌, drop, Option, Some, None, Result, refl, sym, ap, ◌∙◌, inl, inr, subst, arith}
-use Rattle.prl_app.specs.declared.endings.Ending.{Ending}
+use Rattle.prl_app.specs.Vocabulary.{Ending, IsAnswerOf, IsAnswerStop, Status, Answers, AsksForThreads, Outside, Ends, IsEndOf, IsExact, IsOverrunOf, IsTold, Means, NoFault, NoneFailed, ran_of}
+use Rattle.prl_app.specs.Vocabulary.{status_of, line_of, IsWrittenBy, line_is}
 use Rattle.prl_app.specs.declared.endings.Ending.TheVariants as endings
-use Rattle.prl_stages.specs.declared.faults.InputFile.{InputFile}
-use Rattle.prl_stages.specs.declared.faults.InputFile.TheVariants as parts
+use Rattle.prl_stages.specs.Vocabulary.{Folder, Given, IsContent, IsGiven, IsGivenIn, IsGivenTo, content_of, file_of, Comes, stages_of, HasOverrun}
 use Rattle.prl_stages.specs.declared.faults.Fault.{Fault}
+use Rattle.prl_stages.specs.declared.faults.InputFile.{InputFile}
 use Rattle.prl_stages.specs.declared.stages.Stage.{Stage}
+use Rattle.prl_stages.specs.declared.stages.Stop.{Stop}
+use Rattle.prl_stages.specs.declared.ran.Ran.{Ran}
+use Rattle.prl_stages.specs.declared.faults.InputFile.TheVariants as parts
 use Rattle.prl_stages.specs.declared.stages.Stop.TheVariants as stops
-use Rattle.prl_arguments.specs.declared.arguments.Command.{Command}
 use Rattle.prl_arguments.specs.Arguments.{command_of}
-use Rattle.prl_stages.specs.Given.{Folder, Given, IsContent, IsGiven, IsGivenIn, IsGivenTo, content_of, file_of}
-use Rattle.prl_stages.specs.Stages.{Comes, stages_of}
+use Rattle.prl_arguments.specs.declared.arguments.Command.{Command}
 use Rattle.prl_arguments.specs.declared.arguments.Mode.{Mode}
 use Rattle.prl_arguments.specs.declared.arguments.Mode.TheVariants as modes
 use Rattle.prl_io.specs.Views.{FolderView, SinkView}
 use Rattle.prl_exec.specs.declared.runs.Stopped.{Stopped}
-use Rattle.prl_app.specs.Answers.{IsAnswerOf, IsAnswerStop}
 use Rattle.prl_executions.specs.declared.running.Outcome.TheVariants as outcomes
 use Rattle.prl_plan.specs.Plans.{PlanView}
 use Rattle.prl_rule.specs.declared.views.Gate.{Gate}
 use Rattle.prl_rule.specs.declared.views.Gate.TheVariants as gates
-use Rattle.prl_stages.specs.Ran.{HasOverrun}
-use Rattle.prl_stages.specs.declared.ran.Ran.{Ran}
-use Rattle.prl_stages.specs.declared.stages.Stop.{Stop}
-use Rattle.prl_app.specs.declared.endings.Status.{Status}
-use Rattle.prl_app.specs.Endings.{Answers, AsksForThreads, Outside, Ends, IsEndOf, IsExact, IsOverrunOf, IsTold, Means, NoFault, NoneFailed, ran_of, status_of}
-use Rattle.prl_app.specs.ErrorLines.{line_of}
-use Rattle.prl_app.specs.code.Performed.{IsWrittenBy, line_is}
 
 abbrev Content : Type 0
 Content = Result (List ℕ) Fault

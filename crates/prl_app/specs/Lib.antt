@@ -6,3 +6,4 @@ pub mod Answers
 pub mod Endings
 -- What private functions say to one another.
 pub mod code
+pub mod Vocabulary

@@ -6,8 +6,7 @@ ghost use Rattle.prl_arguments.specs.Arguments.{AreInRange};
 ghost use Rattle.prl_io.specs.Views.{FolderView};
 ghost use Rattle.prl_calls.specs.Stops.{given_of, AllHold};
 ghost use Rattle.prl_executions.specs.Ready.{IsReady};
-ghost use Rattle.prl_stages.specs.Given.{Folder, generated};
-ghost use Rattle.prl_stages.specs.Stages.{front, ran};
+ghost use Rattle.prl_stages.specs.Vocabulary.{Folder, generated, front, ran};
 ghost use Rattle.prl_app.specs.Answers.{IsAnswer, IsAnswerStop};
 
 use prl_arguments::{Command, Mode};

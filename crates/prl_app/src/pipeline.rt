@@ -3,8 +3,7 @@
 ghost use Rattle.std.specs.Prelude.{◌≡◌, ◌<◌, ◌≤◌, ◌^◌, IfOk, IfErr, length};
 ghost use Rattle.prl_arguments.specs.Arguments.{AreInRange};
 ghost use Rattle.prl_calls.specs.Stops.{given_of, AllHold, StopsIn};
-ghost use Rattle.prl_stages.specs.Ran.{IsMeant};
-ghost use Rattle.prl_stages.specs.Stages.{stages_after, IsText};
+ghost use Rattle.prl_stages.specs.Vocabulary.{IsMeant, stages_after, IsText};
 ghost use Rattle.prl_app.specs.Answers.{IsAnswer, IsAnswerOf, IsAnswerStop};
 ghost use Rattle.prl_app.specs.code.Modes.{HasFiles, RunsNothing};
 

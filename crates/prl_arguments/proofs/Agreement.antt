@@ -19,12 +19,10 @@ use Rattle.clap.specs.Simple.{entered}
 use Rattle.clap.specs.ValueTests.{is_unsigned_in}
 use Rattle.clap.specs.declared.error.kind.ErrorKind.{ErrorKind}
 use Rattle.prl_base.specs.Decimals.{decimal_of}
-use Rattle.prl_arguments.specs.declared.arguments.Mode.{Mode}
+use Rattle.prl_arguments.specs.Vocabulary.{Mode, Setting, Values, all_fit, all_settings, fits, has, is_in, is_same, is_value, name_of, needs, nothing, range_of, with_value, with_words, app_of_mode}
+use Rattle.prl_arguments.specs.Vocabulary.{faults_of, is_taken, parser_by}
 use Rattle.prl_arguments.specs.declared.arguments.Mode.TheVariants as modes
-use Rattle.prl_arguments.specs.declared.arguments.Setting.{Setting}
 use Rattle.prl_arguments.specs.declared.arguments.Setting.TheVariants as settings
-use Rattle.prl_arguments.specs.Arguments.{Values, all_fit, all_settings, fits, has, is_in, is_same, is_value, name_of, needs, nothing, range_of, with_value, with_words}
-use Rattle.prl_arguments.specs.code.Options.{app_of_mode, faults_of, is_taken, parser_by}
 use Rattle.prl_arguments.proofs.Names.{all_at, same_is, same_self}
 use Rattle.prl_arguments.proofs.Numerals.{in_range}
 use Rattle.prl_arguments.proofs.Spelled.{and_both, and_left, and_right, Follows, Spelled, spelled, the, words_of}

@@ -4,10 +4,8 @@ use Rattle.std.specs.List.{list_all}
 use Rattle.std.specs.Str.{bytes_eq}
 use Rattle.std.proofs.lemmas.Bool.{ltb-true}
 use Rattle.std.proofs.lemmas.Slice.Eq.{bytes_eq-Decides}
-use Rattle.prl_arguments.specs.declared.arguments.Setting.{Setting}
+use Rattle.prl_arguments.specs.Vocabulary.{Setting, all_settings, is_same, name_of, place_of}
 use Rattle.prl_arguments.specs.declared.arguments.Setting.TheVariants as settings
-use Rattle.prl_arguments.specs.Arguments.{all_settings, is_same, name_of}
-use Rattle.prl_arguments.specs.code.Settings.{place_of}
 use Rattle.prl_arguments.proofs.Spelled.{and_left, and_right, the}
 
 setting_named : List ℕ → Option Setting

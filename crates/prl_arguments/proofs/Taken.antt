@@ -4,15 +4,11 @@ use Rattle.std.proofs.lemmas.Option.{cond_some, none-some}
 use Rattle.std.specs.Option.{option_map_or}
 use Rattle.prl_base.specs.Decimals.{decimal_of}
 use Rattle.prl_base.specs.Options.{◌>>=◌}
-use Rattle.prl_arguments.specs.declared.arguments.Command.{Command}
-use Rattle.prl_arguments.specs.declared.arguments.Mode.{Mode}
+use Rattle.prl_arguments.specs.Vocabulary.{Command, Mode, Setting, MAX_SIZE, MAX_UNTIL, MAX_WORKERS, AreInRange, Values, all_fit, asked_of, asked_of_mode, asked_with, command_of, command_with, fits}
+use Rattle.prl_arguments.specs.Vocabulary.{has, is_in, mode_named, nothing, number_or, range_of, with_words, faults_of, is_taken}
 use Rattle.prl_arguments.specs.declared.arguments.Mode.TheVariants as modes
-use Rattle.prl_arguments.specs.declared.arguments.Setting.{Setting}
 use Rattle.prl_arguments.specs.declared.arguments.Setting.TheVariants as settings
-use Rattle.prl_arguments.specs.declared.arguments.TheConstants.{MAX_SIZE, MAX_UNTIL, MAX_WORKERS}
 use Rattle.prl_rule.specs.declared.views.Gate.{Gate}
-use Rattle.prl_arguments.specs.Arguments.{AreInRange, Values, all_fit, asked_of, asked_of_mode, asked_with, command_of, command_with, fits, has, is_in, mode_named, nothing, number_or, range_of, with_words}
-use Rattle.prl_arguments.specs.code.Options.{faults_of, is_taken}
 use Rattle.prl_arguments.proofs.Spelled.{and_left, and_right, bound, the}
 use Rattle.prl_arguments.proofs.Agreement.{Told, agrees, fits_some, spells}
 use Rattle.prl_arguments.proofs.Names.{all_at}

@@ -11,11 +11,8 @@ use Rattle.clap.specs.Kinds.{Kinds, or_else, value_kinds}
 use Rattle.clap.specs.Faults.{bundle_fault, check_fault, defaults_fault, flag_word_fault, long_fault, react_fault, settle_fault, step_fault, turn_fault, use_fault, walk_fault}
 use Rattle.clap.specs.declared.error.kind.ErrorKind.{ErrorKind}
 use Rattle.clap.specs.declared.error.kind.ErrorKind.TheVariants as kind
-use Rattle.prl_arguments.specs.declared.arguments.Mode.{Mode}
-use Rattle.prl_arguments.specs.declared.arguments.Setting.{Setting}
+use Rattle.prl_arguments.specs.Vocabulary.{Mode, Setting, has, is_value, name_of, range_of, option_rule, parser_by}
 use Rattle.prl_arguments.specs.declared.arguments.Setting.TheVariants as settings
-use Rattle.prl_arguments.specs.Arguments.{has, is_value, name_of, range_of}
-use Rattle.prl_arguments.specs.code.Options.{option_rule, parser_by}
 use Rattle.prl_arguments.proofs.Spelled.{Spelled, and_both, and_left, and_right, dashed, word_of, words_of}
 
 -- the command of a mode when it is built: its rules, and what it does with them

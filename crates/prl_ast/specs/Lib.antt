@@ -1,2 +1,3 @@
 pub mod Trees
 pub mod InRange
+pub mod Vocabulary

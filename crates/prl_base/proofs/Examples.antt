@@ -1,10 +1,8 @@
 -- Which operators delay, and where the values of their results come from.
 use Rattle.std.proofs.Common.{◌≡◌, ℕ, pos, negsuc, true, false, refl}
-use Rattle.prl_base.specs.declared.operators.Op.{Op}
+use Rattle.prl_base.specs.Vocabulary.{Op, Value, delays, origin_of, instance, constant, preceding_number}
 use Rattle.prl_base.specs.declared.operators.Op.TheVariants as operators
-use Rattle.prl_base.specs.declared.values.Value.{Value}
 use Rattle.prl_base.specs.declared.values.Value.TheVariants as values
-use Rattle.prl_base.specs.Operators.{delays, origin_of, instance, constant, preceding_number}
 
 abbrev nine : Value
 nine = values.Int (pos 9)

@@ -7,10 +7,7 @@ use Rattle.std.specs.Int.Signed.{lt_z}
 use Rattle.std.proofs.lemmas.Nat.Gcd.{dvd_antisymm}
 use Rattle.std.proofs.lemmas.Int.{unsigned_abs-mul}
 use Rattle.prl_base.proofs.Coprime.{quotients_coprime}
-use Rattle.prl_base.specs.Ratios.{Fraction, IsSmallFraction}
-use Rattle.prl_base.specs.declared.ratios.TheConstants.{MAX_PART}
-use Rattle.prl_base.specs.Reductions.{IsReducedForm, IsReduction, IsPast, signed}
-use Rattle.prl_base.specs.declared.ratios.Past.{Past}
+use Rattle.prl_base.specs.Vocabulary.{Fraction, IsSmallFraction, MAX_PART, IsReducedForm, IsReduction, IsPast, signed, Past}
 use Rattle.prl_base.proofs.Coprime.{divides_other}
 use Rattle.prl_base.proofs.Signs.{cancel, nat_abs_signed, neg_mul, mul_neg, neg_injective}
 

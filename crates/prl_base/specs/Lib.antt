@@ -10,3 +10,4 @@ pub mod Texts
 pub mod Decimals
 pub mod Limits
 pub mod Lines
+pub mod Vocabulary

@@ -12,24 +12,17 @@ use Rattle.prl_base.specs.declared.operators.Clock.{Clock}
 use Rattle.prl_base.specs.declared.values.Ty.{Ty}
 use Rattle.prl_base.specs.declared.values.Value.{Value}
 use Rattle.prl_ast.specs.declared.declarations.Rate.{Rate}
+use Rattle.prl_body.specs.Vocabulary.{body_named, body_step, first_values, input_types, output_types, register_types, value_expressions, IsWellTyped, Expression, value}
 use Rattle.prl_body.specs.declared.bodies.CheckedBody.{CheckedBody}
-use Rattle.prl_body.specs.Bodies.{body_named, body_step, first_values, input_types, output_types, register_types, value_expressions, IsWellTyped}
 use Rattle.prl_body.specs.Bodies as steps
-use Rattle.prl_body.specs.Expressions.{Expression}
-use Rattle.prl_body.specs.Values.{value}
-use Rattle.prl_flow.specs.Applications.{HaveBodies, nth_step, registers_before, values_at}
-use Rattle.prl_flow.specs.Counts.{dates_before}
-use Rattle.prl_flow.specs.Flows.{IsUpTo, value_at}
-use Rattle.prl_flow.specs.Programs.{FlatProgram, IsFlat}
-use Rattle.prl_flow.specs.Rows.{Rows}
-use Rattle.prl_flow.specs.Rules.{Rule, rated, constant, operator, applied, same, sensed, mark_rule, rate_rules, definition_rules, flow_rules, flows_rules, app_rule, apps_rules, flat_rules}
-use Rattle.prl_flow.specs.Solutions.{AgreesClock, AreClocks, HasRate, MeetsDefinition, Solves, argument_flows, clock_of, values_of}
-use Rattle.prl_flow.specs.States.{Timed, State, IsTimed, Holds, IsApplied, IsSolution, all_at, flow_at, registers_at}
+use Rattle.prl_flow.specs.Vocabulary.{HaveBodies, nth_step, registers_before, values_at, dates_before, IsUpTo, value_at, FlatProgram, IsFlat, Rows, Rule, rated, constant, operator, applied, same}
+use Rattle.prl_flow.specs.Vocabulary.{sensed, mark_rule, rate_rules, definition_rules, flow_rules, flows_rules, app_rule, apps_rules, flat_rules, AgreesClock, AreClocks, HasRate, MeetsDefinition}
+use Rattle.prl_flow.specs.Vocabulary.{Solves, argument_flows, clock_of, values_of, Timed, State, IsTimed, Holds, IsApplied, IsSolution, all_at, flow_at, registers_at}
 use Rattle.prl_flow.specs.declared.programs.App.{App}
 use Rattle.prl_flow.specs.declared.programs.Arg.{Arg}
 use Rattle.prl_flow.specs.declared.programs.Def.{Def}
-use Rattle.prl_flow.specs.declared.programs.Def.TheVariants as definitions
 use Rattle.prl_flow.specs.declared.programs.Flow.{Flow}
+use Rattle.prl_flow.specs.declared.programs.Def.TheVariants as definitions
 use Rattle.prl_flow.proofs.Applied.{length_HaveTypes}
 use Rattle.prl_flow.proofs.ClockDates.{dates_before_number, value_at_date}
 use Rattle.prl_behaviours.proofs.Lists.{some_inner, all_both, to_mapped, all_from, map_same}

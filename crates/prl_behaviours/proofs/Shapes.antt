@@ -4,9 +4,9 @@ use Rattle.std.specs.Prelude.{reverse, slice_get}
 use Rattle.std.proofs.lemmas.List.{length-append, length-reverse, reverse-reverse}
 use Rattle.prl_ast.specs.declared.declarations.Import.{Import}
 use Rattle.prl_ast.specs.Trees.{Tree, tree, Root, const, var, apply, group, Trees, none, more, EquationTree, NodeTree, ProgramTree}
+use Rattle.prl_names.specs.Lookups.{callee_of}
 use Rattle.prl_names.specs.declared.lookups.Callee.{Callee}
 use Rattle.prl_names.specs.declared.lookups.Callee.TheVariants as callees
-use Rattle.prl_names.specs.Lookups.{callee_of}
 use Rattle.prl_behaviours.specs.Annotations.{Entered, entered, Rights, done, next, Part, part, Core, Parts, flows_in, right_flows, part_flows, core_flows, parts_flows, imports_in, right_imports, part_imports, core_imports, parts_imports, nodes_in, right_nodes, part_nodes, core_nodes, parts_nodes}
 use Rattle.prl_behaviours.specs.Annotations as notes
 use Rattle.prl_behaviours.specs.Behaviours.{Behaviour}

@@ -4,9 +4,7 @@ use Rattle.std.specs.List.{range_with_len}
 use Rattle.std.proofs.lemmas.List.{length-map, append_assoc, length-append}
 use Rattle.prl_ast.specs.Trees.{ProgramTree}
 use Rattle.prl_flow.specs.States.{State, flow_at, registers_at}
-use Rattle.prl_behaviours.specs.Annotations.{Entered, flows_in, imports_in}
-use Rattle.prl_behaviours.specs.Behaviours.{Behaviour, behaviour_of, state_in}
-use Rattle.prl_behaviours.specs.Texts.{IsText}
+use Rattle.prl_behaviours.specs.Vocabulary.{Entered, flows_in, imports_in, Behaviour, behaviour_of, state_in, IsText}
 use Rattle.prl_behaviours.proofs.Marks.{flows-map, imports-map, text-map}
 use Rattle.prl_behaviours.proofs.Shapes.{one_behaviour, as_many_flows, as_many_imports}
 

@@ -4,27 +4,22 @@ use Rattle.std.proofs.Math.Nat.{mul-le-mul_right}
 use Rattle.std.specs.Prelude.{take}
 use Rattle.std.specs.List.{AllByRecursion}
 use Rattle.std.proofs.lemmas.List.{length-map}
-use Rattle.prl_base.specs.Clocks.{IsClock, IsDate, date_at}
-use Rattle.prl_base.specs.Operators.{IsResultClock}
+use Rattle.prl_base.specs.Vocabulary.{IsClock, IsDate, date_at, IsResultClock}
 use Rattle.prl_base.specs.declared.numbers.FlowNo.{FlowNo}
 use Rattle.prl_base.specs.declared.operators.Clock.{Clock}
 use Rattle.prl_base.specs.declared.values.Value.{Value}
 use Rattle.prl_ast.specs.declared.declarations.Rate.{Rate}
-use Rattle.prl_body.specs.declared.bodies.CheckedBody.{CheckedBody}
 use Rattle.prl_body.specs.Bodies.{body_step}
-use Rattle.prl_flow.specs.Applications.{nth_step, registers_before, values_at}
-use Rattle.prl_flow.specs.Flows.{IsClockOf, IsUpTo, value_at, OperatorByDate}
-use Rattle.prl_flow.specs.Programs.{FlatProgram, IsFlat, IsWellDefined}
-use Rattle.prl_flow.specs.Rows.{Rows, rows_of}
-use Rattle.prl_flow.specs.Rules.{Rule, mark_rule, rate_rules, definition_rules, flow_rules, flows_rules, app_rule, apps_rules, flat_rules}
-use Rattle.prl_flow.specs.Solutions.{AgreesClock, AreClocks, HasOneClock, HasRate, IsOutputFlow, MeetsDefinition, Solves, argument_flows, clock_of, values_of}
-use Rattle.prl_flow.specs.States.{Timed, State, IsTimed, Holds, HaveClock, IsApplied, IsSolution, all_at, flow_at, registers_at}
-use Rattle.prl_behaviours.proofs.Lists.{some_inner, all_first, all_second, of_mapped, at_place}
+use Rattle.prl_body.specs.declared.bodies.CheckedBody.{CheckedBody}
+use Rattle.prl_flow.specs.Vocabulary.{nth_step, registers_before, values_at, IsClockOf, IsUpTo, value_at, OperatorByDate, FlatProgram, IsFlat, IsWellDefined, Rows, rows_of, Rule, mark_rule}
+use Rattle.prl_flow.specs.Vocabulary.{rate_rules, definition_rules, flow_rules, flows_rules, app_rule, apps_rules, flat_rules, AgreesClock, AreClocks, HasOneClock, HasRate, IsOutputFlow}
+use Rattle.prl_flow.specs.Vocabulary.{MeetsDefinition, Solves, argument_flows, clock_of, values_of, Timed, State, IsTimed, Holds, HaveClock, IsApplied, IsSolution, all_at, flow_at, registers_at}
 use Rattle.prl_flow.specs.declared.programs.App.{App}
 use Rattle.prl_flow.specs.declared.programs.Arg.{Arg}
 use Rattle.prl_flow.specs.declared.programs.Def.{Def}
-use Rattle.prl_flow.specs.declared.programs.Def.TheVariants as definitions
 use Rattle.prl_flow.specs.declared.programs.Flow.{Flow}
+use Rattle.prl_behaviours.proofs.Lists.{some_inner, all_first, all_second, of_mapped, at_place}
+use Rattle.prl_flow.specs.declared.programs.Def.TheVariants as definitions
 
 -- the rules of one flow, and of one application
 flow_at_place : (P : Rule ℕ ℕ → Type 0) (k : ℕ) (fs : List Flow) (i j : ℕ) (f : Flow) → AllByRecursion P (flows_rules k fs) → slice_get fs i ≡ Some f → j ≡ k + i → AllByRecursion P (flow_rules j f)

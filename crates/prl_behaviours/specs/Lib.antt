@@ -6,3 +6,4 @@ pub mod Texts
 pub mod Asked
 -- behaviours: what a program means
 pub mod Behaviours
+pub mod Vocabulary

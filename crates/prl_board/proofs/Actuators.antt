@@ -1,14 +1,12 @@
 -- Actuator tasks come last, in the order of their numbers.
 use Rattle.std.proofs.Common.{◌≡◌, ℕ, zero, suc, ◌+◌, ◌<◌, ◌≤◌, ◌⊎◌, inl, inr, ⊎_elim, List, [], ◌∷◌, length, map, get_or, refl, sym, ap, ◌∙◌, arith, Some}
 use Rattle.std.specs.Prelude.{slice_get}
+use Rattle.prl_plan.specs.Vocabulary.{AreNumbered, no_task, task_at, IsPlan}
 use Rattle.prl_plan.specs.declared.graphs.Kind.{Kind}
-use Rattle.prl_plan.specs.declared.graphs.Kind.TheVariants as kinds
 use Rattle.prl_plan.specs.declared.graphs.Task.{Task}
-use Rattle.prl_plan.specs.Graphs.{AreNumbered}
-use Rattle.prl_plan.specs.Jobs.{no_task, task_at}
-use Rattle.prl_plan.specs.Plans.{IsPlan}
-use Rattle.prl_rule.specs.declared.views.Constants.{Constants}
+use Rattle.prl_plan.specs.declared.graphs.Kind.TheVariants as kinds
 use Rattle.prl_rule.specs.Known.{run_of}
+use Rattle.prl_rule.specs.declared.views.Constants.{Constants}
 use Rattle.prl_board.specs.Closings.{Drives, IsNoActuator}
 
 one_way : (m n : ℕ) → (m ≤ n) ⊎ (n < m)

@@ -4,30 +4,21 @@ use Rattle.std.proofs.lemmas.Option.{slice_get_within}
 use Rattle.std.specs.Prelude.{slice_get}
 use lib.ListN.{get_elem?}
 use Rattle.atomic_table.specs.Seated.{TableId}
+use Rattle.prl_rule.specs.Vocabulary.{bare, ticked, with_clock, with_part, LookTold, part_of}
 use Rattle.prl_rule.specs.declared.views.ClockPart.{ClockPart}
 use Rattle.prl_rule.specs.declared.views.Constants.{Constants}
 use Rattle.prl_rule.specs.declared.views.TaskPart.{TaskPart}
 use Rattle.prl_rule.specs.declared.views.View.{View}
-use Rattle.prl_rule.specs.Steps.{bare, ticked, with_clock, with_part}
-use Rattle.prl_rule.specs.Told.{LookTold, part_of}
-use Rattle.prl_seats.specs.Boards.{BoardView}
-use Rattle.prl_board.specs.ClockSeats.{AnswersTick, ClockSeatView, IsClockOf}
+use Rattle.prl_seats.specs.Vocabulary.{BoardView, AnswersRelease, Follows, IsSeatOf, JobSeatView, reseated}
+use Rattle.prl_seats.specs.declared.jobs.Release.{Release}
+use Rattle.prl_seats.specs.declared.jobs.Stage.{Stage}
+use Rattle.prl_board.specs.Vocabulary.{AnswersTick, ClockSeatView, IsClockOf, Ticked, Got, Wrote, IsClockCall, IsLoneOf, IsPlacedAt, IsReleasedBy, IsTaskCall, IsTicked, LoneView, Place, AnswersRead}
+use Rattle.prl_board.specs.Vocabulary.{AnswersWrite, place_of, AreLent, IsClockReturned, IsElsewhere, IsLent, IsLentClock, IsReturned}
 use Rattle.prl_base.specs.declared.numbers.TaskNo.{TaskNo}
 use Rattle.prl_plan.specs.declared.events.Action.TheVariants as actions
-use Rattle.prl_board.specs.declared.clocks.Ticked.{Ticked}
 use Rattle.prl_board.specs.declared.clocks.Ticked.TheVariants as ticks
-use Rattle.prl_seats.specs.declared.jobs.Release.{Release}
 use Rattle.prl_seats.specs.declared.jobs.Release.TheVariants as releases
-use Rattle.prl_seats.specs.declared.jobs.Stage.{Stage}
 use Rattle.prl_seats.specs.declared.jobs.Stage.TheVariants as stages
-use Rattle.prl_board.specs.declared.seats.Got.{Got}
-use Rattle.prl_board.specs.declared.seats.Wrote.{Wrote}
-use Rattle.prl_seats.specs.JobSeats.{AnswersRelease, Follows, IsSeatOf, JobSeatView}
-use Rattle.prl_board.specs.Lones.{IsClockCall, IsLoneOf, IsPlacedAt, IsReleasedBy, IsTaskCall, IsTicked, LoneView}
-use Rattle.prl_board.specs.declared.seats.Place.{Place}
-use Rattle.prl_board.specs.TaskSeats.{AnswersRead, AnswersWrite, place_of}
-use Rattle.prl_seats.specs.JobSeats.{reseated}
-use Rattle.prl_board.specs.code.Lent.{AreLent, IsClockReturned, IsElsewhere, IsLent, IsLentClock, IsReturned}
 use Rattle.atomic_table.proofs.Lists.{set_else as part_else}
 use Rattle.prl_seats.proofs.Following.{ended_is, known_once}
 use Rattle.prl_board.proofs.Lending.{follows_with, relent}

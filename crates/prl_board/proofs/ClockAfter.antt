@@ -1,10 +1,10 @@
 -- The clock's seat after a step still belongs to the board.
 use Rattle.std.proofs.Common.{◌≡◌, ap, ◌∙◌}
+use Rattle.prl_rule.specs.Steps.{with_clock}
 use Rattle.prl_rule.specs.declared.views.ClockPart.{ClockPart}
 use Rattle.prl_rule.specs.declared.views.View.{View}
 use Rattle.prl_seats.specs.Boards.{BoardView}
 use Rattle.prl_board.specs.ClockSeats.{ClockSeatView, IsClockOf}
-use Rattle.prl_rule.specs.Steps.{with_clock}
 
 pub clock_after : (b : BoardView) (before after : ClockSeatView) (r q : ClockPart) → IsClockOf b before r → after.table ≡ before.table → after.view ≡ with_clock q before.view →
     IsClockOf b after q

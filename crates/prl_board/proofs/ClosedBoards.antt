@@ -6,22 +6,16 @@ use Rattle.std.proofs.lemmas.Option.{slice_get_within}
 use mathlib.Core.Option.{some, some-injective, some-ne-none}
 use lib.ListN.{get_elem?}
 use Rattle.std.specs.Prelude.{slice_get}
+use Rattle.prl_rule.specs.Vocabulary.{part_of, run_of, values_of, reached, PlanLaws}
 use Rattle.prl_rule.specs.declared.views.ClockPart.{ClockPart}
 use Rattle.prl_rule.specs.declared.views.Constants.{Constants}
 use Rattle.prl_rule.specs.declared.views.TaskPart.{TaskPart}
 use Rattle.prl_rule.specs.declared.views.View.{View}
-use Rattle.prl_rule.specs.Told.{part_of}
-use Rattle.prl_plan.specs.Rules.{IsComplete}
-use Rattle.prl_plan.specs.Runs.{ExecState, RunConstants}
+use Rattle.prl_plan.specs.Vocabulary.{IsComplete, ExecState, RunConstants}
+use Rattle.prl_seats.specs.Vocabulary.{IsStage, JobSeatView, IsClosing}
 use Rattle.prl_seats.specs.declared.jobs.Stage.{Stage}
 use Rattle.prl_seats.specs.declared.jobs.Stage.TheVariants as stages
-use Rattle.prl_board.specs.Closings.{IsClosed, IsLastState, KeepsTag}
-use Rattle.prl_seats.specs.JobSeats.{IsStage, JobSeatView}
-use Rattle.prl_rule.specs.Known.{run_of, values_of}
-use Rattle.prl_rule.specs.Rule.{reached}
-use Rattle.prl_seats.specs.Boards.{IsClosing}
-use Rattle.prl_board.specs.code.Lent.{IsLeft, IsLent, IsSettled}
-use Rattle.prl_rule.specs.PlanLaws.{PlanLaws}
+use Rattle.prl_board.specs.Vocabulary.{IsClosed, IsLastState, KeepsTag, IsLeft, IsLent, IsSettled}
 use Rattle.prl_rule.proofs.HalfSteps.{loaded_tag}
 use Rattle.prl_board.proofs.Lists.{seat_there}
 

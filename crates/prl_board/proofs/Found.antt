@@ -3,25 +3,19 @@ use Rattle.std.proofs.Common.{◌≡◌, ◌+◌, ◌-◌, ◌/◌, ◌^◌, ◌
 use Rattle.std.specs.Prelude.{slice_get}
 use Rattle.prl_base.specs.declared.numbers.EdgeNo.{EdgeNo}
 use Rattle.prl_base.specs.declared.values.Value.{Value}
+use Rattle.prl_plan.specs.Vocabulary.{last_in, last_tag, tag_after, tag_of_jobs, HasPlanFacts, RunConstants, action_at}
 use Rattle.prl_plan.specs.declared.events.Action.{Action}
-use Rattle.prl_plan.specs.declared.events.Action.TheVariants as actions
 use Rattle.prl_plan.specs.declared.events.SlotNo.{SlotNo}
-use Rattle.prl_plan.specs.LastTags.{last_in, last_tag, tag_after, tag_of_jobs}
-use Rattle.prl_plan.specs.Facts.{HasPlanFacts}
-use Rattle.prl_plan.specs.Runs.{RunConstants, action_at}
+use Rattle.prl_plan.specs.declared.events.Action.TheVariants as actions
+use Rattle.prl_rule.specs.Vocabulary.{run_of, values_of, part_at, part_of}
 use Rattle.prl_rule.specs.declared.views.Constants.{Constants}
 use Rattle.prl_rule.specs.declared.views.Standing.{Standing}
 use Rattle.prl_rule.specs.declared.views.TaskPart.{TaskPart}
 use Rattle.prl_rule.specs.declared.views.View.{View}
-use Rattle.prl_rule.specs.Known.{run_of, values_of}
-use Rattle.prl_rule.specs.Told.{part_at, part_of}
-use Rattle.prl_board.specs.declared.seats.Got.{Got}
+use Rattle.prl_board.specs.Vocabulary.{Got, Wrote, FindsTag, LeavesTag, tag_found, AnswersHalf, AnswersRead, AnswersWrite, ReadsHalf, WritesAction}
 use Rattle.prl_board.specs.declared.seats.Got.TheVariants as gots
-use Rattle.prl_board.specs.declared.seats.Wrote.{Wrote}
-use Rattle.prl_seats.specs.declared.jobs.Stage.{Stage}
 use Rattle.prl_seats.specs.JobSeats.{Follows, IsStage, JobSeatView}
-use Rattle.prl_board.specs.Lones.{FindsTag, LeavesTag, tag_found}
-use Rattle.prl_board.specs.TaskSeats.{AnswersHalf, AnswersRead, AnswersWrite, ReadsHalf, WritesAction}
+use Rattle.prl_seats.specs.declared.jobs.Stage.{Stage}
 use Rattle.prl_rule.proofs.HalfSteps.{word_tag}
 use Rattle.prl_seats.proofs.Following.{ended_is}
 

@@ -3,18 +3,15 @@ use Rattle.std.proofs.Common.{◌≡◌, ◌+◌, ◌/◌, ◌%◌, ◌^◌, ℕ
 use Rattle.prl_base.specs.Values.{FitsValue, type_of}
 use Rattle.prl_base.specs.declared.numbers.EdgeNo.{EdgeNo}
 use Rattle.prl_base.specs.declared.values.Value.{Value}
-use Rattle.prl_plan.specs.declared.events.Action.{Action}
-use Rattle.prl_plan.specs.declared.events.Action.TheVariants as actions
-use Rattle.prl_plan.specs.declared.events.SlotNo.{SlotNo}
 use Rattle.prl_plan.specs.Facts.{IsJob}
+use Rattle.prl_plan.specs.declared.events.Action.{Action}
+use Rattle.prl_plan.specs.declared.events.SlotNo.{SlotNo}
+use Rattle.prl_plan.specs.declared.events.Action.TheVariants as actions
 use Rattle.prl_workers.specs.declared.workers.Worker.{Worker}
+use Rattle.prl_rule.specs.Vocabulary.{run_of, values_of, AreHalves, high_half, low_half, value_of_halves, HasValueFacts, half_of}
 use Rattle.prl_rule.specs.declared.views.Constants.{Constants}
-use Rattle.prl_rule.specs.Known.{run_of, values_of}
-use Rattle.prl_rule.specs.Halves.{AreHalves, high_half, low_half, value_of_halves}
-use Rattle.prl_rule.specs.RunValues.{HasValueFacts, half_of}
-use Rattle.prl_seats.specs.Boards.{BoardView}
+use Rattle.prl_seats.specs.Vocabulary.{BoardView, Follows, GoesOn, HasPartOf, IsSeatOf, JobSeatView, LoadsHalf}
 use Rattle.prl_seats.specs.declared.jobs.Stage.TheVariants as stages
-use Rattle.prl_seats.specs.JobSeats.{Follows, GoesOn, HasPartOf, IsSeatOf, JobSeatView, LoadsHalf}
 use Rattle.prl_seats.proofs.Following.{stands_so}
 use Rattle.prl_board.proofs.Lows.{cell_of_high, value_of_both}
 use Rattle.prl_board.proofs.SeatReads.{Keeps}

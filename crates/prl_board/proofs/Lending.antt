@@ -7,18 +7,14 @@ use mathlib.Core.Option.{some, some-ne-none}
 use native.Mathlib.Decide.{ℕ_discrete}
 use lib.ListN.{get_elem?}
 use Rattle.prl_base.specs.declared.numbers.TaskNo.{TaskNo}
+use Rattle.prl_seats.specs.JobSeats.{Follows, HasPartOf, IsStage, JobSeatView, StaysAt}
 use Rattle.prl_seats.specs.declared.jobs.Stage.{Stage}
+use Rattle.prl_rule.specs.Vocabulary.{part_at, part_of, part_or, run_of, values_of, HasRead, bare, caught_up, stop_loaded, with_part}
 use Rattle.prl_rule.specs.declared.views.ClockPart.{ClockPart}
 use Rattle.prl_rule.specs.declared.views.Constants.{Constants}
 use Rattle.prl_rule.specs.declared.views.TaskPart.{TaskPart}
 use Rattle.prl_rule.specs.declared.views.View.{View}
-use Rattle.prl_rule.specs.Told.{part_at, part_of, part_or}
-use Rattle.prl_board.specs.ClockSeats.{ClockSeatView, IsClockData}
-use Rattle.prl_board.specs.Lones.{IsWhole, LoneView, StandAs}
-use Rattle.prl_seats.specs.JobSeats.{Follows, HasPartOf, IsStage, JobSeatView, StaysAt}
-use Rattle.prl_rule.specs.Known.{run_of, values_of}
-use Rattle.prl_rule.specs.Steps.{HasRead, bare, caught_up, stop_loaded, with_part}
-use Rattle.prl_board.specs.code.Lent.{AreLent, IsLent, IsSettled, KeepHalves}
+use Rattle.prl_board.specs.Vocabulary.{ClockSeatView, IsClockData, IsWhole, LoneView, StandAs, AreLent, IsLent, IsSettled, KeepHalves}
 use Rattle.atomic_table.proofs.Lists.{set_else as part_else}
 use Rattle.prl_seats.proofs.Following.{part_is}
 use Rattle.prl_rule.proofs.Parts.{caught_kept, part_there, set_found}

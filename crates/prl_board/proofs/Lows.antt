@@ -4,21 +4,17 @@ use Rattle.prl_base.specs.Values.{FitsValue, type_of}
 use Rattle.prl_base.specs.declared.numbers.EdgeNo.{EdgeNo}
 use Rattle.prl_base.specs.declared.values.Ty.{Ty}
 use Rattle.prl_base.specs.declared.values.Value.{Value}
-use Rattle.prl_plan.specs.declared.events.SlotNo.{SlotNo}
+use Rattle.prl_plan.specs.Vocabulary.{HasPlanFacts, IsJob, low, high, RunConstants, action_at}
 use Rattle.prl_plan.specs.declared.events.Action.{Action}
+use Rattle.prl_plan.specs.declared.events.SlotNo.{SlotNo}
 use Rattle.prl_plan.specs.declared.events.Action.TheVariants as actions
-use Rattle.prl_plan.specs.Facts.{HasPlanFacts, IsJob}
-use Rattle.prl_plan.specs.Plans.{low, high}
-use Rattle.prl_plan.specs.Runs.{RunConstants, action_at}
-use Rattle.prl_seats.specs.declared.jobs.Release.{Release}
-use Rattle.prl_seats.specs.declared.jobs.Release.TheVariants as releases
-use Rattle.prl_seats.specs.declared.jobs.Stage.{Stage}
-use Rattle.prl_seats.specs.declared.jobs.Stage.TheVariants as stages
-use Rattle.prl_rule.specs.declared.views.Constants.{Constants}
-use Rattle.prl_rule.specs.Halves.{AreHalves, high_half, low_half, value_of_halves}
 use Rattle.prl_seats.specs.JobSeats.{AnswersRelease, IsStage, JobSeatView}
-use Rattle.prl_rule.specs.Known.{run_of, values_of}
-use Rattle.prl_rule.specs.RunValues.{HasValueFacts, RunValues, half_of, half_with}
+use Rattle.prl_seats.specs.declared.jobs.Release.{Release}
+use Rattle.prl_seats.specs.declared.jobs.Stage.{Stage}
+use Rattle.prl_seats.specs.declared.jobs.Release.TheVariants as releases
+use Rattle.prl_seats.specs.declared.jobs.Stage.TheVariants as stages
+use Rattle.prl_rule.specs.Vocabulary.{AreHalves, high_half, low_half, value_of_halves, run_of, values_of, HasValueFacts, RunValues, half_of, half_with}
+use Rattle.prl_rule.specs.declared.views.Constants.{Constants}
 use Rattle.prl_board.specs.code.Lows.{IsLow}
 use Rattle.prl_rule.proofs.Reading.{before_high, const_no_high, no_high_first, same_read, write_no_high}
 

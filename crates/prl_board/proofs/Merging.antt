@@ -2,10 +2,10 @@
 use Rattle.std.proofs.Common.{◌≡◌, ℕ, zero, suc, ◌&&◌, ◌||◌, List, [], ◌∷◌, refl, sym, Bool, true, false, Option, Some, None}
 use mathlib.Core.Option.{some, some-injective, some-ne-none}
 use lib.ListN.{get_elem?}
+use Rattle.prl_rule.specs.Steps.{first_of, merged}
 use Rattle.prl_rule.specs.declared.views.ClockPart.{ClockPart}
 use Rattle.prl_rule.specs.declared.views.TaskPart.{TaskPart}
 use Rattle.prl_rule.specs.declared.views.View.{View}
-use Rattle.prl_rule.specs.Steps.{first_of, merged}
 use Rattle.prl_seats.specs.Parts.{has_clock, overlap, share_part}
 
 -- no part is lost

@@ -4,15 +4,12 @@ use Rattle.std.specs.Prelude.{slice_get}
 use mathlib.Core.Option.{some}
 use lib.ListN.{get_elem?}
 use Rattle.atomic_table.proofs.Lists.{set_else, set_here}
+use Rattle.prl_rule.specs.Vocabulary.{run_of, values_of, all_parts, first_part, first_parts, RunValues, only_part, without_part}
 use Rattle.prl_rule.specs.declared.views.Constants.{Constants}
 use Rattle.prl_rule.specs.declared.views.TaskPart.{TaskPart}
 use Rattle.prl_rule.specs.declared.views.View.{View}
 use Rattle.prl_board.specs.Openings.{AreLeft}
 use Rattle.prl_seats.specs.JobSeats.{HasFirstPart}
-use Rattle.prl_rule.specs.Known.{run_of, values_of}
-use Rattle.prl_rule.specs.Rule.{all_parts, first_part, first_parts}
-use Rattle.prl_rule.specs.RunValues.{RunValues}
-use Rattle.prl_rule.specs.Steps.{only_part, without_part}
 use Rattle.prl_rule.proofs.Parts.{part_there}
 
 parts_wide : (v : RunValues) (from n : ℕ) → length (first_parts v from n) ≡ n

@@ -5,8 +5,8 @@ use Rattle.std.proofs.lemmas.List.{length-take-le}
 use Rattle.prl_base.specs.declared.values.Value.{Value}
 use Rattle.prl_flow.proofs.Lists.{slice_get_take}
 use Rattle.prl_values.specs.JobValues.{reads_of_job}
-use Rattle.prl_rule.specs.declared.views.Constants.{Constants}
 use Rattle.prl_rule.specs.Known.{job_values_of, values_of}
+use Rattle.prl_rule.specs.declared.views.Constants.{Constants}
 use Rattle.prl_board.specs.Closings.{AreOutputs}
 
 pub column_outputs : (k : Constants) (i job steps : ℕ) (column : List Value) → job ≤ steps → job ≤ length column →

@@ -3,41 +3,34 @@ use Rattle.std.proofs.Common.{◌≡◌, ℕ, ◌+◌, ◌/◌, ◌^◌, ◌<◌
 use Rattle.prl_base.specs.declared.numbers.CellNo.{CellNo}
 use Rattle.prl_base.specs.declared.numbers.EdgeNo.{EdgeNo}
 use Rattle.prl_base.specs.declared.numbers.TaskNo.{TaskNo}
-use Rattle.prl_plan.specs.declared.events.Action.TheVariants as actions
-use Rattle.prl_plan.specs.declared.events.SlotNo.{SlotNo}
-use Rattle.prl_plan.specs.Runs.{action_at}
-use Rattle.prl_workers.specs.declared.workers.Worker.{Worker}
-use Rattle.prl_workers.specs.declared.workers.Work.{Work}
-use Rattle.prl_workers.specs.declared.workers.Work.TheVariants as works
-use Rattle.prl_workers.specs.Workers.{HasMachine, HasNoMachine, IsNewWorker, IsWork, IsWorker, once}
-use Rattle.prl_workers.proofs.Working.{new_worker}
 use Rattle.prl_base.specs.declared.values.Value.{Value}
+use Rattle.prl_plan.specs.declared.events.Action.TheVariants as actions
+use Rattle.prl_plan.specs.Vocabulary.{action_at, task_at}
+use Rattle.prl_plan.specs.declared.events.SlotNo.{SlotNo}
+use Rattle.prl_plan.specs.declared.graphs.Kind.{Kind}
+use Rattle.prl_workers.specs.Workers.{HasMachine, HasNoMachine, IsNewWorker, IsWork, IsWorker, once}
+use Rattle.prl_workers.specs.declared.workers.Work.{Work}
+use Rattle.prl_workers.specs.declared.workers.Worker.{Worker}
+use Rattle.prl_workers.specs.declared.workers.Work.TheVariants as works
+use Rattle.prl_workers.proofs.Working.{new_worker}
 use Rattle.prl_body.specs.Machines.{MachineState}
 use Rattle.prl_body.specs.declared.bodies.CheckedBody.{CheckedBody}
 use Rattle.prl_flow.specs.Applications.{registers_before}
-use Rattle.prl_plan.specs.declared.graphs.Kind.{Kind}
 use Rattle.prl_plan.specs.declared.graphs.Kind.TheVariants as kinds
-use Rattle.prl_plan.specs.Jobs.{task_at}
-use Rattle.prl_values.specs.BodyRuns.{place_of_run}
-use Rattle.prl_values.specs.JobValues.{body_of_task, reads_of_job}
+use Rattle.prl_values.specs.Vocabulary.{place_of_run, body_of_task, reads_of_job}
 use Rattle.prl_seats.specs.JobSeats.{AnswersRelease, Follows, GoesOn, IsFirstSeat, IsSameSeat, JobSeatView, MayRaise, StaysAt}
-use Rattle.prl_board.proofs.Lows.{low_shut}
 use Rattle.prl_seats.specs.declared.jobs.Release.{Release}
-use Rattle.prl_seats.specs.declared.jobs.Release.TheVariants as releases
 use Rattle.prl_seats.specs.declared.jobs.Stage.{Stage}
+use Rattle.prl_board.proofs.Lows.{low_shut}
+use Rattle.prl_seats.specs.declared.jobs.Release.TheVariants as releases
 use Rattle.prl_seats.specs.declared.jobs.Stage.TheVariants as stages
-use Rattle.prl_board.specs.declared.seats.Got.{Got}
+use Rattle.prl_board.specs.Vocabulary.{Got, AnswersHalf, IsMachineOf, IsNodeTask, Misses, IsLow, Works}
 use Rattle.prl_board.specs.declared.seats.Got.TheVariants as gots
+use Rattle.prl_rule.specs.Vocabulary.{IsOverrun, HalfTold, part_at, part_of, job_values_of, registers_of, run_of, values_of, half_loaded, half_missed, half_taken, with_part}
 use Rattle.prl_rule.specs.declared.views.Constants.{Constants}
-use Rattle.prl_rule.specs.declared.views.Gate.TheVariants as gates
 use Rattle.prl_rule.specs.declared.views.TaskPart.{TaskPart}
 use Rattle.prl_rule.specs.declared.views.View.{View}
-use Rattle.prl_rule.specs.Agreement.{IsOverrun}
-use Rattle.prl_rule.specs.Told.{HalfTold, part_at, part_of}
-use Rattle.prl_rule.specs.Known.{job_values_of, registers_of, run_of, values_of}
-use Rattle.prl_rule.specs.Steps.{half_loaded, half_missed, half_taken, with_part}
-use Rattle.prl_board.specs.TaskSeats.{AnswersHalf, IsMachineOf, IsNodeTask, Misses}
-use Rattle.prl_board.specs.code.Lows.{IsLow, Works}
+use Rattle.prl_rule.specs.declared.views.Gate.TheVariants as gates
 use Rattle.prl_seats.proofs.Following.{fresh_part, part_is}
 
 -- the worker where the seat has gone to

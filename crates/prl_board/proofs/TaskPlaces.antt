@@ -2,9 +2,9 @@
 use Rattle.std.proofs.Common.{◌≡◌, refl}
 use Rattle.prl_plan.specs.declared.events.Action.{Action}
 use Rattle.prl_plan.specs.declared.events.Action.TheVariants as actions
+use Rattle.prl_seats.specs.JobSeats.{IsShut}
 use Rattle.prl_seats.specs.declared.jobs.Stage.{Stage}
 use Rattle.prl_seats.specs.declared.jobs.Stage.TheVariants as stages
-use Rattle.prl_seats.specs.JobSeats.{IsShut}
 use Rattle.prl_board.specs.TaskSeats.{MayFinish, MayRelease, place_at, place_of}
 
 no_release : (action : Action) → MayRelease (place_at action) → ⊥

@@ -1,12 +1,11 @@
 -- Jobs that are due and have not been seen to end.
 use Rattle.std.proofs.Common.{◌≡◌, ℕ, ◌+◌, ◌<◌, ◌≤◌, get_or, inl, inr, arith, ap}
 use Rattle.std.proofs.lemmas.Bool.{cases_order}
-use Rattle.prl_plan.specs.Runs.{RunConstants}
-use Rattle.prl_plan.specs.Facts.{HasPlanFacts, IsJob}
-use Rattle.prl_rule.specs.declared.views.Constants.{Constants}
-use Rattle.prl_rule.specs.declared.views.ClockPart.{ClockPart}
-use Rattle.prl_board.specs.ClockSeats.{IsUnseen}
+use Rattle.prl_plan.specs.Vocabulary.{RunConstants, HasPlanFacts, IsJob}
 use Rattle.prl_rule.specs.Known.{run_of}
+use Rattle.prl_rule.specs.declared.views.ClockPart.{ClockPart}
+use Rattle.prl_rule.specs.declared.views.Constants.{Constants}
+use Rattle.prl_board.specs.ClockSeats.{IsUnseen}
 
 -- a later job of a task is not due earlier
 pub deadlines_rise : (c : RunConstants) → HasPlanFacts c → (i m n : ℕ) → IsJob c i n → m ≤ n → c.deadline i m ≤ c.deadline i n

@@ -9,25 +9,20 @@ use Rattle.prl_base.specs.declared.numbers.TaskNo.{TaskNo}
 use Rattle.prl_base.specs.declared.values.Value.{Value}
 use Rattle.prl_base.specs.declared.values.Value.TheVariants as values
 use Rattle.prl_plan.specs.declared.events.Action.TheVariants as actions
+use Rattle.prl_plan.specs.Vocabulary.{HasCells, no_used, encoded_release, encoded_deadline, IsJob, IsActionOf, IsAtPort, IsHalfOf, cell_of, edge_at, no_edge, operands_before, place_on, action_at}
 use Rattle.prl_plan.specs.declared.events.SlotNo.{SlotNo}
 use Rattle.prl_plan.specs.declared.graphs.Edge.{Edge}
 use Rattle.prl_plan.specs.declared.graphs.Producer.{Producer}
-use Rattle.prl_plan.specs.declared.graphs.Producer.TheVariants as producers
 use Rattle.prl_plan.specs.declared.tables.Used.{Used}
+use Rattle.prl_plan.specs.declared.graphs.Producer.TheVariants as producers
 use Rattle.prl_plan.specs.declared.walks.Operand.TheVariants as operands
-use Rattle.prl_plan.specs.Cells.{HasCells, no_used}
-use Rattle.prl_plan.specs.Dates.{encoded_release, encoded_deadline}
-use Rattle.prl_plan.specs.Facts.{IsJob}
-use Rattle.prl_plan.specs.Plans.{IsActionOf, IsAtPort, IsHalfOf, cell_of, edge_at, no_edge, operands_before, place_on}
-use Rattle.prl_plan.specs.Runs.{action_at}
 use Rattle.prl_values.specs.JobValues.{reads_of_job, value_from}
-use Rattle.prl_workers.specs.declared.workers.Worker.{Worker}
 use Rattle.prl_workers.specs.Workers.{HasBegun, HasEnded, HasTaken, HaveWorkLaws, IsReady, IsWorker}
+use Rattle.prl_workers.specs.declared.workers.Worker.{Worker}
 use Rattle.prl_workers.proofs.Operands.{Reads}
 use Rattle.prl_workers.proofs.Serving.{has_ended, has_taken, has_written, low_read, may_begin, may_take, output_is, output_there, port_of_edge}
+use Rattle.prl_rule.specs.Vocabulary.{edge_in, instance_on, job_values_of, run_of, values_of, HasValueFacts, half_with}
 use Rattle.prl_rule.specs.declared.views.Constants.{Constants}
-use Rattle.prl_rule.specs.Known.{edge_in, instance_on, job_values_of, run_of, values_of}
-use Rattle.prl_rule.specs.RunValues.{HasValueFacts, half_with}
 use Rattle.prl_board.specs.code.Lows.{Gives}
 use Rattle.prl_rule.proofs.CellEdges.{edge_in_range}
 

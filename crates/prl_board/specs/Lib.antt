@@ -10,3 +10,4 @@ pub mod Lones
 pub mod Closings
 -- what private functions say to one another
 pub mod code
+pub mod Vocabulary

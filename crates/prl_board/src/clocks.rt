@@ -2,13 +2,12 @@
 
 ghost use Rattle.std.specs.Prelude.{◌≡◌, ◌+◌, ◌<◌, ◌≤◌, ℕ, [], replicate, slice_index, MatchOption, Some};
 ghost use Rattle.prl_plan.specs.Facts.{IsJob};
+ghost use Rattle.prl_rule.specs.Vocabulary.{LookTold, run_of};
 ghost use Rattle.prl_rule.specs.declared.views.ClockPart.{ClockPart};
 ghost use Rattle.prl_rule.specs.declared.views.Constants.{Constants};
 ghost use Rattle.prl_rule.specs.declared.views.Gate.TheVariants as gates;
-ghost use Rattle.prl_rule.specs.Told.{LookTold};
 ghost use Rattle.prl_board.specs.ClockSeats.{AnswersStop, AnswersTick, IsAllSeen, IsBehind, IsClockData, IsClockOf, IsUnseen};
 ghost use Rattle.prl_board.specs.Openings.{IsFirstClock};
-ghost use Rattle.prl_rule.specs.Known.{run_of};
 
 use prl_base::TaskNo;
 use prl_seats::{Board, Seat};

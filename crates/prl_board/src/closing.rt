@@ -4,16 +4,13 @@ ghost use Rattle.std.specs.Prelude.{◌≡◌, ◌<◌, ℕ, length, Some, slice
 ghost use Rattle.std.specs.Bool.{OnFalse, OnTrue};
 ghost use Rattle.std.specs.Mem.Slots.{slots_items, slots_len, IsFull};
 ghost use Rattle.std.specs.Vec.{vec_items};
-ghost use Rattle.prl_plan.specs.Rules.{IsComplete};
-ghost use Rattle.prl_plan.specs.Runs.{ExecState};
-ghost use Rattle.prl_rule.specs.Agreement.{done_word, now_word, slot_word};
+ghost use Rattle.prl_plan.specs.Vocabulary.{IsComplete, ExecState};
+ghost use Rattle.prl_rule.specs.Vocabulary.{done_word, now_word, slot_word, run_of, part_of};
 ghost use Rattle.prl_rule.specs.declared.views.ClockPart.{ClockPart};
 ghost use Rattle.prl_rule.specs.declared.views.Constants.{Constants};
 ghost use Rattle.prl_board.specs.ClockSeats.{IsClockOf};
 ghost use Rattle.prl_board.specs.Closings.{AreOutputs, Drives, IsClosed, IsLastState, KeepsTag, slot_of};
 ghost use Rattle.prl_seats.specs.JobSeats.{JobSeatView};
-ghost use Rattle.prl_rule.specs.Known.{run_of};
-ghost use Rattle.prl_rule.specs.Told.{part_of};
 ghost use Rattle.prl_board.specs.Lones.{AreSeatsOf, IsLoneOf, StandAs};
 ghost use Rattle.prl_board.specs.TaskSeats.{IsMachineOf, IsNodeTask};
 ghost use Rattle.prl_board.specs.code.Lent.{IsLeft};

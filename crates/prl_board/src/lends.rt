@@ -1,15 +1,12 @@
 //! Calls of seats to which one thread has lent the view that has all parts.
 
 ghost use Rattle.std.specs.Prelude.{◌≡◌, ◌<◌, [], Some};
+ghost use Rattle.prl_rule.specs.Vocabulary.{run_of, bare, LookTold};
 ghost use Rattle.prl_rule.specs.declared.views.ClockPart.{ClockPart};
-ghost use Rattle.prl_rule.specs.Known.{run_of};
-ghost use Rattle.prl_rule.specs.Steps.{bare};
-ghost use Rattle.prl_rule.specs.Told.{LookTold};
-ghost use Rattle.prl_seats.specs.JobSeats.{AnswersRelease, Ends, Follows, IsSeatOf};
+ghost use Rattle.prl_seats.specs.JobSeats.{AnswersRelease, Ends, Follows, IsSeatOf, reseated};
 ghost use Rattle.prl_board.specs.ClockSeats.{IsClockOf};
 ghost use Rattle.prl_board.specs.Lones.{IsTicked};
 ghost use Rattle.prl_board.specs.TaskSeats.{AnswersRead, AnswersWrite, MayFinish, MayRead, MayRelease, MayWrite, place_of};
-ghost use Rattle.prl_seats.specs.JobSeats.{reseated};
 ghost use Rattle.prl_board.specs.code.Lent.{IsClockReturned, IsLent, IsLentClock, IsReturned};
 
 use crate::clocks::{ClockSeat, Ticked};

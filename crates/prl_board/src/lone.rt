@@ -4,18 +4,15 @@ ghost use Rattle.std.specs.Prelude.{◌≡◌, ◌+◌, ◌<◌, ℕ, [], length
 ghost use Rattle.std.specs.Vec.{vec_items};
 ghost use mathlib.Core.Option.{some};
 ghost use lib.ListN.{get_elem?};
+ghost use Rattle.prl_rule.specs.Vocabulary.{now_word, run_of, bare, LookTold, part_of};
 ghost use Rattle.prl_rule.specs.declared.views.ClockPart.{ClockPart};
 ghost use Rattle.prl_rule.specs.declared.views.Constants.{Constants};
 ghost use Rattle.prl_rule.specs.declared.views.TaskPart.{TaskPart};
 ghost use Rattle.prl_board.specs.ClockSeats.{IsClockOf};
-ghost use Rattle.prl_rule.specs.Agreement.{now_word};
 ghost use Rattle.prl_seats.specs.JobSeats.{AnswersRelease, Ends, Follows, IsSeatOf, JobSeatView, StaysAt};
 ghost use Rattle.prl_board.specs.Closings.{KeepsTag};
 ghost use Rattle.prl_board.specs.Lones.{AreSeatsOf, FindsTag, IsClockCall, IsLoneOf, IsPlacedAt, IsReleasedBy, IsTaskCall, IsTicked, IsWhole, LeavesTag, StandAs};
 ghost use Rattle.prl_board.specs.TaskSeats.{AnswersRead, AnswersWrite, MayFinish, MayRead, MayRelease, MayWrite, place_of};
-ghost use Rattle.prl_rule.specs.Known.{run_of};
-ghost use Rattle.prl_rule.specs.Steps.{bare};
-ghost use Rattle.prl_rule.specs.Told.{LookTold, part_of};
 ghost use Rattle.prl_board.specs.code.Lent.{IsLent, IsSettled, KeepHalves};
 
 use crate::clocks::{ClockSeat, Ticked};

@@ -4,6 +4,7 @@ ghost use Rattle.std.specs.Prelude.{◌≡◌, ◌%◌, ◌<◌, ◌≤◌, ℕ,
 ghost use Rattle.std.specs.Bool.{OnFalse, OnTrue};
 ghost use Rattle.prl_plan.specs.declared.events.Action.TheVariants as actions;
 ghost use Rattle.prl_seats.specs.declared.jobs.Stage.TheVariants as stages;
+ghost use Rattle.prl_rule.specs.Vocabulary.{RaiseTold, run_of};
 ghost use Rattle.prl_rule.specs.declared.views.Constants.{Constants};
 ghost use Rattle.prl_workers.specs.Workers.{HasBegun};
 ghost use Rattle.prl_seats.specs.JobSeats.{AnswersRelease, Ends, Follows, HasFirstPart, HasPartOf, IsFirstSeat, IsSameSeat, IsSeatOf, MayRaise, StaysAt, TellsStop, reseated};
@@ -11,8 +12,6 @@ ghost use Rattle.prl_board.specs.code.Lows.{Gives, MayGive};
 ghost use Rattle.prl_board.specs.Closings.{AreOutputs, Drives, IsNoActuator};
 ghost use Rattle.prl_plan.specs.declared.graphs.Kind.TheVariants as kinds;
 ghost use Rattle.prl_plan.specs.Jobs.{task_at};
-ghost use Rattle.prl_rule.specs.Told.{RaiseTold};
-ghost use Rattle.prl_rule.specs.Known.{run_of};
 ghost use Rattle.prl_board.specs.TaskSeats.{AnswersAction, AnswersRead, AnswersWrite, IsMachineOf, IsNodeTask, MayFinish, MayRead, MayRelease, MayWrite, Misses, ReadsHalf, WritesAction, half_at, place_of};
 
 use crate::clocks::ClockSeat;

@@ -2,10 +2,7 @@
 use Rattle.std.proofs.Common.{◌≡◌, ◌<◌, ℕ, zero, suc, false, List, [], ◌∷◌, ◌++◌, length, take, drop, map, get_or, refl, sym, ap, ◌∙◌, Some, None, Result, Ok, arith}
 use Rattle.prl_base.specs.Reading.{◌>>=◌}
 use Rattle.prl_ast.specs.declared.declarations.Import.{Import}
-use Rattle.prl_body.specs.declared.faults.BodyFault.{BodyFault}
-use Rattle.prl_body.specs.declared.texts.BodyText.{BodyText}
-use Rattle.prl_body.specs.Checks.{BodyTree, import_named, has_text, checked_body, checked_bodies}
-use Rattle.prl_body.specs.Texts.{TextTree, text_tree}
+use Rattle.prl_body.specs.Vocabulary.{BodyFault, BodyText, BodyTree, import_named, has_text, checked_body, checked_bodies, TextTree, text_tree}
 use Rattle.prl_body.proofs.Lists.{added_to, added_to_push}
 
 pub taken_with : (texts : List BodyText) (k : ℕ) (t : BodyText) → k < length texts → t ≡ get_or texts k t →

@@ -1,26 +1,16 @@
 -- A checked body is well typed.
 use Rattle.std.proofs.Common.{◌≡◌, ◌+◌, ℕ, suc, List, [], ◌∷◌, map, slice_get, Option, Some, None, Result, Ok, Err, refl, ◌∙◌, ap, subst, arith}
 use Rattle.std.specs.Prelude.{if◌then◌else◌}
-use Rattle.prl_base.specs.Reading.{◌>>=◌}
-use Rattle.prl_base.specs.Values.{type_of}
+use Rattle.prl_base.specs.Vocabulary.{◌>>=◌, type_of}
 use Rattle.prl_base.specs.declared.values.Ty.{Ty}
 use Rattle.prl_ast.specs.declared.declarations.Import.{Import}
 use Rattle.prl_ast.specs.declared.declarations.Port.{Port}
-use Rattle.prl_body.specs.declared.bodies.CheckedBody.{CheckedBody}
-use Rattle.prl_body.specs.declared.bodies.Register.{Register}
+use Rattle.prl_body.specs.Vocabulary.{CheckedBody, Register, BodyFault, RegisterText, HaveTypes, IsWellTyped, RegisterTree, BodyTree, register_tree, body_tree, typed_as, typed_statements}
+use Rattle.prl_body.specs.Vocabulary.{statement_named, output_value, output_values, next_value, resolved_registers, without_fault, checked_body, expression_of, Expression, name, name_fault}
+use Rattle.prl_body.specs.Vocabulary.{StatementTree, TextTree, typed, HasType}
 use Rattle.prl_body.specs.declared.codes.Variable.TheVariants as variables
-use Rattle.prl_body.specs.declared.faults.BodyFault.{BodyFault}
 use Rattle.prl_body.specs.declared.faults.BodyFault.TheVariants as faults
-use Rattle.prl_body.specs.declared.texts.RegisterText.{RegisterText}
-use Rattle.prl_body.specs.Bodies.{HaveTypes, IsWellTyped}
-use Rattle.prl_body.specs.Checks.{RegisterTree, BodyTree, register_tree, body_tree, typed_as, typed_statements, statement_named, output_value, output_values, next_value, resolved_registers, without_fault, checked_body}
-use Rattle.prl_body.specs.Codes.{expression_of}
-use Rattle.prl_body.specs.Expressions.{Expression, name}
-use Rattle.prl_body.specs.NameChecks.{name_fault}
-use Rattle.prl_body.specs.Texts.{StatementTree, TextTree}
-use Rattle.prl_body.specs.TypeChecks.{typed}
 use Rattle.prl_bodyops.specs.Types.{is_same_type}
-use Rattle.prl_body.specs.Types.{HasType}
 use Rattle.prl_body.proofs.Inversion.{both_ok, passed_ok}
 use Rattle.prl_body.proofs.TypedSound.{port_types, text_types, same_type, typed_sound}
 

@@ -8,8 +8,7 @@ use Rattle.std.specs.BTreeMap.{BTreeMap}
 use Rattle.std.proofs.lemmas.Bool.{lt-ltb, le-ltb, ltb-true, ltb-false}
 use Rattle.std.proofs.lemmas.Option.{slice_get_past, slice_get_read}
 use denote.Ref.{Bor}
-use Rattle.prl_names.specs.Lookups.{index_from, index_of}
-use Rattle.prl_names.specs.Tables.{AreIndices, found}
+use Rattle.prl_names.specs.Vocabulary.{index_from, index_of, AreIndices, found}
 use Rattle.prl_body.specs.Scopes.{is_before}
 
 -- the search gives what `here` makes of the first element of the name and its index

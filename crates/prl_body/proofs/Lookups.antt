@@ -9,18 +9,10 @@ use Rattle.prl_base.specs.Values.{type_of}
 use Rattle.prl_base.specs.declared.values.Ty.{Ty}
 use Rattle.prl_ast.specs.declared.declarations.Import.{Import}
 use Rattle.prl_ast.specs.declared.declarations.Port.{Port}
-use Rattle.prl_body.specs.declared.codes.Variable.{Variable}
+use Rattle.prl_body.specs.Vocabulary.{Variable, BodyText, RegisterText, Statement, has_port, has_register, has_statement, is_before, left_names, port_names, register_names, port_type, register_type}
+use Rattle.prl_body.specs.Vocabulary.{statement_named, import_named, has_text, text_names, statement_tree, text_tree, input_named, register_named}
 use Rattle.prl_body.specs.declared.codes.Variable.TheVariants as variables
-use Rattle.prl_body.specs.declared.texts.BodyText.{BodyText}
-use Rattle.prl_body.specs.declared.texts.RegisterText.{RegisterText}
-use Rattle.prl_body.specs.declared.texts.Statement.{Statement}
 use Rattle.prl_names.specs.Tables.{AreIndices, found}
-use Rattle.prl_body.specs.NameChecks.{has_port, has_register, has_statement}
-use Rattle.prl_body.specs.Scopes.{is_before, left_names, port_names, register_names}
-use Rattle.prl_body.specs.Checks.{port_type, register_type, statement_named, import_named, has_text}
-use Rattle.prl_body.specs.Directories.{text_names}
-use Rattle.prl_body.specs.Texts.{statement_tree, text_tree}
-use Rattle.prl_body.specs.TypeChecks.{input_named, register_named}
 use Rattle.prl_body.proofs.FirstOf.{Searches, any_is, earlier_is}
 
 abbrev Table : Type 0

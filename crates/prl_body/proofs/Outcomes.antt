@@ -1,20 +1,16 @@
 -- The check of bodies never has want of memory as its outcome.
 use Rattle.std.proofs.Common.{◌≡◌, ◌≢◌, ◌+◌, ◌++◌, ℕ, Bool, true, false, List, [], ◌∷◌, Option, Some, None, Result, Ok, Err, refl, ap}
 use Rattle.std.specs.Prelude.{if◌then◌else◌}
-use Rattle.prl_base.specs.Reading.{◌>>=◌}
-use Rattle.prl_base.specs.Values.{type_of}
+use Rattle.prl_base.specs.Vocabulary.{◌>>=◌, type_of}
 use Rattle.prl_base.specs.declared.places.Span.{Span}
 use Rattle.prl_base.specs.declared.values.Ty.{Ty}
 use Rattle.prl_ast.specs.declared.declarations.Import.{Import}
 use Rattle.prl_ast.specs.declared.declarations.Port.{Port}
-use Rattle.prl_body.specs.declared.codes.Variable.{Variable}
-use Rattle.prl_body.specs.declared.faults.BodyFault.{BodyFault}
+use Rattle.prl_body.specs.Vocabulary.{Variable, BodyFault, RegisterText, BodyTree, typed_as, left_type, typed_statement, typed_statements, statement_named, output_value, output_values, next_value}
+use Rattle.prl_body.specs.Vocabulary.{resolved_registers, without_fault, checked_body, import_named, has_text, checked_one, checked_bodies, has_body, all_there, checked, name_fault, Tree, constant}
+use Rattle.prl_body.specs.Vocabulary.{run, series, choice, TreeRights, more, StatementTree, TextTree, typed_name, named, typed, typed_rights}
+use Rattle.prl_body.specs.Texts.{name, none}
 use Rattle.prl_body.specs.declared.faults.BodyFault.TheVariants as faults
-use Rattle.prl_body.specs.declared.texts.RegisterText.{RegisterText}
-use Rattle.prl_body.specs.Checks.{BodyTree, typed_as, left_type, typed_statement, typed_statements, statement_named, output_value, output_values, next_value, resolved_registers, without_fault, checked_body, import_named, has_text, checked_one, checked_bodies, has_body, all_there, checked}
-use Rattle.prl_body.specs.NameChecks.{name_fault}
-use Rattle.prl_body.specs.Texts.{Tree, constant, name, run, series, choice, TreeRights, none, more, StatementTree, TextTree}
-use Rattle.prl_body.specs.TypeChecks.{typed_name, named, typed, typed_rights}
 
 -- a result that is not want of memory
 abbrev Told : {A : Type 0} → Result A BodyFault → Type 0

@@ -2,11 +2,8 @@
 use Rattle.std.proofs.Common.{◌≡◌, List, Result, Ok, Err, refl}
 use Rattle.prl_base.specs.Reading.{◌>>=◌}
 use Rattle.prl_ast.specs.declared.declarations.Import.{Import}
-use Rattle.prl_body.specs.declared.faults.BodyFault.{BodyFault}
-use Rattle.prl_body.specs.Checks.{RegisterTree, BodyTree, checked_body, checked_code, output_values, resolved_registers, typed_statements, without_fault}
-use Rattle.prl_body.specs.Expressions.{Expression}
-use Rattle.prl_body.specs.NameChecks.{name_fault}
-use Rattle.prl_body.specs.Texts.{TextTree}
+use Rattle.prl_body.specs.Vocabulary.{BodyFault, RegisterTree, BodyTree, checked_body, checked_code, output_values, resolved_registers, typed_statements, without_fault, Expression, name_fault}
+use Rattle.prl_body.specs.Vocabulary.{TextTree}
 
 abbrev both : List Expression → List RegisterTree → Result (List Expression × List RegisterTree) BodyFault
 both values registers = Ok (values, registers)

@@ -1,23 +1,20 @@
 -- The value of an expression has the expression's type.
 use Rattle.std.proofs.Common.{◌≡◌, ℕ, zero, suc, Bool, true, false, List, [], ◌∷◌, length, map, slice_get, slice_index_or, Some, refl, ◌∙◌, ap}
 use Rattle.std.specs.Prelude.{if◌then◌else◌, pos}
+use Rattle.prl_base.specs.Values.{type_of}
 use Rattle.prl_base.specs.declared.values.Ty.{Ty}
 use Rattle.prl_base.specs.declared.values.Value.{Value}
 use Rattle.prl_base.specs.declared.values.Value.TheVariants as values
-use Rattle.prl_base.specs.Values.{type_of}
-use Rattle.prl_body.specs.declared.codes.Variable.{Variable}
+use Rattle.prl_body.specs.Vocabulary.{Variable, Expression, name, Rights, none, variable_type, HasType, RightsHaveType, variable_value, prefixed_times, value, value_along, CheckedBody, HaveTypes}
+use Rattle.prl_body.specs.Vocabulary.{IsWellTyped, input_types, output_types, register_types, value_expressions, next_expressions}
+use Rattle.prl_body.specs.Expressions.{constant, run, series, choice, more}
 use Rattle.prl_body.specs.declared.codes.Variable.TheVariants as variables
 use Rattle.prl_bodyops.specs.declared.operators.Operator.{Operator}
 use Rattle.prl_bodyops.specs.declared.operators.Operator.TheVariants as operators
 use Rattle.prl_bodyops.specs.declared.operators.Prefix.{Prefix}
 use Rattle.prl_bodyops.specs.declared.operators.Prefix.TheVariants as prefixes
-use Rattle.prl_body.specs.Expressions.{Expression, constant, name, run, series, choice, Rights, none, more}
 use Rattle.prl_bodyops.specs.Operators.{truth_of, prefixed, result_of}
 use Rattle.prl_bodyops.specs.Types.{result_type, prefix_type}
-use Rattle.prl_body.specs.Types.{variable_type, HasType, RightsHaveType}
-use Rattle.prl_body.specs.Values.{variable_value, prefixed_times, value, value_along}
-use Rattle.prl_body.specs.declared.bodies.CheckedBody.{CheckedBody}
-use Rattle.prl_body.specs.Bodies.{HaveTypes, IsWellTyped, input_types, output_types, register_types, value_expressions, next_expressions}
 
 type_of_result : (operator : Operator) (a b : Value) → type_of (result_of operator a b) ≡ result_type operator
 type_of_result operators.Or a b = refl

@@ -5,10 +5,8 @@ use Rattle.std.specs.Str.{bytes_eq}
 use Rattle.std.proofs.lemmas.Slice.Eq.{bytes_eq-Decides}
 use Rattle.prl_base.specs.Reading.{◌>>=◌}
 use Rattle.prl_ast.specs.declared.declarations.Import.{Import}
-use Rattle.prl_body.specs.declared.faults.BodyFault.{BodyFault}
+use Rattle.prl_body.specs.Vocabulary.{BodyFault, BodyTree, checked_body, checked_one, checked_bodies, has_text, has_body, import_named, TextTree}
 use Rattle.prl_body.specs.declared.faults.BodyFault.TheVariants as faults
-use Rattle.prl_body.specs.Checks.{BodyTree, checked_body, checked_one, checked_bodies, has_text, has_body, import_named}
-use Rattle.prl_body.specs.Texts.{TextTree}
 use Rattle.prl_body.proofs.Inversion.{both_ok}
 use Rattle.prl_body.proofs.UsedBodies.{checked_ports, refused_ok}
 

@@ -3,23 +3,18 @@ use Rattle.std.proofs.Common.{◌≡◌, ◌+◌, ℕ, suc, Bool, true, false, L
 use Rattle.std.specs.Prelude.{if◌then◌else◌, ◌&&◌}
 use Rattle.std.specs.Str.{bytes_eq}
 use Rattle.std.proofs.lemmas.Bool.{and_parts}
-use Rattle.prl_base.specs.Reading.{◌>>=◌}
-use Rattle.prl_base.specs.Values.{type_of}
+use Rattle.prl_base.specs.Vocabulary.{◌>>=◌, type_of}
 use Rattle.prl_base.specs.declared.places.Span.{Span}
 use Rattle.prl_base.specs.declared.values.Ty.{Ty}
 use Rattle.prl_base.specs.declared.values.Ty.TheVariants as types
 use Rattle.prl_ast.specs.declared.declarations.Port.{Port}
-use Rattle.prl_body.specs.declared.codes.Variable.{Variable}
+use Rattle.prl_body.specs.Vocabulary.{Variable, BodyFault, RegisterText, Expression, Rights, Tree, constant, run, series, choice, TreeRights, more, input_named, register_named, either_variable, named}
+use Rattle.prl_body.specs.Vocabulary.{typed_name, last_at, typed, typed_rights, variable_type, HasType, RightsHaveType}
+use Rattle.prl_body.specs.Texts.{name, none}
 use Rattle.prl_body.specs.declared.codes.Variable.TheVariants as variables
-use Rattle.prl_body.specs.declared.faults.BodyFault.{BodyFault}
 use Rattle.prl_body.specs.declared.faults.BodyFault.TheVariants as faults
-use Rattle.prl_body.specs.declared.texts.RegisterText.{RegisterText}
-use Rattle.prl_body.specs.Expressions.{Expression, Rights}
 use Rattle.prl_body.specs.Expressions as expressions
-use Rattle.prl_body.specs.Texts.{Tree, constant, name, run, series, choice, TreeRights, none, more}
-use Rattle.prl_body.specs.TypeChecks.{input_named, register_named, either_variable, named, typed_name, last_at, typed, typed_rights}
 use Rattle.prl_bodyops.specs.Types.{is_same_type, are_allowed, operand_type, result_type, prefix_type}
-use Rattle.prl_body.specs.Types.{variable_type, HasType, RightsHaveType}
 use Rattle.prl_body.proofs.Inversion.{both_ok, passed_ok}
 
 abbrev pub port_types : List Port → List Ty

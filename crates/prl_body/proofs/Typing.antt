@@ -2,21 +2,16 @@
 use Rattle.std.proofs.Common.{◌≡◌, true, List, [], ◌∷◌, ◌++◌, refl, sym, ap, ◌∙◌, Vec, Global, Result, Ok, Err}
 use mathlib.Core.Former.{Count}
 use Rattle.std.specs.declared.boxed.Box.{Box}
-use Rattle.prl_base.specs.declared.values.Ty.{Ty}
 use Rattle.prl_base.specs.Reading.{◌>>=◌}
+use Rattle.prl_base.specs.declared.values.Ty.{Ty}
 use Rattle.prl_ast.specs.declared.declarations.Port.{Port}
-use Rattle.prl_body.specs.declared.codes.Code.{Code, Series, Series', Row_of-OperatorAndRight, end_of-OperatorAndRight, more_of-OperatorAndRight, items-the_row-OperatorAndRight, items_hidden-the_row-OperatorAndRight-0}
-use Rattle.prl_body.specs.declared.codes.OperatorAndRight.{OperatorAndRight}
-use Rattle.prl_body.specs.declared.faults.BodyFault.{BodyFault}
-use Rattle.prl_body.specs.declared.texts.RegisterText.{RegisterText}
-use Rattle.prl_body.specs.Codes.{expression_of, rights_of, pair_expressions}
-use Rattle.prl_body.specs.Expressions.{Expression, series, Rights, none, more}
-use Rattle.prl_body.specs.Texts.{Tree, TreeRights}
+use Rattle.prl_body.specs.Vocabulary.{Code, Series', Row_of-OperatorAndRight, end_of-OperatorAndRight, more_of-OperatorAndRight, items-the_row-OperatorAndRight}
+use Rattle.prl_body.specs.Vocabulary.{items_hidden-the_row-OperatorAndRight-0, OperatorAndRight, BodyFault, RegisterText, expression_of, rights_of, pair_expressions, Expression, Rights, none, Tree}
+use Rattle.prl_body.specs.Vocabulary.{TreeRights, ExprRight, tree_of, pair_trees, typed, typed_rights}
+use Rattle.prl_body.specs.declared.codes.Code.{Series}
+use Rattle.prl_body.specs.Expressions.{series, more}
 use Rattle.prl_body.specs.Texts as trees
-use Rattle.prl_body.specs.declared.texts.ExprRight.{ExprRight}
-use Rattle.prl_body.specs.Texts.{tree_of, pair_trees}
 use Rattle.prl_bodyops.specs.Types.{are_allowed, operand_type, result_type}
-use Rattle.prl_body.specs.TypeChecks.{typed, typed_rights}
 
 rights_of_row : (n : _) (row : Row_of-OperatorAndRight n) → rights_of row ≡ pair_expressions (items-the_row-OperatorAndRight n row)
 rights_of_row n end_of-OperatorAndRight = refl

@@ -5,15 +5,9 @@ use Rattle.std.specs.Str.{bytes_eq}
 use Rattle.std.proofs.lemmas.Slice.Eq.{bytes_eq-Decides}
 use Rattle.prl_base.specs.Reading.{◌>>=◌}
 use Rattle.prl_ast.specs.declared.declarations.Import.{Import}
-use Rattle.prl_body.specs.declared.bodies.CheckedBody.{CheckedBody}
-use Rattle.prl_body.specs.declared.faults.BodyFault.{BodyFault}
+use Rattle.prl_body.specs.Vocabulary.{CheckedBody, BodyFault, body_named, RegisterTree, BodyTree, body_tree, typed_statements, output_values, resolved_registers, without_fault, checked_body}
+use Rattle.prl_body.specs.Vocabulary.{checked_one, checked_bodies, has_text, has_body, all_there, checked, import_named, Expression, name_fault, TextTree, HaveBodiesOf}
 use Rattle.prl_body.specs.declared.faults.BodyFault.TheVariants as faults
-use Rattle.prl_body.specs.Bodies.{body_named}
-use Rattle.prl_body.specs.Checks.{RegisterTree, BodyTree, body_tree, typed_statements, output_values, resolved_registers, without_fault, checked_body, checked_one, checked_bodies, has_text, has_body, all_there, checked, import_named}
-use Rattle.prl_body.specs.Expressions.{Expression}
-use Rattle.prl_body.specs.NameChecks.{name_fault}
-use Rattle.prl_body.specs.Texts.{TextTree}
-use Rattle.prl_body.specs.Used.{HaveBodiesOf}
 use Rattle.prl_body.proofs.Inversion.{both_ok, passed_ok}
 
 -- the tree of a checked body has the ports of the import of its name

@@ -11,3 +11,4 @@ pub mod Checks
 pub mod Used
 pub mod Scopes
 pub mod Directories
+pub mod Vocabulary

@@ -1,8 +1,7 @@
 //! Bodies, checked against their imports.
 
 ghost use Rattle.std.specs.Prelude.{◌≡◌, map, IfOk};
-ghost use Rattle.prl_base.specs.Reading.{GivesBut};
-ghost use Rattle.prl_base.specs.Values.{type_of};
+ghost use Rattle.prl_base.specs.Vocabulary.{GivesBut, type_of};
 ghost use Rattle.prl_names.specs.Tables.{AreIndices};
 ghost use Rattle.prl_body.specs.Checks.{body_tree, register_tree, typed_as, left_type, typed_statement, typed_statements, statement_named, output_value, output_values, next_value, resolved_registers, checked_text, checked_code, checked_body};
 ghost use Rattle.prl_body.specs.Codes.{expression_of};

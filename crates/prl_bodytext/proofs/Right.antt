@@ -2,14 +2,9 @@
 use Rattle.std.proofs.Common.{map, ◌≡◌, ◌<◌, ◌≤◌, List, length, Ok, refl}
 use Rattle.std.proofs.lemmas.List.{map-id}
 use Rattle.prl_base.specs.declared.places.Span.{Span}
-use Rattle.prl_body.specs.declared.texts.RegisterText.{RegisterText}
 use Rattle.prl_body.specs.Texts.{Tree}
-use Rattle.prl_grammar.specs.Lexemes.{Lexeme}
-use Rattle.prl_grammar.specs.Combinators.{◌⊳◌}
-use Rattle.prl_grammar.specs.Productions.{Grammar, many, placed, inner}
-use Rattle.prl_grammar.specs.code.Languages.{inner_of, read_at}
-use Rattle.prl_grammar.specs.code.LookAhead.{IsApart}
-use Rattle.prl_grammar.specs.code.Shapes.{shape}
+use Rattle.prl_body.specs.declared.texts.RegisterText.{RegisterText}
+use Rattle.prl_grammar.specs.Vocabulary.{Lexeme, ◌⊳◌, Grammar, many, placed, inner, inner_of, read_at, IsApart, shape}
 use Rattle.prl_grammar.proofs.Loops.{Steps, steps}
 use Rattle.prl_grammar.proofs.Nesting.{IsRight, text_fewer, text_left}
 use Rattle.prl_bodytext.specs.Trees.{Sign}

@@ -1,7 +1,7 @@
 -- The rights of a series, as the tree has them.
 use Rattle.std.proofs.Common.{◌≡◌, ◌<◌, List, [], ◌∷◌, map, length, refl, ap, arith}
-use Rattle.prl_body.specs.declared.texts.ExprRight.{ExprRight}
 use Rattle.prl_body.specs.Texts.{Tree, series, more, tree_of, pair_trees}
+use Rattle.prl_body.specs.declared.texts.ExprRight.{ExprRight}
 use Rattle.prl_bodytext.specs.Trees.{rights_from, pair_view, in_series}
 
 rights_viewed : (ls : List ExprRight) → pair_trees ls ≡ rights_from (map pair_view ls)

@@ -1,15 +1,13 @@
 -- What the parser answers, in terms of the grammar.
 use Rattle.std.proofs.Common.{◌≡◌, ◌≢◌, List, ℕ, Result, Ok, Err, sym, ap, ◌∙◌, subst, inl, inr}
+use Rattle.prl_body.specs.Texts.{TextTree}
 use Rattle.prl_body.specs.declared.faults.BodyFault.{BodyFault}
 use Rattle.prl_body.specs.declared.faults.BodyFault.TheVariants as faults
-use Rattle.prl_body.specs.Texts.{TextTree}
 use Rattle.prl_lex.specs.declared.tokens.LexFault.TheVariants as lexical
 use Rattle.prl_lex.proofs.Outcomes.{text_has_outcome}
+use Rattle.prl_grammar.specs.Vocabulary.{IsRead, tree_of_text, told}
 use Rattle.prl_grammar.specs.declared.texts.TextFault.{TextFault}
 use Rattle.prl_grammar.specs.declared.texts.TextFault.TheVariants as texts
-use Rattle.prl_grammar.specs.Texts.{IsRead}
-use Rattle.prl_grammar.specs.code.Texts.{tree_of_text}
-use Rattle.prl_grammar.specs.code.Whole.{told}
 use Rattle.prl_grammar.proofs.TextTrees.{read_is, is_read}
 use Rattle.prl_bodytext.specs.Parsing.{body_texts, Explains, IsParsed}
 use Rattle.prl_bodytext.specs.code.Outcomes.{of_text}

@@ -3,11 +3,8 @@
 ghost use Rattle.std.specs.Prelude.{◌≡◌, map};
 ghost use Rattle.prl_base.specs.Reading.{Gives};
 ghost use Rattle.prl_body.specs.Texts.{statement_tree, text_tree, text_trees, tree_of};
-ghost use Rattle.prl_grammar.specs.Combinators.{◌&◌, ◌⊳◌, ◌⊲◌};
-ghost use Rattle.prl_grammar.specs.Productions.{inner, many};
-ghost use Rattle.prl_grammar.specs.code.Languages.{read_at};
-ghost use Rattle.prl_grammar.specs.code.Stops.{stop_of};
-ghost use Rattle.prl_grammar.specs.code.Whole.{all_at};
+ghost use Rattle.prl_grammar.specs.Vocabulary.{◌&◌, ◌⊳◌, ◌⊲◌, inner, many, read_at, stop_of};
+ghost use Rattle.prl_grammar.specs.Vocabulary.{all_at};
 ghost use Rattle.prl_bodytext.specs.Grammar.{the, Constant, Register, StatementLine, Body, Bodies, bodies};
 ghost use Rattle.prl_bodytext.specs.code.Parses.{Parses};
 ghost use Rattle.prl_bodytext.specs.declared.words.Fixed.TheVariants as kinds;

@@ -2,11 +2,7 @@
 
 ghost use Rattle.std.specs.Prelude.{◌≡◌, ◌∷◌, [], map};
 ghost use Rattle.prl_body.specs.Texts.{tree_of};
-ghost use Rattle.prl_grammar.specs.Combinators.{◌⊳◌, ◌⊲◌};
-ghost use Rattle.prl_grammar.specs.code.Readers.{next_in};
-ghost use Rattle.prl_grammar.specs.Productions.{many, inner};
-ghost use Rattle.prl_grammar.specs.code.Shapes.{shape};
-ghost use Rattle.prl_grammar.specs.code.Languages.{inner_of};
+ghost use Rattle.prl_grammar.specs.Vocabulary.{◌⊳◌, ◌⊲◌, next_in, many, inner, shape, inner_of};
 ghost use Rattle.prl_bodytext.specs.Grammar.{the, sign, Operators, RightOf, SeriesOf, Comparison, Negation, Unary, Primary, Enclosed, Conditional, Operand, bodies};
 ghost use Rattle.prl_bodytext.specs.code.Parses.{Parses};
 ghost use Rattle.prl_bodytext.specs.declared.words.Fixed.TheVariants as kinds;

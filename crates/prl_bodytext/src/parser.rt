@@ -1,8 +1,7 @@
 //! The parser: what is left of the tokens, and what is taken of them.
 
 ghost use Rattle.std.specs.Prelude.{◌≡◌, ◌∷◌, []};
-ghost use Rattle.prl_grammar.specs.code.Readers.{next_in};
-ghost use Rattle.prl_grammar.specs.Combinators.{named, number};
+ghost use Rattle.prl_grammar.specs.Vocabulary.{next_in, named, number};
 ghost use Rattle.prl_bodytext.specs.Grammar.{the, Constant};
 ghost use Rattle.prl_bodytext.specs.code.Parses.{Parses};
 ghost use Rattle.prl_bodytext.specs.Words.{class_of};

@@ -1,11 +1,7 @@
 //! What is read one after another.
 
 ghost use Rattle.std.specs.Prelude.{◌≡◌, map};
-ghost use Rattle.prl_grammar.specs.code.Languages.{inner_of};
-ghost use Rattle.prl_grammar.specs.code.LookAhead.{IsApart};
-ghost use Rattle.prl_grammar.specs.Productions.{many};
-ghost use Rattle.prl_grammar.specs.code.Shapes.{shape};
-ghost use Rattle.prl_grammar.specs.code.Readers.{next_in};
+ghost use Rattle.prl_grammar.specs.Vocabulary.{inner_of, IsApart, many, shape, next_in};
 ghost use Rattle.prl_bodytext.specs.Grammar.{bodies};
 ghost use Rattle.prl_bodytext.specs.code.Parses.{Parses};
 

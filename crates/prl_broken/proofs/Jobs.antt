@@ -5,15 +5,11 @@ use Rattle.std.proofs.lemmas.Bool.{cases_eq, cases_lt}
 use Rattle.std.proofs.lemmas.Int.{ints}
 use Rattle.std.proofs.lemmas.Option.{slice_get-get_or}
 use Rattle.std.proofs.Math.Nat.{le-mul_of_pos_right}
+use Rattle.prl_plan.specs.Vocabulary.{HasPlanFacts, IsJob, IsHorizonJob, job_count, no_task, task_at, IsPlan, PlanView, deadline_at, release_at, HasJob, IsUnfinished, first_unfinished, ExecState}
+use Rattle.prl_plan.specs.Vocabulary.{RunConstants}
 use Rattle.prl_plan.specs.declared.graphs.TaskGraph.{TaskGraph}
-use Rattle.prl_plan.specs.Facts.{HasPlanFacts, IsJob}
 use Rattle.prl_base.specs.declared.operators.Clock.{Clock}
-use Rattle.prl_plan.specs.Jobs.{IsHorizonJob, job_count, no_task, task_at}
-use Rattle.prl_plan.specs.Plans.{IsPlan, PlanView, deadline_at, release_at}
-use Rattle.prl_plan.specs.Rules.{HasJob, IsUnfinished, first_unfinished}
-use Rattle.prl_plan.specs.Runs.{ExecState, RunConstants}
-use Rattle.prl_broken.specs.declared.dates.Next.{Next}
-use Rattle.prl_broken.specs.code.Dates.{IsEarly, IsLate, IsLastDeadline, IsLatest, IsLeast, IsLeastBelow, IsNext, IsPending, IsPendingJob, own_date}
+use Rattle.prl_broken.specs.Vocabulary.{Next, IsEarly, IsLate, IsLastDeadline, IsLatest, IsLeast, IsLeastBelow, IsNext, IsPending, IsPendingJob, own_date}
 
 -- the law that horizon jobs are counted
 abbrev pub AreCounted : Type 0

@@ -5,20 +5,11 @@ use Rattle.std.proofs.lemmas.Bool.{cases_eq, cases_lt}
 use Rattle.prl_base.specs.declared.numbers.TaskNo.{TaskNo}
 use Rattle.prl_plan.specs.declared.events.Event.TheVariants as events
 use Rattle.prl_plan.specs.declared.events.Rule.TheVariants as rules
+use Rattle.prl_plan.specs.Vocabulary.{HasPlanFacts, IsJob, IsEnd, IsHorizon, constants_of, IsHorizonJob, job_count, task_at, PlanView, deadline_at, release_at, FirstBroken, HasJob, IsDue, IsOvertaken}
+use Rattle.prl_plan.specs.Vocabulary.{IsUnfinished, first_unfinished, ExecState, RunConstants}
 use Rattle.prl_plan.specs.declared.horizons.Horizon.{Horizon}
-use Rattle.prl_plan.specs.Facts.{HasPlanFacts, IsJob}
-use Rattle.prl_plan.specs.Horizons.{IsEnd, IsHorizon, constants_of}
-use Rattle.prl_plan.specs.Jobs.{IsHorizonJob, job_count, task_at}
-use Rattle.prl_plan.specs.Plans.{PlanView, deadline_at, release_at}
-use Rattle.prl_plan.specs.Rules.{FirstBroken, HasJob, IsDue, IsOvertaken, IsUnfinished, first_unfinished}
-use Rattle.prl_plan.specs.Runs.{ExecState, RunConstants}
 use Rattle.prl_broken.specs.declared.causes.Cause.TheVariants as causes
-use Rattle.prl_broken.specs.declared.causes.DatedJob.{DatedJob}
-use Rattle.prl_broken.specs.declared.dates.Next.{Next}
-use Rattle.prl_broken.specs.declared.walks.Walk.{Walk}
-use Rattle.prl_broken.specs.Causes.{IsCause, IsDueJob, IsFirstJob}
-use Rattle.prl_broken.specs.code.Dates.{IsEarly, IsLate, IsLatest, IsLeast, IsLeastBelow, IsNext, IsPending, own_date}
-use Rattle.prl_broken.specs.code.Walks.{IsReached}
+use Rattle.prl_broken.specs.Vocabulary.{DatedJob, Next, Walk, IsCause, IsDueJob, IsFirstJob, IsEarly, IsLate, IsLatest, IsLeast, IsLeastBelow, IsNext, IsPending, own_date, IsReached}
 use Rattle.prl_broken.proofs.Jobs.{AreCounted, HavePeriods, before_is_job, early, first_is, job_is_before, rises}
 
 module _ (plan : PlanView) (h : Horizon) (is : IsHorizon plan h) (facts : HasPlanFacts (constants_of plan h)) (counted : AreCounted) (periods : HavePeriods plan)

@@ -4,23 +4,16 @@ use Rattle.std.specs.Prelude.{slice_get, slice_index}
 use Rattle.std.proofs.lemmas.Bool.{cases_lt}
 use Rattle.std.proofs.lemmas.List.{get_or_past, get_or_read}
 use Rattle.prl_base.specs.declared.numbers.TaskNo.{TaskNo}
+use Rattle.prl_plan.specs.Vocabulary.{HasPlanFacts, IsHorizon, constants_of, IsPlan, PlanView, actions_of, FirstBroken, HasJob, IsLegal, KeepsLegal, first_unfinished, ExecState, RunConstants}
+use Rattle.prl_plan.specs.Vocabulary.{action_at, after_action, after_event, after_events, moved, next_action, opening, IsSound}
 use Rattle.prl_plan.specs.declared.events.Action.{Action}
-use Rattle.prl_plan.specs.declared.events.Action.TheVariants as actions
 use Rattle.prl_plan.specs.declared.events.Event.{Event}
-use Rattle.prl_plan.specs.declared.events.Event.TheVariants as events
 use Rattle.prl_plan.specs.declared.events.Rule.{Rule}
 use Rattle.prl_plan.specs.declared.horizons.Horizon.{Horizon}
-use Rattle.prl_plan.specs.Facts.{HasPlanFacts}
-use Rattle.prl_plan.specs.Horizons.{IsHorizon, constants_of}
-use Rattle.prl_plan.specs.Plans.{IsPlan, PlanView, actions_of}
-use Rattle.prl_plan.specs.Rules.{FirstBroken, HasJob, IsLegal, KeepsLegal, first_unfinished}
-use Rattle.prl_plan.specs.Runs.{ExecState, RunConstants, action_at, after_action, after_event, after_events, moved, next_action, opening}
-use Rattle.prl_plan.specs.States.{IsSound}
+use Rattle.prl_plan.specs.declared.events.Action.TheVariants as actions
+use Rattle.prl_plan.specs.declared.events.Event.TheVariants as events
 use Rattle.prl_plan.proofs.StateLaws.{gated_event_keeps_sound, legal_event_is_gated, opening_is_sound}
-use Rattle.prl_broken.specs.declared.causes.Cause.{Cause}
-use Rattle.prl_broken.specs.declared.walks.Walk.{Walk}
-use Rattle.prl_broken.specs.Causes.{IsBrokenAt, IsCause, IsFinding, state_at}
-use Rattle.prl_broken.specs.code.Walks.{AreForbidden, IsCauseThere, IsForbidden, IsOfSize, IsReached, IsWalk, Shows, Steps, any_run, state_after}
+use Rattle.prl_broken.specs.Vocabulary.{Cause, Walk, IsBrokenAt, IsCause, IsFinding, state_at, AreForbidden, IsCauseThere, IsForbidden, IsOfSize, IsReached, IsWalk, Shows, Steps, any_run, state_after}
 
 -- what events make of a state does not depend on the horizon
 pub same_from : (plan : PlanView) (h : Horizon) (s : ExecState) (list : List Event) → after_events (constants_of plan h) s list ≡ after_events (any_run plan) s list

@@ -6,3 +6,4 @@ pub mod Lefts
 pub mod CauseTexts
 -- what private functions say to one another
 pub mod code
+pub mod Vocabulary

@@ -1,8 +1,7 @@
 //! Jobs with their dates.
 
 ghost use Rattle.std.specs.Prelude.{◌≡◌, ◌<◌, length, MatchOption};
-ghost use Rattle.prl_plan.specs.Graphs.{IsTask};
-ghost use Rattle.prl_plan.specs.Jobs.{task_at};
+ghost use Rattle.prl_plan.specs.Vocabulary.{IsTask, task_at};
 ghost use Rattle.prl_broken.specs.code.Dates.{IsLate, IsNext};
 
 use crate::causes::DatedJob;

@@ -7,18 +7,13 @@ use Rattle.std.proofs.lemmas.Int.{ints}
 use Rattle.std.proofs.lemmas.Nat.{mod_below}
 use Rattle.std.proofs.lemmas.List.Sums.{sum_by-take-le, sum_by-cons}
 use Rattle.std.proofs.lemmas.Option.{slice_get-get_or, same_Some}
+use Rattle.prl_plan.specs.Vocabulary.{used_at, EnumeratesUsed, IsLeastCount, IsUsed, IsOverBy, FitsInPeriod, span_of, encoded_release, encoded_deadline, first_instance, task_at, deadline_of}
+use Rattle.prl_plan.specs.Vocabulary.{preceding, ComesFrom, number_at}
 use Rattle.prl_plan.specs.declared.graphs.Edge.{Edge}
 use Rattle.prl_plan.specs.declared.graphs.TaskGraph.{TaskGraph}
 use Rattle.prl_plan.specs.declared.tables.Used.{Used}
 use Rattle.prl_plan.specs.declared.tables.Window.{Window}
 use Rattle.prl_plan.specs.declared.words.Word.{Word}
-use Rattle.prl_plan.specs.Cells.{used_at, EnumeratesUsed, IsLeastCount, IsUsed, IsOverBy}
-use Rattle.prl_plan.specs.CellTurns.{FitsInPeriod, span_of}
-use Rattle.prl_plan.specs.Dates.{encoded_release, encoded_deadline}
-use Rattle.prl_plan.specs.FirstReaders.{first_instance}
-use Rattle.prl_plan.specs.Jobs.{task_at, deadline_of}
-use Rattle.prl_plan.specs.Precedence.{preceding, ComesFrom}
-use Rattle.prl_plan.specs.Words.{number_at}
 use Rattle.prl_plan.proofs.CellPeriods.{inside_from, spans, enumerates, fits_in_period, fits_over_period}
 use Rattle.prl_plan.proofs.DatePeriods.{least_repeat, greatest_repeat}
 use Rattle.prl_plan.proofs.DatesRise.{releases_rise, deadlines_rise}
@@ -26,10 +21,8 @@ use Rattle.prl_plan.proofs.ReaderLaws.{preceding_rises}
 use Rattle.prl_plan.proofs.RepeatLaws.{next_gap, first_number, some_length}
 use Rattle.prl_plan.proofs.RoundPeriods.{task_is}
 use Rattle.prl_plan.proofs.UsedLaws.{some_gaps}
-use Rattle.prl_buffers.specs.code.Counts.{at_turn, AreReleased, AreOver, IsLeastTurn}
-use Rattle.prl_buffers.specs.code.Edges.{IsPlanned, jobs_of, release_in, deadline_in, AreReleases, ReleasesFit, AreEnds, EndsFit, HasLeastCount}
-use Rattle.prl_buffers.specs.code.Edges.{IsCutOf}
-use Rattle.prl_buffers.specs.code.Turns.{IsTurn}
+use Rattle.prl_buffers.specs.Vocabulary.{at_turn, AreReleased, AreOver, IsLeastTurn, IsPlanned, jobs_of, release_in, deadline_in, AreReleases, ReleasesFit, AreEnds, EndsFit, HasLeastCount, IsCutOf}
+use Rattle.prl_buffers.specs.Vocabulary.{IsTurn}
 use Rattle.prl_buffers.proofs.EdgeNumbers.{edge_is, precedes, first_is, dates_small, releases_small, numbers_small, some_period, full, lists}
 
 not_before : (a b : ℤ) → (a <ℤ b → ⊥) → b ≤ℤ a

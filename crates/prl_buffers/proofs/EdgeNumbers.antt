@@ -5,26 +5,19 @@ use Rattle.std.proofs.Math.Nat.{mul-le-mul_left, mul-le-mul_right}
 use Rattle.std.proofs.lemmas.Bool.{cases_lt}
 use Rattle.std.proofs.lemmas.Int.{ints}
 use Rattle.std.proofs.lemmas.List.{take_all}
+use Rattle.prl_plan.specs.Vocabulary.{IsAskedFrom, ListsGaps, span_of, first_reader, natural, first_instance, IsEdge, task_at, walk, preceding, ComesFrom, number_at}
 use Rattle.prl_plan.specs.declared.graphs.Edge.{Edge}
 use Rattle.prl_plan.specs.declared.graphs.TaskGraph.{TaskGraph}
 use Rattle.prl_plan.specs.declared.tables.Window.{Window}
-use Rattle.prl_plan.specs.declared.walks.Operand.TheVariants as operands
 use Rattle.prl_plan.specs.declared.words.Word.{Word}
-use Rattle.prl_plan.specs.CellTurns.{IsAskedFrom, ListsGaps, span_of}
-use Rattle.prl_plan.specs.FirstReaders.{first_reader, natural, first_instance}
-use Rattle.prl_plan.specs.Graphs.{IsEdge}
-use Rattle.prl_plan.specs.Jobs.{task_at}
-use Rattle.prl_plan.specs.Operands.{walk}
-use Rattle.prl_plan.specs.Precedence.{preceding, ComesFrom}
-use Rattle.prl_plan.specs.Words.{number_at}
+use Rattle.prl_plan.specs.declared.walks.Operand.TheVariants as operands
 use Rattle.prl_plan.proofs.CellPeriods.{inside_from, spans}
 use Rattle.prl_plan.proofs.DatePeriods.{jobs_are}
 use Rattle.prl_plan.proofs.ReaderLaws.{reads_is, used_is, preceding_rises, is_first_reader}
 use Rattle.prl_plan.proofs.RoundPeriods.{task_is, edge_precedes}
 use Rattle.prl_plan.proofs.WalkLaws.{edge_back, walk_preceding}
 use Rattle.prl_plan.proofs.WordNumbers.{after_prefix, first_after_prefix, one_first}
-use Rattle.prl_buffers.specs.code.Edges.{IsPlanned, jobs_of}
-use Rattle.prl_buffers.specs.code.Turns.{IsSteady, IsTurn}
+use Rattle.prl_buffers.specs.Vocabulary.{IsPlanned, jobs_of, IsSteady, IsTurn}
 
 positive : (c p : ℕ) → 1 ≤ c * p → 1 ≤ c
 positive zero p some = absurd (let e : 0 * p ≡ 0 = omega arith in omega (arith, some, e))

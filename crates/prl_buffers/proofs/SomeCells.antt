@@ -6,29 +6,20 @@ use Rattle.std.proofs.lemmas.Bool.{cases_eq, cases_lt}
 use Rattle.std.proofs.lemmas.Nat.{mod_below}
 use Rattle.std.proofs.lemmas.Option.{slice_get-get_or}
 use Rattle.prl_base.specs.declared.limits.What.TheVariants as whats
+use Rattle.prl_plan.specs.Vocabulary.{HasCells, AreLeastCells, ListsSums, encoded_release, encoded_deadline, AreShortGaps, edge_at, no_edge, ComesFrom, number_at}
 use Rattle.prl_plan.specs.declared.graphs.Edge.{Edge}
 use Rattle.prl_plan.specs.declared.graphs.Producer.{Producer}
-use Rattle.prl_plan.specs.declared.graphs.Producer.TheVariants as producers
 use Rattle.prl_plan.specs.declared.graphs.TaskGraph.{TaskGraph}
 use Rattle.prl_plan.specs.declared.limits.TheConstants.{MAX_CELLS}
 use Rattle.prl_plan.specs.declared.tables.Used.{Used}
 use Rattle.prl_plan.specs.declared.tables.Window.{Window}
 use Rattle.prl_plan.specs.declared.words.Word.{Word}
-use Rattle.prl_plan.specs.Cells.{HasCells, AreLeastCells}
-use Rattle.prl_plan.specs.CellLists.{ListsSums}
-use Rattle.prl_plan.specs.Dates.{encoded_release, encoded_deadline}
-use Rattle.prl_plan.specs.Plans.{AreShortGaps, edge_at, no_edge}
-use Rattle.prl_plan.specs.Precedence.{ComesFrom}
-use Rattle.prl_plan.specs.Words.{number_at}
+use Rattle.prl_plan.specs.declared.graphs.Producer.TheVariants as producers
 use Rattle.prl_plan.proofs.Searches.{all_or_least, listed, listed_long, listed_number, places_tell}
 use Rattle.prl_plan.proofs.ShortestRepeats.{some_repeat}
-use Rattle.prl_buffers.specs.declared.tables.CellFault.{CellFault}
+use Rattle.prl_buffers.specs.Vocabulary.{CellFault, IsCellFault, at_turn, AreReleased, AreOver, IsLeastTurn, IsPlanned, jobs_of, release_in, deadline_in, AreReleases, AreEnds, IsCutOf, HasTaskCells}
+use Rattle.prl_buffers.specs.Vocabulary.{base_of, HasEdgeCells, IsDated, AreListed, bases_from, IsTurn}
 use Rattle.prl_buffers.specs.declared.tables.CellFault.TheVariants as faults
-use Rattle.prl_buffers.specs.CellFaults.{IsCellFault}
-use Rattle.prl_buffers.specs.code.Counts.{at_turn, AreReleased, AreOver, IsLeastTurn}
-use Rattle.prl_buffers.specs.code.Edges.{IsPlanned, jobs_of, release_in, deadline_in, AreReleases, AreEnds, IsCutOf, HasTaskCells, base_of, HasEdgeCells}
-use Rattle.prl_buffers.specs.code.Tables.{IsDated, AreListed, bases_from}
-use Rattle.prl_buffers.specs.code.Turns.{IsTurn}
 use Rattle.prl_buffers.proofs.Cuts.{cut_is}
 use Rattle.prl_buffers.proofs.EdgeCells.{some_gap, released, ends_small, least_is, enumerates_cut, least_cut}
 use Rattle.prl_buffers.proofs.EdgeNumbers.{numbers_rise}

@@ -5,18 +5,13 @@ use Rattle.std.proofs.lemmas.Bool.{cases_lt}
 use Rattle.std.proofs.lemmas.List.{length_push, get_or_push, get_or_append_left}
 use Rattle.std.proofs.lemmas.List.Sums.{sum_by-cons}
 use Rattle.std.proofs.lemmas.Option.{slice_get-get_or, same_Some}
+use Rattle.prl_plan.specs.Vocabulary.{AreLeastCells, HasCells, no_used, ListsSums, encoded_release, encoded_deadline, AreShortGaps, edge_at, no_edge, constants_in}
 use Rattle.prl_plan.specs.declared.graphs.Edge.{Edge}
 use Rattle.prl_plan.specs.declared.graphs.TaskGraph.{TaskGraph}
 use Rattle.prl_plan.specs.declared.tables.Used.{Used}
 use Rattle.prl_plan.specs.declared.tables.Window.{Window}
 use Rattle.prl_plan.specs.declared.words.Word.{Word}
-use Rattle.prl_plan.specs.Cells.{AreLeastCells, HasCells, no_used}
-use Rattle.prl_plan.specs.CellLists.{ListsSums}
-use Rattle.prl_plan.specs.Dates.{encoded_release, encoded_deadline}
-use Rattle.prl_plan.specs.Plans.{AreShortGaps, edge_at, no_edge}
-use Rattle.prl_plan.specs.Words.{constants_in}
-use Rattle.prl_buffers.specs.code.Edges.{IsPlanned, base_of, HasEdgeCells}
-use Rattle.prl_buffers.specs.code.Tables.{IsDated, AreListed, bases_from}
+use Rattle.prl_buffers.specs.Vocabulary.{IsPlanned, base_of, HasEdgeCells, IsDated, AreListed, bases_from}
 
 -- an element at a place of a list
 pub item_at : {A : Type 0} (list items : List A) (k : ℕ) (x : A) → items ≡ list → k < length items → x ≡ get_or items k x → slice_get list k ≡ Some x

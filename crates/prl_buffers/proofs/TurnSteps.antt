@@ -4,8 +4,8 @@ use Rattle.std.specs.Prelude.{slice_index}
 use Rattle.std.proofs.lemmas.Bool.{cases_lt}
 use Rattle.std.proofs.lemmas.List.{take_all, take-append-le, length_push, get_or_push, get_or_append_left}
 use Rattle.std.proofs.lemmas.List.Sums.{sum_by-cons}
-use Rattle.prl_plan.specs.declared.words.Word.{Word}
 use Rattle.prl_plan.specs.Words.{number_at}
+use Rattle.prl_plan.specs.declared.words.Word.{Word}
 use Rattle.prl_buffers.specs.code.Turns.{IsTurn}
 
 pub sum_push : (xs : List ℕ) (g : ℕ) → sum (xs ++ g ∷ []) ≡ sum xs + g

@@ -1,2 +1,3 @@
 pub mod CellFaults
 pub mod code
+pub mod Vocabulary

@@ -1,10 +1,8 @@
 //! The cells of one edge.
 
 ghost use Rattle.std.specs.Prelude.{◌≡◌, ◌<◌, ◌≤◌, ◌^◌, ℕ, List, length, IfOk};
+ghost use Rattle.prl_plan.specs.Vocabulary.{task_at, ComesFrom, number_at};
 ghost use Rattle.prl_plan.specs.declared.tables.Window.{Window};
-ghost use Rattle.prl_plan.specs.Jobs.{task_at};
-ghost use Rattle.prl_plan.specs.Precedence.{ComesFrom};
-ghost use Rattle.prl_plan.specs.Words.{number_at};
 ghost use Rattle.prl_buffers.specs.code.Edges.{IsPlanned, jobs_of, ReleasesFit, AreReleases, EndsFit, AreEnds, IsCutOf, HasLeastCount, HasTaskCells, HasEdgeCells};
 ghost use Rattle.prl_buffers.specs.code.Turns.{IsTurn};
 

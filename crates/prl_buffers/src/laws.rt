@@ -1,16 +1,13 @@
 //! Laws of cells, as functions that do nothing: the contract of each is the law, over the definitions alone.
 
 ghost use Rattle.std.specs.Prelude.{◌≢◌, ◌≤◌, ◌⊎◌, ℕ, List, sum};
+ghost use Rattle.prl_plan.specs.Vocabulary.{AreLeastCells, AreEncodedDates, IsWellFormed};
+ghost use Rattle.prl_plan.specs.Vocabulary.{AreShortGaps, AreWords};
 ghost use Rattle.prl_plan.specs.declared.graphs.TaskGraph.{TaskGraph as AnyGraph};
 ghost use Rattle.prl_plan.specs.declared.limits.TheConstants.{MAX_CELLS};
 ghost use Rattle.prl_plan.specs.declared.tables.Used.{Used as AnyUsed};
 ghost use Rattle.prl_plan.specs.declared.tables.Window.{Window};
 ghost use Rattle.prl_plan.specs.declared.words.Word.{Word as AnyWord};
-ghost use Rattle.prl_plan.specs.Cells.{AreLeastCells};
-ghost use Rattle.prl_plan.specs.Dates.{AreEncodedDates};
-ghost use Rattle.prl_plan.specs.Graphs.{IsWellFormed};
-ghost use Rattle.prl_plan.specs.Plans.{AreShortGaps};
-ghost use Rattle.prl_plan.specs.Words.{AreWords};
 ghost use Rattle.prl_buffers.specs.declared.tables.CellFault.{CellFault as AnyFault};
 ghost use Rattle.prl_buffers.specs.declared.tables.CellFault.TheVariants as faults;
 ghost use Rattle.prl_buffers.specs.CellFaults.{IsCellFault};

@@ -1,13 +1,9 @@
 //! The cells of all edges of a task graph.
 
 ghost use Rattle.std.specs.Prelude.{◌≡◌, ◌+◌, ◌≤◌, ◌<◌, ℕ, length, sum, IfOk, MatchResult};
+ghost use Rattle.prl_plan.specs.Vocabulary.{AreLeastCells, CellLists, AreEncodedDates};
+ghost use Rattle.prl_plan.specs.Vocabulary.{IsWellFormed, AreShortGaps, AreWords};
 ghost use Rattle.prl_plan.specs.declared.limits.TheConstants.{MAX_CELLS};
-ghost use Rattle.prl_plan.specs.Cells.{AreLeastCells};
-ghost use Rattle.prl_plan.specs.CellLists.{CellLists};
-ghost use Rattle.prl_plan.specs.Dates.{AreEncodedDates};
-ghost use Rattle.prl_plan.specs.Graphs.{IsWellFormed};
-ghost use Rattle.prl_plan.specs.Plans.{AreShortGaps};
-ghost use Rattle.prl_plan.specs.Words.{AreWords};
 ghost use Rattle.prl_buffers.specs.CellFaults.{IsCellFault};
 ghost use Rattle.prl_buffers.specs.code.Tables.{IsDated, AreListed, bases_from};
 

@@ -1,8 +1,7 @@
 //! The instances that the jobs of one hyperperiod read.
 
 ghost use Rattle.std.specs.Prelude.{◌≡◌, ◌+◌, ◌<◌, ◌^◌, ◌↔◌, ℕ, length, sum, IfOk};
-ghost use Rattle.prl_plan.specs.Words.{number_at};
-ghost use Rattle.prl_plan.specs.CellLists.{ListsSums};
+ghost use Rattle.prl_plan.specs.Vocabulary.{number_at, ListsSums};
 ghost use Rattle.prl_buffers.specs.code.Turns.{IsSteady, IsTurn};
 
 use prl_base::Seq;

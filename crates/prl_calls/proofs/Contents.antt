@@ -3,15 +3,14 @@ use Rattle.std.proofs.Common.{◌≡◌, ◌++◌, ℕ, List, [], ◌∷◌, tak
 use Rattle.std.specs.Prelude.{is_some}
 use Rattle.prl_arguments.specs.declared.arguments.Command.{Command}
 use Rattle.prl_io.specs.Views.{FolderView}
-use Rattle.prl_stages.specs.declared.faults.InputFile.{InputFile}
-use Rattle.prl_stages.specs.declared.faults.InputFile.TheVariants as parts
+use Rattle.prl_stages.specs.Vocabulary.{Folder, Given, IsContent, IsGiven, file_of, content_of, read_as, Comes, Refuses, files}
 use Rattle.prl_stages.specs.declared.faults.Fault.{Fault}
+use Rattle.prl_stages.specs.declared.faults.InputFile.{InputFile}
 use Rattle.prl_stages.specs.declared.stages.Stage.{Stage}
-use Rattle.prl_stages.specs.declared.stages.Stage.TheVariants as stages
 use Rattle.prl_stages.specs.declared.stages.Stop.{Stop}
+use Rattle.prl_stages.specs.declared.faults.InputFile.TheVariants as parts
+use Rattle.prl_stages.specs.declared.stages.Stage.TheVariants as stages
 use Rattle.prl_stages.specs.declared.stages.Stop.TheVariants as stops
-use Rattle.prl_stages.specs.Given.{Folder, Given, IsContent, IsGiven, file_of, content_of, read_as}
-use Rattle.prl_stages.specs.Stages.{Comes, Refuses, files}
 use Rattle.prl_calls.specs.Stops.{IsReached, IsFileStop, IsStopOfFiles}
 
 -- what a file may give

@@ -4,12 +4,9 @@ use Rattle.prl_base.specs.declared.values.Ty.{Ty}
 use Rattle.prl_ast.specs.Trees.{ProgramTree}
 use Rattle.prl_expand.specs.Expanding.{IsExpanded}
 use Rattle.prl_flow.specs.Programs.{FlatProgram}
-use Rattle.prl_names.specs.Checks.{names_of}
-use Rattle.prl_names.specs.Named.{IsNamed}
+use Rattle.prl_names.specs.Vocabulary.{names_of, IsNamed}
 use Rattle.prl_types.specs.Typing.{IsTyped}
-use Rattle.prl_stages.specs.Given.{Given}
-use Rattle.prl_stages.specs.Parts.{IsProgram, IsMain}
-use Rattle.prl_stages.specs.Flattened.{IsFlattened}
+use Rattle.prl_stages.specs.Vocabulary.{Given, IsProgram, IsMain, IsFlattened}
 
 abbrev pub NamesLaw : Type 0
 NamesLaw = (p : ProgramTree) (main : Option (List ℕ)) (node : ℕ) → names_of p main ≡ Ok node → IsNamed p node

@@ -3,13 +3,10 @@ use Rattle.std.proofs.Common.{List, [], ◌∷◌}
 use Rattle.std.specs.Prelude.{All}
 use Rattle.std.proofs.lemmas.List.Elements.{All-nil, All-cons}
 use Rattle.prl_track.specs.Machine.{IsOfPlan}
+use Rattle.prl_plan.specs.Vocabulary.{Placement, constants_on, PlanView, IsLegal, KeepsLegal, ExecState, after_event}
 use Rattle.prl_plan.specs.declared.events.Event.{Event}
-use Rattle.prl_plan.specs.declared.events.Event.TheVariants as events
 use Rattle.prl_plan.specs.declared.horizons.Horizon.{Horizon}
-use Rattle.prl_plan.specs.Horizons.{Placement, constants_on}
-use Rattle.prl_plan.specs.Plans.{PlanView}
-use Rattle.prl_plan.specs.Rules.{IsLegal, KeepsLegal}
-use Rattle.prl_plan.specs.Runs.{ExecState, after_event}
+use Rattle.prl_plan.specs.declared.events.Event.TheVariants as events
 
 module _ (plan : PlanView) (placement : Placement) (horizon : Horizon) where
   one_of_plan : (s : ExecState) (event : Event) → KeepsLegal (constants_on plan placement horizon) s event → IsOfPlan plan event

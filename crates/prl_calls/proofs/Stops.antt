@@ -4,20 +4,16 @@ use Rattle.std.specs.Prelude.{IfOk, IfErr}
 use Rattle.prl_ast.specs.Trees.{ProgramTree}
 use Rattle.prl_body.specs.declared.faults.BodyFault.{BodyFault}
 use Rattle.prl_body.specs.declared.faults.BodyFault.TheVariants as body_faults
+use Rattle.prl_stages.specs.Vocabulary.{Given, text_of, IsMain, RefusesBodies, IsNoPlan, Comes, front, graphed, planned, stop_of, told_body}
+use Rattle.prl_stages.specs.declared.faults.Fault.{Fault}
 use Rattle.prl_stages.specs.declared.faults.InputFile.{InputFile}
+use Rattle.prl_stages.specs.declared.stages.Stage.{Stage}
+use Rattle.prl_stages.specs.declared.stages.Stop.{Stop}
 use Rattle.prl_stages.specs.declared.faults.InputFile.TheVariants as parts
 use Rattle.prl_stages.specs.declared.faults.BodiesRefusal.TheVariants as bad_bodies
-use Rattle.prl_stages.specs.declared.faults.Fault.{Fault}
-use Rattle.prl_stages.specs.declared.stages.Stage.{Stage}
 use Rattle.prl_stages.specs.declared.stages.Stage.TheVariants as stages
-use Rattle.prl_stages.specs.declared.stages.Stop.{Stop}
 use Rattle.prl_stages.specs.declared.stages.Stop.TheVariants as stops
-use Rattle.prl_stages.specs.Given.{Given, text_of}
-use Rattle.prl_stages.specs.Parts.{IsMain, RefusesBodies}
-use Rattle.prl_stages.specs.PlansAlone.{IsNoPlan}
-use Rattle.prl_stages.specs.Stages.{Comes, front, graphed, planned}
 use Rattle.prl_calls.specs.Stops.{StopsAt, StopsIn, AllHold}
-use Rattle.prl_stages.specs.Told.{stop_of, told_body}
 
 -- bodies refuse
 pub bodies_stop : (g : Given) (p : ProgramTree) (main : ℕ) (fault : BodyFault) (stop : Stop) → IsMain g p main

@@ -5,9 +5,7 @@ ghost use Rattle.prl_ast.specs.Trees.{program_tree};
 ghost use Rattle.prl_expand.specs.Expanding.{IsExpanded};
 ghost use Rattle.prl_flow.specs.Uses.{IsOrder};
 ghost use Rattle.prl_types.specs.Typing.{IsTyped};
-ghost use Rattle.prl_stages.specs.Flattened.{IsFlattened, IsCausal, HasClocks};
-ghost use Rattle.prl_stages.specs.Parts.{IsProgram};
-ghost use Rattle.prl_stages.specs.Stages.{Holds};
+ghost use Rattle.prl_stages.specs.Vocabulary.{IsFlattened, IsCausal, HasClocks, IsProgram, Holds};
 ghost use Rattle.prl_calls.specs.Stops.{given_of, StopsAt};
 
 use crate::reading::Request;

@@ -7,10 +7,9 @@ ghost use Rattle.prl_expand.specs.Expanding.{IsExpanded};
 ghost use Rattle.prl_flow.specs.Uses.{IsOrder};
 ghost use Rattle.prl_graph.specs.TaskGraphs.{IsGraphOf};
 ghost use Rattle.prl_types.specs.Typing.{IsTyped};
-ghost use Rattle.prl_stages.specs.Flattened.{HasClocks, IsFlattened};
-ghost use Rattle.prl_stages.specs.Parts.{IsMain, IsProgram};
-ghost use Rattle.prl_stages.specs.Planned.{HasPlan, HasWords};
-ghost use Rattle.prl_stages.specs.Stages.{front, graphed, named_bodies, planned, stages_after};
+ghost use Rattle.prl_stages.specs.Vocabulary.{HasClocks, IsFlattened, IsMain, IsProgram, HasPlan};
+ghost use Rattle.prl_stages.specs.Vocabulary.{HasWords, front, graphed, named_bodies, planned};
+ghost use Rattle.prl_stages.specs.Vocabulary.{stages_after};
 ghost use Rattle.prl_calls.specs.Stops.{given_of, AllHold, StopsIn};
 
 use crate::flattened::{clocked, flattened, ordered};

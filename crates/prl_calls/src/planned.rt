@@ -5,10 +5,8 @@ ghost use Rattle.std.specs.Prelude.{◌≡◌, ◌<◌, Some, IfOk, IfErr, IfSom
 ghost use Rattle.prl_dates.specs.Faults.{IsDateFault};
 ghost use Rattle.prl_graph.specs.TaskGraphs.{IsGraphOf};
 ghost use Rattle.prl_plan.specs.Jobs.{task_at};
-ghost use Rattle.prl_stages.specs.Flattened.{HasClocks};
-ghost use Rattle.prl_stages.specs.Planned.{HasGraph, HasWords, HasDates, HasPlan, dates_refusal};
-ghost use Rattle.prl_stages.specs.Scheduled.{HasHorizon};
-ghost use Rattle.prl_stages.specs.Stages.{Holds};
+ghost use Rattle.prl_stages.specs.Vocabulary.{HasClocks, HasGraph, HasWords, HasDates, HasPlan};
+ghost use Rattle.prl_stages.specs.Vocabulary.{dates_refusal, HasHorizon, Holds};
 ghost use Rattle.prl_calls.specs.Stops.{given_of, StopsAt};
 
 use crate::reading::Request;

@@ -1,8 +1,7 @@
 //! The plan of a program alone, which the programs beside `prelude` ask for.
 
 ghost use Rattle.std.specs.Prelude.{◌≤◌, IfOk, IfErr, length};
-ghost use Rattle.prl_stages.specs.Planned.{HasPlan};
-ghost use Rattle.prl_stages.specs.PlansAlone.{IsNoPlan, program_alone};
+ghost use Rattle.prl_stages.specs.Vocabulary.{HasPlan, IsNoPlan, program_alone};
 ghost use Rattle.prl_calls.specs.Stops.{given_of};
 
 use crate::fronts::planned_program;

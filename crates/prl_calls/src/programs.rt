@@ -3,13 +3,10 @@
 ghost use Rattle.std.specs.Prelude.{◌≡◌, ◌<◌, ◌≤◌, ◌^◌, IfOk, IfErr, length, map};
 ghost use Rattle.prl_base.specs.Reading.{GivesBut};
 ghost use Rattle.prl_ast.specs.Trees.{program_tree};
-ghost use Rattle.prl_body.specs.Checks.{body_tree, checked};
-ghost use Rattle.prl_body.specs.Texts.{text_trees};
-ghost use Rattle.prl_body.specs.Used.{HaveBodiesOf};
+ghost use Rattle.prl_body.specs.Vocabulary.{body_tree, checked, text_trees, HaveBodiesOf};
 ghost use Rattle.prl_names.specs.Uses.{used_imports};
 ghost use Rattle.prl_types.specs.Typing.{IsTyped};
-ghost use Rattle.prl_stages.specs.Parts.{IsProgram, IsMain, AreBodies};
-ghost use Rattle.prl_stages.specs.Stages.{Holds};
+ghost use Rattle.prl_stages.specs.Vocabulary.{IsProgram, IsMain, AreBodies, Holds};
 ghost use Rattle.prl_calls.specs.Stops.{given_of, StopsAt};
 
 use crate::reading::Request;

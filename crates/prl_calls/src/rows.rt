@@ -4,10 +4,8 @@ ghost use Rattle.std.specs.Prelude.{◌≡◌, ◌<◌, ◌≤◌, IfOk, IfErr, 
 ghost use Rattle.prl_base.specs.Reading.{GivesBut};
 ghost use Rattle.prl_flow.specs.Solutions.{AreClocks};
 ghost use Rattle.prl_sensors.specs.SensorRows.{sensors_of};
-ghost use Rattle.prl_stages.specs.Flattened.{HasClocks};
-ghost use Rattle.prl_stages.specs.Runs.{inputs_of, needs_of, type_of_flow, HasRows};
-ghost use Rattle.prl_stages.specs.Stages.{Holds};
-ghost use Rattle.prl_stages.specs.Told.{stop_of, told_sensors};
+ghost use Rattle.prl_stages.specs.Vocabulary.{HasClocks, inputs_of, needs_of, type_of_flow};
+ghost use Rattle.prl_stages.specs.Vocabulary.{HasRows, Holds, stop_of, told_sensors};
 ghost use Rattle.prl_calls.specs.Stops.{given_of, StopsAt};
 
 use crate::reading::Request;

@@ -4,9 +4,8 @@ use Rattle.std.proofs.lemmas.Bool.{cases_lt}
 use Rattle.std.proofs.lemmas.List.{length-map}
 use Rattle.std.proofs.lemmas.Option.{slice_get_within}
 use Rattle.prl_base.specs.declared.numbers.FlowNo.{FlowNo}
+use Rattle.prl_flow.specs.Vocabulary.{FlatProgram, IsFlat, HasNoCycle, IsCyclic, IsCycleLabel, IsOnCycle, IsOrder, named, unnamed, is_made}
 use Rattle.prl_flow.specs.declared.programs.Flow.{Flow}
-use Rattle.prl_flow.specs.Programs.{FlatProgram, IsFlat}
-use Rattle.prl_flow.specs.Uses.{HasNoCycle, IsCyclic, IsCycleLabel, IsOnCycle, IsOrder, named, unnamed, is_made}
 use Rattle.prl_causal.specs.code.Sources.{all_inside, all_undelayed, inside_of, undelayed_of}
 use Rattle.prl_causal.proofs.Meanings.{cyclic_flow, inside_sources, no_cycle, on_inside, on_none, on_undelayed, order_is, undelayed_sources}
 use Rattle.prl_causal.proofs.Reached.{leads_or_not}

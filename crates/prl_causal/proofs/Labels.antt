@@ -1,8 +1,7 @@
 -- The labels that tell of cycles.
 use Rattle.std.proofs.Common.{◌≡◌, ℕ, true, List, slice_get, Some, sym, ◌∙◌, ap, subst}
+use Rattle.prl_flow.specs.Vocabulary.{FlatProgram, IsCyclic, IsCycleLabel, named, unnamed, is_made}
 use Rattle.prl_flow.specs.declared.programs.Flow.{Flow}
-use Rattle.prl_flow.specs.Programs.{FlatProgram}
-use Rattle.prl_flow.specs.Uses.{IsCyclic, IsCycleLabel, named, unnamed, is_made}
 use Rattle.prl_causal.specs.Cycles.{IsFirst, IsFirstNamed, IsLabelOf}
 
 same_label : (p : FlatProgram) (i : ℕ) (label : List ℕ) (flow : Flow) → slice_get p.flows i ≡ Some flow → IsLabelOf p i label → label ≡ flow.label

@@ -4,18 +4,15 @@ use Rattle.std.proofs.lemmas.Bool.{false≢true}
 use Rattle.std.proofs.lemmas.List.{length-map}
 use Rattle.std.proofs.lemmas.Option.{slice_get_within, slice_get-map}
 use Rattle.std.specs.Option.{option_map}
-use Rattle.prl_base.specs.declared.numbers.FlowNo.{FlowNo}
 use Rattle.prl_base.specs.Operators.{delays}
-use Rattle.prl_flow.specs.declared.programs.Def.{Def}
-use Rattle.prl_flow.specs.declared.programs.Def.TheVariants as definitions
-use Rattle.prl_flow.specs.declared.programs.Flow.{Flow}
-use Rattle.prl_flow.specs.Programs.{FlatProgram, IsFlat, IsWellDefined}
-use Rattle.prl_flow.specs.Uses.{UsesNow, UsesInside, NamesNow, NamesInside, IsOnCycle, HasNoCycle, IsOrder, Leads, once, then}
+use Rattle.prl_base.specs.declared.numbers.FlowNo.{FlowNo}
 use Rattle.prl_base.specs.declared.values.Ty.{Ty}
-use Rattle.prl_causal.specs.declared.sources.Source.{Source}
+use Rattle.prl_flow.specs.Vocabulary.{FlatProgram, IsFlat, IsWellDefined, UsesNow, UsesInside, NamesNow, NamesInside, IsOnCycle, HasNoCycle, IsOrder, Leads, once, then}
+use Rattle.prl_flow.specs.declared.programs.Def.{Def}
+use Rattle.prl_flow.specs.declared.programs.Flow.{Flow}
+use Rattle.prl_flow.specs.declared.programs.Def.TheVariants as definitions
+use Rattle.prl_causal.specs.Vocabulary.{Source, IsWhole, undelayed_of, inside_of, all_undelayed, all_inside, Names, UsesBy, IsSource, AreSources}
 use Rattle.prl_causal.specs.declared.sources.Source.TheVariants as sources
-use Rattle.prl_causal.specs.code.Parts.{IsWhole}
-use Rattle.prl_causal.specs.code.Sources.{undelayed_of, inside_of, all_undelayed, all_inside, Names, UsesBy, IsSource, AreSources}
 use Rattle.prl_causal.proofs.Placing.{no_way_back}
 use Rattle.prl_causal.proofs.Ways.{along}
 

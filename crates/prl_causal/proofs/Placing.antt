@@ -5,11 +5,8 @@ use Rattle.std.proofs.lemmas.List.{length_push}
 use Rattle.std.proofs.lemmas.Option.{slice_get_within, get_or_from_slice_get}
 use Rattle.prl_base.specs.declared.numbers.FlowNo.{FlowNo}
 use Rattle.prl_flow.proofs.Lists.{slice_get_push}
-use Rattle.prl_flow.specs.Uses.{Leads, once, then}
-use Rattle.prl_flow.specs.Programs.{FlatProgram}
-use Rattle.prl_causal.specs.declared.sources.Source.{Source}
-use Rattle.prl_causal.specs.code.Sources.{UsesBy, Names}
-use Rattle.prl_causal.specs.code.Parts.{IsMarked, IsPart, IsWhole, marked_count}
+use Rattle.prl_flow.specs.Vocabulary.{Leads, once, then, FlatProgram}
+use Rattle.prl_causal.specs.Vocabulary.{Source, UsesBy, Names, IsMarked, IsPart, IsWhole, marked_count}
 use Rattle.prl_causal.proofs.Lists.{push_cases, push_keeps, mark_set, mark_kept, mark_cases, mark_counted, count_below, counted_true}
 
 pub one_more : (U : ℕ → ℕ → Type 0) (order : List FlowNo) (placed : List Bool) (i : ℕ) → IsPart U order placed → i < length placed → get_or placed i false ≡ false

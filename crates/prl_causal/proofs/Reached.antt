@@ -5,16 +5,12 @@ use Rattle.std.proofs.lemmas.List.{length-replicate}
 use Rattle.std.proofs.Math.Seq.{take-length}
 use Rattle.std.proofs.lemmas.List.Sums.{count_by-le-length}
 use Rattle.std.proofs.lemmas.Option.{get_or_from_slice_get}
+use Rattle.prl_flow.specs.Vocabulary.{FlatProgram, Leads}
 use Rattle.prl_flow.specs.declared.programs.App.{App}
 use Rattle.prl_flow.specs.declared.programs.Arg.{Arg}
-use Rattle.prl_flow.specs.Programs.{FlatProgram}
-use Rattle.prl_flow.specs.Uses.{Leads}
 use Rattle.prl_flow.proofs.Lists.{element_at}
-use Rattle.prl_causal.specs.declared.sources.Source.{Source}
+use Rattle.prl_causal.specs.Vocabulary.{Source, marked_count, Adds, IsList, IsUnderWay, AreArguments, AreSources, AreWithin, IsAmong, IsSource, Names, UsesBy}
 use Rattle.prl_causal.specs.declared.sources.Source.TheVariants as sources
-use Rattle.prl_causal.specs.code.Parts.{marked_count}
-use Rattle.prl_causal.specs.code.Searches.{Adds, IsList, IsUnderWay}
-use Rattle.prl_causal.specs.code.Sources.{AreArguments, AreSources, AreWithin, IsAmong, IsSource, Names, UsesBy}
 use Rattle.prl_causal.proofs.Runs.{no_marks, none_counted}
 use Rattle.prl_causal.proofs.Searching.{adds_arguments, adds_marked, adds_next, adds_no_arguments, adds_none, adds_one, reached_within, search_begun, search_ended, search_goes_on, source_there, use_of_names}
 use Rattle.prl_causal.proofs.Unplaced.{marked_or_not}

@@ -5,12 +5,8 @@ use Rattle.std.proofs.lemmas.List.{length_push, length-replicate}
 use Rattle.std.proofs.lemmas.List.Folds.{sum_by-replicate}
 use Rattle.prl_base.specs.declared.numbers.FlowNo.{FlowNo}
 use Rattle.prl_flow.specs.Programs.{FlatProgram}
-use Rattle.prl_causal.specs.declared.sources.Source.{Source}
+use Rattle.prl_causal.specs.Vocabulary.{Source, IsMarked, IsWhole, marked_count, IsSorted, left, AreSources, Names, UsesBy, HasWayBack}
 use Rattle.prl_causal.specs.declared.sources.Source.TheVariants as sources
-use Rattle.prl_causal.specs.code.Parts.{IsMarked, IsWhole, marked_count}
-use Rattle.prl_causal.specs.code.Sorting.{IsSorted, left}
-use Rattle.prl_causal.specs.code.Sources.{AreSources, Names, UsesBy}
-use Rattle.prl_causal.specs.code.Ways.{HasWayBack}
 use Rattle.prl_causal.proofs.Lists.{mark_set, mark_kept, mark_counted, count_below}
 use Rattle.prl_causal.proofs.Searching.{source_there}
 use Rattle.prl_causal.proofs.Sorting.{on_top, used_below, taken_off, placed_top, opened_used, way_back, begun, ended, fewer_to_open, fewer_to_place}

@@ -3,14 +3,10 @@ use Rattle.std.proofs.Common.{◌≡◌, ◌<◌, ◌≤◌, ◌+◌, ◌⊎◌,
 use Rattle.std.proofs.lemmas.Bool.{cases_lt}
 use Rattle.std.proofs.lemmas.List.{length_push, take_more}
 use Rattle.std.proofs.lemmas.Option.{slice_get_within, slice_get-get_or}
+use Rattle.prl_flow.specs.Vocabulary.{IsArgument, Leads, once, then, FlatProgram}
 use Rattle.prl_flow.specs.declared.programs.Arg.{Arg}
-use Rattle.prl_flow.specs.Uses.{IsArgument, Leads, once, then}
 use Rattle.prl_flow.proofs.Lists.{slice_get_push, element_at}
-use Rattle.prl_flow.specs.Programs.{FlatProgram}
-use Rattle.prl_causal.specs.declared.sources.Source.{Source}
-use Rattle.prl_causal.specs.code.Parts.{IsMarked}
-use Rattle.prl_causal.specs.code.Searches.{Adds, AreOpened, IsList, IsUnderWay}
-use Rattle.prl_causal.specs.code.Sources.{AreArguments, AreSources, IsAmong, IsSource, UsesBy, Names}
+use Rattle.prl_causal.specs.Vocabulary.{Source, IsMarked, Adds, AreOpened, IsList, IsUnderWay, AreArguments, AreSources, IsAmong, IsSource, UsesBy, Names}
 use Rattle.prl_causal.proofs.Lists.{push_cases, push_keeps, mark_set, mark_kept, mark_cases, mark_counted, marked_within}
 use Rattle.prl_causal.proofs.Placing.{names_of_use}
 use Rattle.prl_causal.proofs.Ways.{onward}

@@ -5,13 +5,8 @@ use Rattle.std.proofs.lemmas.List.{length_push}
 use Rattle.std.proofs.lemmas.Option.{slice_get_within}
 use Rattle.prl_base.specs.declared.numbers.FlowNo.{FlowNo}
 use Rattle.prl_flow.proofs.Lists.{slice_get_push, element_at}
-use Rattle.prl_flow.specs.Programs.{FlatProgram}
-use Rattle.prl_flow.specs.Uses.{Leads, once, then}
-use Rattle.prl_causal.specs.declared.sources.Source.{Source}
-use Rattle.prl_causal.specs.code.Parts.{AreSeen, IsMarked, IsWhole, marked_count}
-use Rattle.prl_causal.specs.code.Sorting.{IsSorted}
-use Rattle.prl_causal.specs.code.Sources.{AreSources, Names, UsesBy}
-use Rattle.prl_causal.specs.code.Ways.{HasWayBack}
+use Rattle.prl_flow.specs.Vocabulary.{FlatProgram, Leads, once, then}
+use Rattle.prl_causal.specs.Vocabulary.{Source, AreSeen, IsMarked, IsWhole, marked_count, IsSorted, AreSources, Names, UsesBy, HasWayBack}
 use Rattle.prl_causal.proofs.Arriving.{seen_more}
 use Rattle.prl_causal.proofs.Lists.{push_cases, push_keeps, equal_or_not, mark_kept, mark_cases}
 use Rattle.prl_causal.proofs.Placing.{one_more, some_clear, whole_part, names_of_use}

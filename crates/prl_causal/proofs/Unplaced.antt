@@ -1,13 +1,11 @@
 -- Of what a flow uses, all has its mark, or something has not.
 use Rattle.std.proofs.Common.{◌≡◌, ◌⊎◌, ℕ, zero, suc, Bool, true, false, List, [], ◌∷◌, get_or, slice_get, Some, refl, subst, inl, inr, ⊎_elim}
+use Rattle.prl_flow.specs.Programs.{FlatProgram}
 use Rattle.prl_flow.specs.declared.programs.App.{App}
 use Rattle.prl_flow.specs.declared.programs.Arg.{Arg}
-use Rattle.prl_flow.specs.Programs.{FlatProgram}
 use Rattle.prl_flow.proofs.Lists.{element_at}
-use Rattle.prl_causal.specs.declared.sources.Source.{Source}
+use Rattle.prl_causal.specs.Vocabulary.{Source, IsMarked, IsSource, Names}
 use Rattle.prl_causal.specs.declared.sources.Source.TheVariants as sources
-use Rattle.prl_causal.specs.code.Parts.{IsMarked}
-use Rattle.prl_causal.specs.code.Sources.{IsSource, Names}
 
 pub marked_or_not : (marks : List Bool) (i : ℕ) → IsMarked marks i ⊎ (get_or marks i false ≡ false)
 marked_or_not marks i =

@@ -2,8 +2,7 @@
 
 ghost use Rattle.std.specs.Prelude.{◌≡◌, ◌⊎◌, ℕ, List};
 ghost use Rattle.prl_base.specs.declared.numbers.FlowNo.{FlowNo};
-ghost use Rattle.prl_flow.specs.Programs.{FlatProgram, IsFlat};
-ghost use Rattle.prl_flow.specs.Uses.{HasNoCycle, IsCycleLabel, IsOrder};
+ghost use Rattle.prl_flow.specs.Vocabulary.{FlatProgram, IsFlat, HasNoCycle, IsCycleLabel, IsOrder};
 
 /// Each flat program has no forbidden cycle, or one label tells of one, and not both.
 pub fn causality_ends_one_way()

@@ -1,7 +1,6 @@
 -- Facts of links and places from their parts.
 use Rattle.std.proofs.Common.{◌≡◌, ◌≤◌, ℕ}
-use Rattle.prl_flow.specs.Programs.{FlatProgram}
-use Rattle.prl_flow.specs.Uses.{IsArgument}
+use Rattle.prl_flow.specs.Vocabulary.{FlatProgram, IsArgument}
 use Rattle.prl_clashes.specs.ClockWays.{HasArgumentAt, IsToldAt, StandsAt, argument, itself}
 use Rattle.prl_clashes.specs.Links.{IsApplied, IsFirstOutput, output}
 use Rattle.prl_clashes.specs.Links.{argument as an_argument}

@@ -4,10 +4,10 @@ use Rattle.std.proofs.lemmas.Bool.Decides.{Decides-and, Decides-eqb, Decides-int
 use Rattle.prl_base.specs.Ratios.{Fraction}
 use Rattle.prl_ast.specs.declared.declarations.Rate.{Rate}
 use Rattle.prl_clock.specs.declared.timings.Timing.{Timing}
-use Rattle.prl_flow.specs.declared.programs.App.{App}
-use Rattle.prl_flow.specs.declared.programs.Def.TheVariants as definitions
-use Rattle.prl_flow.specs.declared.programs.Flow.{Flow}
 use Rattle.prl_flow.specs.Programs.{FlatProgram}
+use Rattle.prl_flow.specs.declared.programs.App.{App}
+use Rattle.prl_flow.specs.declared.programs.Flow.{Flow}
+use Rattle.prl_flow.specs.declared.programs.Def.TheVariants as definitions
 use Rattle.prl_clashes.specs.declared.clashes.Clash.{Clash}
 use Rattle.prl_clashes.specs.declared.ways.Hop.{Hop}
 use Rattle.prl_clashes.specs.ClockWays.{GivesAlong, HasArgumentAt, IsAlongFrom, IsClash, IsStep, IsToldAt, IsWay}

@@ -1,11 +1,7 @@
 -- Assignments in which some flows are changed together: all of a component, which stays as it is but for a factor and an offset.
 use Rattle.std.proofs.Common.{◌≡◌, ◌≤◌, ◌+◌, ◌*◌, inl, inr, ℕ, ℤ, pos, ◌*ℤ◌, ◌+ℤ◌, ◌-ℤ◌, Bool, true, false, cond, List, [], ◌∷◌, refl, ap, ◌∙◌, subst, arith}
 use borrow.Author.Differences.{up, down, product_is, ints}
-use Rattle.prl_clock.specs.declared.timings.Timing.{Timing}
-use Rattle.prl_clock.specs.Assignments.{Assignment, tick, Meets, MeetsAll, IsJoin, Joins}
-use Rattle.prl_clock.specs.Constraints.{Constraint, rated, related, Placed}
-use Rattle.prl_clock.specs.Timings.{Point, IsOver}
-use Rattle.prl_clock.specs.code.Standings.{IsRated, HasRate, IsLink}
+use Rattle.prl_clock.specs.Vocabulary.{Timing, Assignment, tick, Meets, MeetsAll, IsJoin, Joins, Constraint, rated, related, Placed, Point, IsOver, IsRated, HasRate, IsLink}
 use Rattle.prl_clock.proofs.Algebra.{times, positive, ratio_in, ratio_out}
 
 abbrev pub scaled : ℕ → ℤ → Point → Point

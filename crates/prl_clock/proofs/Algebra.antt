@@ -4,9 +4,7 @@ use borrow.Author.Differences.{up, down, same_in, product_is, sum_is_lem, ints}
 use Rattle.std.proofs.Math.Nat.{eq_of_mul-eq-mul_right, mul-pos, mul_comm}
 use Rattle.std.proofs.Math.IntN.{*ℤ_comm}
 use Rattle.prl_base.specs.Ratios.{Fraction}
-use Rattle.prl_clock.specs.declared.timings.Timing.{Timing}
-use Rattle.prl_clock.specs.Timings.{Point, IsRatio, IsOver}
-use Rattle.prl_clock.specs.code.Composition.{HasParts, IsProduct, IsSum, IsComposed}
+use Rattle.prl_clock.specs.Vocabulary.{Timing, Point, IsRatio, IsOver, HasParts, IsProduct, IsSum, IsComposed}
 
 pub cancel_nat : (k a b : ℕ) → 1 ≤ k → a * k ≡ b * k → a ≡ b
 cancel_nat k a b some e = eq_of_mul-eq-mul_right k (omega arith) a b e

@@ -6,32 +6,24 @@ use Rattle.std.proofs.lemmas.Bool.{cases_lt}
 use Rattle.std.proofs.lemmas.List.FromFn.{get_or-map-range_with_len, length-map-range_with_len}
 use Rattle.std.proofs.lemmas.Option.{slice_get-get_or, slice_get_within}
 use borrow.Author.Differences.{ints}
-use Rattle.prl_base.specs.Operators.{IsOperatorFor}
-use Rattle.prl_base.specs.Ratios.{Fraction}
+use Rattle.prl_base.specs.Vocabulary.{IsOperatorFor, Fraction}
 use Rattle.prl_base.specs.declared.operators.Clock.{Clock}
 use Rattle.prl_base.specs.declared.operators.Op.{Op}
-use Rattle.prl_base.specs.declared.operators.Op.TheVariants as operators
 use Rattle.prl_base.specs.declared.values.Ty.{Ty}
+use Rattle.prl_base.specs.declared.operators.Op.TheVariants as operators
 use Rattle.prl_ast.specs.InRange.{IfThere, IsRate}
 use Rattle.prl_ast.specs.declared.declarations.Rate.{Rate}
+use Rattle.prl_flow.specs.Vocabulary.{FlatProgram, IsFlat, IsWellDefined, IsApplication, clock_of}
 use Rattle.prl_flow.specs.declared.programs.App.{App}
 use Rattle.prl_flow.specs.declared.programs.Arg.{Arg}
 use Rattle.prl_flow.specs.declared.programs.Def.{Def}
-use Rattle.prl_flow.specs.declared.programs.Def.TheVariants as definitions
 use Rattle.prl_flow.specs.declared.programs.Flow.{Flow}
-use Rattle.prl_flow.specs.Programs.{FlatProgram, IsFlat, IsWellDefined, IsApplication}
-use Rattle.prl_flow.specs.Solutions.{clock_of}
-use Rattle.prl_clock.specs.declared.calculus.ClockFault.{ClockFault}
+use Rattle.prl_flow.specs.declared.programs.Def.TheVariants as definitions
+use Rattle.prl_clock.specs.Vocabulary.{ClockFault, Standing, Refusal, Timing, Placed, same_clock, timing_of_operator, timing_of_rate, rate_constraints, argument_constraint, first_output}
+use Rattle.prl_clock.specs.Vocabulary.{output_constraints, definition_constraints, flow_constraints, constraints_below, constraints_of, IsOutcome, IsWhole, IsWholeClock, IsReached, IsStopped, told}
+use Rattle.prl_clock.specs.Vocabulary.{IsLink, HasClock, alone, standing_at}
 use Rattle.prl_clock.specs.declared.calculus.ClockFault.TheVariants as faults
-use Rattle.prl_clock.specs.declared.standings.Standing.{Standing}
-use Rattle.prl_clock.specs.declared.steps.Refusal.{Refusal}
 use Rattle.prl_clock.specs.declared.steps.Refusal.TheVariants as refusals
-use Rattle.prl_clock.specs.declared.timings.Timing.{Timing}
-use Rattle.prl_clock.specs.Constraints.{Placed, same_clock, timing_of_operator, timing_of_rate, rate_constraints, argument_constraint, first_output, output_constraints, definition_constraints, flow_constraints, constraints_below, constraints_of}
-use Rattle.prl_clock.specs.Outcomes.{IsOutcome, IsWhole}
-use Rattle.prl_clock.specs.code.Finishing.{IsWholeClock}
-use Rattle.prl_clock.specs.code.Progress.{IsReached, IsStopped, told}
-use Rattle.prl_clock.specs.code.Standings.{IsLink, HasClock, alone, standing_at}
 use Rattle.prl_clock.proofs.Fine.{fine_none}
 use Rattle.prl_clock.proofs.Finishing.{stopped_mismatch, stopped_limit, free_is, not_whole_is, whole_are, clock_pushed}
 use Rattle.prl_clock.proofs.Merging.{beyond, decide}

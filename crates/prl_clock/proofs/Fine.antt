@@ -5,16 +5,8 @@ use Rattle.std.proofs.lemmas.Bool.{cases_lt, ne_eqb}
 use Rattle.std.proofs.lemmas.List.{take-append-le, append-nil, take_all}
 use Rattle.prl_base.specs.Ratios.{Fraction}
 use Rattle.prl_flow.specs.Programs.{FlatProgram}
-use Rattle.prl_clock.specs.declared.calculus.ClockFault.{ClockFault}
-use Rattle.prl_clock.specs.declared.timings.Timing.{Timing}
-use Rattle.prl_clock.specs.declared.standings.Standing.{Standing}
-use Rattle.prl_clock.specs.declared.steps.Refusal.{Refusal}
-use Rattle.prl_clock.specs.Assignments.{Assignment, tick, MeetsAll, IsLowest, Passes, period_over, start_over, period, start}
-use Rattle.prl_clock.specs.Constraints.{Placed}
-use Rattle.prl_clock.specs.Outcomes.{IsFine}
-use Rattle.prl_clock.specs.Timings.{Point, IsRatio, IsOver, IsPeriodOver, IsStartOver}
-use Rattle.prl_clock.specs.code.Progress.{IsReached, IsStopped, told}
-use Rattle.prl_clock.specs.code.Standings.{IsSolved, IsRefused, HasClock, standing_at, root_at}
+use Rattle.prl_clock.specs.Vocabulary.{ClockFault, Timing, Standing, Refusal, Assignment, tick, MeetsAll, IsLowest, Passes, period_over, start_over, period, start, Placed, IsFine, Point, IsRatio}
+use Rattle.prl_clock.specs.Vocabulary.{IsOver, IsPeriodOver, IsStartOver, IsReached, IsStopped, told, IsSolved, IsRefused, HasClock, standing_at, root_at}
 use Rattle.prl_clock.proofs.Adjusting.{adjusted, adjusted_meets, scaled}
 use Rattle.prl_clock.proofs.Algebra.{positive, ratio_out, times}
 use Rattle.prl_clock.proofs.Graphs.{lowest_root}

@@ -7,21 +7,12 @@ use borrow.Author.Differences.{up, down, same_in, product_is, ints}
 use Rattle.prl_base.specs.Ratios.{Fraction}
 use Rattle.prl_base.specs.declared.limits.Limit.{Limit}
 use Rattle.prl_base.specs.declared.operators.Clock.{Clock}
-use Rattle.prl_flow.specs.Programs.{FlatProgram, IsFlat}
-use Rattle.prl_flow.specs.Solutions.{clock_of}
-use Rattle.prl_clock.specs.declared.calculus.ClockFault.{ClockFault}
+use Rattle.prl_flow.specs.Vocabulary.{FlatProgram, IsFlat, clock_of}
+use Rattle.prl_clock.specs.Vocabulary.{ClockFault, Standing, Refusal, Timing, Assignment, MeetsAll, IsConsistent, Passes, Placed, constraints_of, IsFine, IsMismatch, IsPastLimit, IsDetermined}
+use Rattle.prl_clock.specs.Vocabulary.{HasChoice, IsFree, HasTiming, IsWhole, IsNotWhole, GivesClock, AreOnlyClocks, IsClockFault, clock_limit, Point, IsRatio, IsFirstFree, IsLabelOf, IsWholeClock}
+use Rattle.prl_clock.specs.Vocabulary.{IsReached, IsStopped, IsStop, told, IsSolved, IsRefused, HasClock, standing_at}
 use Rattle.prl_clock.specs.declared.calculus.ClockFault.TheVariants as faults
-use Rattle.prl_clock.specs.declared.standings.Standing.{Standing}
-use Rattle.prl_clock.specs.declared.steps.Refusal.{Refusal}
 use Rattle.prl_clock.specs.declared.steps.Refusal.TheVariants as refusals
-use Rattle.prl_clock.specs.declared.timings.Timing.{Timing}
-use Rattle.prl_clock.specs.Assignments.{Assignment, MeetsAll, IsConsistent, Passes}
-use Rattle.prl_clock.specs.Constraints.{Placed, constraints_of}
-use Rattle.prl_clock.specs.Outcomes.{IsFine, IsMismatch, IsPastLimit, IsDetermined, HasChoice, IsFree, HasTiming, IsWhole, IsNotWhole, GivesClock, AreOnlyClocks, IsClockFault, clock_limit}
-use Rattle.prl_clock.specs.Timings.{Point, IsRatio}
-use Rattle.prl_clock.specs.code.Finishing.{IsFirstFree, IsLabelOf, IsWholeClock}
-use Rattle.prl_clock.specs.code.Progress.{IsReached, IsStopped, IsStop, told}
-use Rattle.prl_clock.specs.code.Standings.{IsSolved, IsRefused, HasClock, standing_at}
 use Rattle.prl_clock.proofs.Algebra.{cancel_nat, times, positive, ratio_out}
 use Rattle.prl_clock.proofs.Fine.{one, one_meets, changed, changed_meets, changed_flow}
 use Rattle.prl_clock.proofs.Reading.{are_clocks}

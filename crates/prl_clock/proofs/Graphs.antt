@@ -1,8 +1,6 @@
 -- Constraints one more, which flows they connect, and the lowest of these.
 use Rattle.std.proofs.Common.{◌≡◌, ◌≤◌, ◌++◌, ◌⊎◌, inl, inr, ℕ, List, [], ◌∷◌, refl, sym, ◌∙◌, arith}
-use Rattle.prl_clock.specs.Assignments.{Assignment, MeetsAll, Joins, Connected, here, on, IsLowest}
-use Rattle.prl_clock.specs.Constraints.{Placed}
-use Rattle.prl_clock.specs.code.Standings.{HasRate}
+use Rattle.prl_clock.specs.Vocabulary.{Assignment, MeetsAll, Joins, Connected, here, on, IsLowest, Placed, HasRate}
 
 pub meets_before : (s : Assignment) (cs : List Placed) (ds : List Placed) → MeetsAll s (cs ++ ds) → MeetsAll s cs
 meets_before s [] ds m = tt

@@ -1,13 +1,8 @@
 -- What the call that joins two components needs and gives.
 use Rattle.std.proofs.Common.{◌≡◌, ◌≢◌, ◌≤◌, ◌<◌, ℕ, pos, List, length, Option, Some, None, sym, ap, ◌∙◌, subst, arith}
 use borrow.Author.Differences.{up}
-use Rattle.prl_clock.specs.declared.timings.Timing.{Timing}
-use Rattle.prl_clock.specs.declared.standings.Standing.{Standing}
-use Rattle.prl_clock.specs.Assignments.{Assignment, tick, MeetsAll, Passes, period, start}
-use Rattle.prl_clock.specs.Constraints.{Placed}
-use Rattle.prl_clock.specs.Timings.{Point, IsOver}
-use Rattle.prl_clock.specs.code.Composition.{HasParts, IsComposed, IsSmallTiming}
-use Rattle.prl_clock.specs.code.Standings.{IsSolved, IsMerging, IsMoved, AreMoved, AreTimed, IsOnePast, LowClock, IsLowClock, of_low, of_high, IsLowClockPast, of_low_past, of_high_past, standing_at, root_at}
+use Rattle.prl_clock.specs.Vocabulary.{Timing, Standing, Assignment, tick, MeetsAll, Passes, period, start, Placed, Point, IsOver, HasParts, IsComposed, IsSmallTiming, IsSolved, IsMerging, IsMoved}
+use Rattle.prl_clock.specs.Vocabulary.{AreMoved, AreTimed, IsOnePast, LowClock, IsLowClock, of_low, of_high, IsLowClockPast, of_low_past, of_high_past, standing_at, root_at}
 use Rattle.prl_clock.proofs.Algebra.{composed_right, numerator}
 use Rattle.prl_clock.proofs.Joining.{moved_are, moved_open, moved_solved, second_over, low_small, high_small, first_over}
 use Rattle.prl_clock.proofs.Merging.{moved_everywhere, timed_everywhere, timed_solved}

@@ -1,12 +1,7 @@
 -- Two components become one: all flows of the higher go over the lower.
 use Rattle.std.proofs.Common.{◌≡◌, ◌≢◌, ◌≤◌, ◌⊎◌, inl, inr, ℕ, List, Option, Some, None, refl, sym, ap, ◌∙◌, subst, arith}
-use Rattle.prl_clock.specs.declared.timings.Timing.{Timing}
-use Rattle.prl_clock.specs.declared.standings.Standing.{Standing}
-use Rattle.prl_clock.specs.Assignments.{Assignment, MeetsAll, Joins, Connected, IsLowest, Passes, period_over, start_over}
-use Rattle.prl_clock.specs.Constraints.{Placed}
-use Rattle.prl_clock.specs.Timings.{IsOver}
-use Rattle.prl_clock.specs.code.Composition.{IsComposed, IsOverPast, IsSmallTiming}
-use Rattle.prl_clock.specs.code.Standings.{AreStandings, IsSolved, IsOpen, IsJoint, IsMerging, IsMoved, HasClock, standing_at, root_at, IsOnePast}
+use Rattle.prl_clock.specs.Vocabulary.{Timing, Standing, Assignment, MeetsAll, Joins, Connected, IsLowest, Passes, period_over, start_over, Placed, IsOver, IsComposed, IsOverPast, IsSmallTiming}
+use Rattle.prl_clock.specs.Vocabulary.{AreStandings, IsSolved, IsOpen, IsJoint, IsMerging, IsMoved, HasClock, standing_at, root_at, IsOnePast}
 use Rattle.prl_clock.proofs.Algebra.{composed_of, composed_right}
 use Rattle.prl_clock.proofs.Graphs.{connected_through, connected_back, same_root}
 use Rattle.prl_clock.proofs.Merging.{decide}

@@ -1,9 +1,6 @@
 -- Standings changed one by one.
 use Rattle.std.proofs.Common.{◌≡◌, ◌≢◌, ◌<◌, ◌≤◌, ◌+◌, ℕ, zero, suc, List, [], ◌∷◌, length, get_or, set, refl, sym, ◌∙◌, ap, subst, arith, get_or-set_other, get_or-set_same, below_more}
-use Rattle.prl_clock.specs.code.Composition.{IsComposedPast}
-use Rattle.prl_clock.specs.code.Standings.{IsOnePast, standing_at, alone}
-use Rattle.prl_clock.specs.declared.standings.Standing.{Standing}
-use Rattle.prl_clock.specs.declared.timings.Timing.{Timing}
+use Rattle.prl_clock.specs.Vocabulary.{IsComposedPast, IsOnePast, standing_at, alone, Standing, Timing}
 
 pub same_within : (st : List Standing) (i : ℕ) (d e : Standing) → i < length st → get_or st i d ≡ get_or st i e
 same_within [] i d e h = absurd (omega arith)

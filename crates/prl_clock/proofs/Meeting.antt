@@ -1,18 +1,15 @@
 -- Whole clocks that meet constraints, and the clocks of a flat program's solutions.
 use Rattle.std.proofs.Common.{◌≡◌, ◌≤◌, ◌+◌, ◌*◌, ℕ, ℤ, pos, negsuc, nat_abs, ◌-ℤ◌, ◌≤ℤ◌, refl, ap, arith}
 use borrow.Author.Differences.{up, down, product_is, ints}
-use Rattle.prl_base.specs.Operators.{IsOperatorFor, IsResultClock}
-use Rattle.prl_base.specs.Ratios.{Fraction}
+use Rattle.prl_base.specs.Vocabulary.{IsOperatorFor, IsResultClock, Fraction}
 use Rattle.prl_base.specs.declared.operators.Clock.{Clock}
 use Rattle.prl_base.specs.declared.operators.Op.{Op}
-use Rattle.prl_base.specs.declared.operators.Op.TheVariants as operators
 use Rattle.prl_base.specs.declared.values.Ty.{Ty}
-use Rattle.prl_ast.specs.declared.declarations.Rate.{Rate}
+use Rattle.prl_base.specs.declared.operators.Op.TheVariants as operators
 use Rattle.prl_ast.specs.InRange.{IsRate}
+use Rattle.prl_ast.specs.declared.declarations.Rate.{Rate}
 use Rattle.prl_flow.specs.Flows.{IsClockOf}
-use Rattle.prl_clock.specs.declared.timings.Timing.{Timing}
-use Rattle.prl_clock.specs.Constraints.{same_clock, timing_of_operator, timing_of_rate}
-use Rattle.prl_clock.specs.Timings.{Point, IsRatio, IsOver}
+use Rattle.prl_clock.specs.Vocabulary.{Timing, same_clock, timing_of_operator, timing_of_rate, Point, IsRatio, IsOver}
 use Rattle.prl_clock.proofs.Algebra.{cancel_nat, times, ratio_in, ratio_out}
 
 -- a clock in parts of a tick

@@ -2,13 +2,8 @@
 use Rattle.std.proofs.Common.{◌≡◌, ◌≢◌, ◌≤◌, ◌<◌, ◌⊎◌, inl, inr, ℕ, List, length, Option, Some, None, refl, sym, ap, ◌∙◌, subst, arith}
 use Rattle.std.proofs.Math.ListN.{get_or-eq_default}
 use Rattle.std.proofs.lemmas.Bool.{cases_lt}
-use Rattle.prl_clock.specs.declared.timings.Timing.{Timing}
-use Rattle.prl_clock.specs.declared.standings.Standing.{Standing}
-use Rattle.prl_clock.specs.Assignments.{Assignment, tick, MeetsAll, Connected}
-use Rattle.prl_clock.specs.Constraints.{Placed}
-use Rattle.prl_clock.specs.Timings.{IsOver}
-use Rattle.prl_clock.specs.code.Composition.{IsSmallTiming}
-use Rattle.prl_clock.specs.code.Standings.{IsSolved, IsOpen, IsMoved, IsTimed, AreMoved, AreTimed, HasClock, standing_at, root_at, alone}
+use Rattle.prl_clock.specs.Vocabulary.{Timing, Standing, Assignment, tick, MeetsAll, Connected, Placed, IsOver, IsSmallTiming, IsSolved, IsOpen, IsMoved, IsTimed, AreMoved, AreTimed, HasClock}
+use Rattle.prl_clock.specs.Vocabulary.{standing_at, root_at, alone}
 use Rattle.prl_clock.proofs.Algebra.{composed_of}
 use Rattle.prl_clock.proofs.Terms.{small_parts}
 

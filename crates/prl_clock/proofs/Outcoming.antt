@@ -6,16 +6,9 @@ use Rattle.std.proofs.lemmas.List.{append-nil}
 use borrow.Author.Differences.{up}
 use Rattle.prl_base.specs.Ratios.{IsSmallFraction}
 use Rattle.prl_flow.specs.Programs.{FlatProgram}
-use Rattle.prl_clock.specs.declared.calculus.ClockFault.{ClockFault}
-use Rattle.prl_clock.specs.declared.standings.Standing.{Standing}
-use Rattle.prl_clock.specs.declared.steps.Refusal.{Refusal}
+use Rattle.prl_clock.specs.Vocabulary.{ClockFault, Standing, Refusal, Timing, Assignment, MeetsAll, IsConsistent, Passes, Constraint, rated, related, Placed, HasParts, IsComposed, IsSmallTiming}
+use Rattle.prl_clock.specs.Vocabulary.{IsReached, IsStopped, told, IsSolved, IsMerging, IsLink, IsMoved, IsRefused, IsLowClock, of_low, of_high, of_low_past, of_high_past, standing_at, root_at}
 use Rattle.prl_clock.specs.declared.steps.Refusal.TheVariants as refusals
-use Rattle.prl_clock.specs.declared.timings.Timing.{Timing}
-use Rattle.prl_clock.specs.Assignments.{Assignment, MeetsAll, IsConsistent, Passes}
-use Rattle.prl_clock.specs.Constraints.{Constraint, rated, related, Placed}
-use Rattle.prl_clock.specs.code.Composition.{HasParts, IsComposed, IsSmallTiming}
-use Rattle.prl_clock.specs.code.Progress.{IsReached, IsStopped, told}
-use Rattle.prl_clock.specs.code.Standings.{IsSolved, IsMerging, IsLink, IsMoved, IsRefused, IsLowClock, of_low, of_high, of_low_past, of_high_past, standing_at, root_at}
 use Rattle.prl_clock.proofs.Algebra.{numerator}
 use Rattle.prl_clock.proofs.Fine.{reached_more, stopped_one, stopped_later, stopped_within, one, one_meets}
 use Rattle.prl_clock.proofs.Joining.{shift_passes, one_passes, high_small, low_small, first_over, second_over}

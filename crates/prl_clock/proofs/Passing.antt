@@ -1,14 +1,8 @@
 -- A timing past the limit, as a number past the limit of what the constraints leave.
 use Rattle.std.proofs.Common.{◌≤◌, ℕ, List}
-use Rattle.prl_base.specs.Ratios.{Fraction}
-use Rattle.prl_base.specs.Reductions.{IsPast}
-use Rattle.prl_clock.specs.declared.timings.Timing.{Timing}
-use Rattle.prl_clock.specs.declared.standings.Standing.{Standing}
-use Rattle.prl_clock.specs.Assignments.{Assignment, tick, MeetsAll, IsLowest, Passes, period_over, start_over, period, start}
-use Rattle.prl_clock.specs.Constraints.{Placed}
-use Rattle.prl_clock.specs.Timings.{Point, IsOver, IsPeriodOver, IsStartOver}
-use Rattle.prl_clock.specs.code.Composition.{HasParts, IsComposedPast, composed_period, composed_start, IsOverPast, over_period, over_start}
-use Rattle.prl_clock.specs.code.Standings.{AreStandings, standing_at, root_at}
+use Rattle.prl_base.specs.Vocabulary.{Fraction, IsPast}
+use Rattle.prl_clock.specs.Vocabulary.{Timing, Standing, Assignment, tick, MeetsAll, IsLowest, Passes, period_over, start_over, period, start, Placed, Point, IsOver, IsPeriodOver, IsStartOver}
+use Rattle.prl_clock.specs.Vocabulary.{HasParts, IsComposedPast, composed_period, composed_start, IsOverPast, over_period, over_start, AreStandings, standing_at, root_at}
 use Rattle.prl_clock.proofs.Algebra.{period_composed, start_composed}
 use Rattle.prl_clock.proofs.Algebra.{period_over as period_divided, start_over as start_divided}
 use Rattle.prl_clock.proofs.Terms.{past_form, small_parts}

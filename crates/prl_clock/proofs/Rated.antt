@@ -3,15 +3,10 @@ use Rattle.std.proofs.Common.{◌≡◌, ◌≢◌, ◌≤◌, ◌<◌, ◌++◌
 use Rattle.std.proofs.Math.Nat.{one-dvd}
 use Rattle.prl_base.specs.Ratios.{IsSmallFraction}
 use Rattle.prl_base.specs.declared.ratios.TheConstants.{MAX_PART}
-use Rattle.prl_ast.specs.declared.declarations.Rate.{Rate}
 use Rattle.prl_ast.specs.InRange.{IsRate}
-use Rattle.prl_clock.specs.declared.timings.Timing.{Timing}
-use Rattle.prl_clock.specs.declared.standings.Standing.{Standing}
-use Rattle.prl_clock.specs.Assignments.{IsConsistent, Passes}
-use Rattle.prl_clock.specs.Constraints.{Placed, rated, timing_of_rate, over_one}
-use Rattle.prl_clock.specs.code.Composition.{IsComposed, IsOverPast, IsSmallTiming}
-use Rattle.prl_clock.specs.code.Rates.{IsReducedTiming, IsTimingPast}
-use Rattle.prl_clock.specs.code.Standings.{IsSolved, AreTimed, IsLink, IsOnePast, standing_at}
+use Rattle.prl_ast.specs.declared.declarations.Rate.{Rate}
+use Rattle.prl_clock.specs.Vocabulary.{Timing, Standing, IsConsistent, Passes, Placed, rated, timing_of_rate, over_one, IsComposed, IsOverPast, IsSmallTiming, IsReducedTiming, IsTimingPast, IsSolved}
+use Rattle.prl_clock.specs.Vocabulary.{AreTimed, IsLink, IsOnePast, standing_at}
 use Rattle.prl_clock.proofs.Rating.{known_solved, known_refused, new_consistent, new_past, over_nonzero, root_past, new_one_past, new_solved}
 use Rattle.prl_clock.proofs.Terms.{only, past_form, past_small}
 

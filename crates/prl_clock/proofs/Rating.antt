@@ -3,14 +3,8 @@ use Rattle.std.proofs.Common.{cond, ◌≡◌, ◌≢◌, ◌≤◌, ◌<◌, �
 use Rattle.std.proofs.lemmas.Bool.{ne_eqb}
 use borrow.Author.Differences.{up, down}
 use Rattle.prl_base.specs.Ratios.{Fraction, IsSmallFraction}
-use Rattle.prl_clock.specs.declared.timings.Timing.{Timing}
-use Rattle.prl_clock.specs.declared.standings.Standing.{Standing}
-use Rattle.prl_clock.specs.Assignments.{Assignment, tick, MeetsAll, IsConsistent, Joins, Passes, period, start}
-use Rattle.prl_clock.specs.Constraints.{Placed, rated}
-use Rattle.prl_clock.specs.Timings.{Point, IsRatio, IsOver}
-use Rattle.prl_clock.specs.code.Composition.{HasParts, IsComposed, IsOverPast, IsSmallTiming}
-use Rattle.prl_clock.specs.code.Rates.{IsReducedTiming, IsTimingPast}
-use Rattle.prl_clock.specs.code.Standings.{AreStandings, IsSolved, IsOpen, AreTimed, IsLink, IsOnePast, HasRate, HasClock, standing_at, root_at}
+use Rattle.prl_clock.specs.Vocabulary.{Timing, Standing, Assignment, tick, MeetsAll, IsConsistent, Joins, Passes, period, start, Placed, rated, Point, IsRatio, IsOver, HasParts, IsComposed}
+use Rattle.prl_clock.specs.Vocabulary.{IsOverPast, IsSmallTiming, IsReducedTiming, IsTimingPast, AreStandings, IsSolved, IsOpen, AreTimed, IsLink, IsOnePast, HasRate, HasClock, standing_at, root_at}
 use Rattle.prl_clock.proofs.Adjusting.{adjusted, adjusted_meets, bridge, scaled, tick_scaled}
 use Rattle.prl_clock.proofs.Algebra.{Ratio, cancel_nat, times, ratio_in, ratio_out, composed_right}
 use Rattle.prl_clock.proofs.Graphs.{meets_before, meets_after, meets_both, joins_either, rates_either}

@@ -9,18 +9,14 @@ use Rattle.prl_base.specs.declared.operators.Clock.{Clock}
 use Rattle.prl_base.specs.declared.values.Ty.{Ty}
 use Rattle.prl_ast.specs.InRange.{IfThere, IsRate}
 use Rattle.prl_ast.specs.declared.declarations.Rate.{Rate}
+use Rattle.prl_flow.specs.Vocabulary.{FlatProgram, IsFlat, IsWellDefined, IsApplication, AreClocks, AgreesClock, HasOneClock, HasRate, clock_of}
 use Rattle.prl_flow.specs.declared.programs.App.{App}
 use Rattle.prl_flow.specs.declared.programs.Arg.{Arg}
 use Rattle.prl_flow.specs.declared.programs.Def.{Def}
-use Rattle.prl_flow.specs.declared.programs.Def.TheVariants as definitions
 use Rattle.prl_flow.specs.declared.programs.Flow.{Flow}
-use Rattle.prl_flow.specs.Programs.{FlatProgram, IsFlat, IsWellDefined, IsApplication}
-use Rattle.prl_flow.specs.Solutions.{AreClocks, AgreesClock, HasOneClock, HasRate, clock_of}
-use Rattle.prl_clock.specs.declared.timings.Timing.{Timing}
-use Rattle.prl_clock.specs.Assignments.{Assignment, tick, MeetsAll}
-use Rattle.prl_clock.specs.Constraints.{same_clock, timing_of_operator, timing_of_rate, rate_constraints, argument_constraint, first_output, output_constraints, definition_constraints, flow_constraints, constraints_below, constraints_of}
-use Rattle.prl_clock.specs.Outcomes.{GivesClock}
-use Rattle.prl_clock.specs.Timings.{Point, IsOver}
+use Rattle.prl_flow.specs.declared.programs.Def.TheVariants as definitions
+use Rattle.prl_clock.specs.Vocabulary.{Timing, Assignment, tick, MeetsAll, same_clock, timing_of_operator, timing_of_rate, rate_constraints, argument_constraint, first_output, output_constraints}
+use Rattle.prl_clock.specs.Vocabulary.{definition_constraints, flow_constraints, constraints_below, constraints_of, GivesClock, Point, IsOver}
 use Rattle.prl_clock.proofs.Graphs.{meets_before, meets_after, meets_both}
 use Rattle.prl_clock.proofs.Meeting.{point, plain, ticks, descaled, same_clocks, result_clock, clock_of_rate}
 

@@ -3,9 +3,8 @@ use Rattle.std.proofs.Common.{◌≡◌, ◌⊎◌, inl, inr, ◌+◌, ◌-◌, 
 use Rattle.std.specs.Int.{IsGcd}
 use borrow.Author.Differences.{up, down, same_in, product_is, sum_is_lem, ints}
 use Rattle.std.proofs.Math.Nat.{mul-pos}
-use Rattle.prl_base.specs.Ratios.{Fraction, IsSmallFraction}
+use Rattle.prl_base.specs.Vocabulary.{Fraction, IsSmallFraction, IsReducedForm, IsPast, signed}
 use Rattle.prl_base.specs.declared.ratios.TheConstants.{MAX_PART}
-use Rattle.prl_base.specs.Reductions.{IsReducedForm, IsPast, signed}
 use Rattle.prl_base.proofs.Lowest.{lowest_form}
 use Rattle.prl_base.proofs.Signs.{nat_abs_signed}
 

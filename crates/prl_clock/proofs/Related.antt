@@ -1,12 +1,8 @@
 -- The constraint that a flow is so over another, by the two standings that were read.
 use Rattle.std.proofs.Common.{◌≡◌, ◌≢◌, ◌<◌, ◌++◌, ◌∷◌, [], List, ℕ, Option, Some, None, length, refl, sym, ap, subst, arith, ◌∙◌}
 use Rattle.prl_ast.specs.InRange.{IfThere}
-use Rattle.prl_clock.specs.declared.standings.Standing.{Standing}
-use Rattle.prl_clock.specs.declared.timings.Timing.{Timing}
-use Rattle.prl_clock.specs.Assignments.{IsConsistent, Passes}
-use Rattle.prl_clock.specs.Constraints.{Placed, related}
-use Rattle.prl_clock.specs.code.Composition.{HasParts, IsComposed, IsComposedPast, IsOverPast, IsSmallTiming}
-use Rattle.prl_clock.specs.code.Standings.{IsSolved, IsMerging, IsLink, standing_at, root_at}
+use Rattle.prl_clock.specs.Vocabulary.{Standing, Timing, IsConsistent, Passes, Placed, related, HasParts, IsComposed, IsComposedPast, IsOverPast, IsSmallTiming, IsSolved, IsMerging, IsLink}
+use Rattle.prl_clock.specs.Vocabulary.{standing_at, root_at}
 use Rattle.prl_clock.proofs.Terms.{small_parts}
 use Rattle.prl_clock.proofs.Relating.{within_solved, within_refused, clocks_refused, across_consistent, down_passes, up_passes, merging_down, merging_up}
 

@@ -1,13 +1,8 @@
 -- The constraint that a flow is so over another.
 use Rattle.std.proofs.Common.{cond, ◌≡◌, ◌≢◌, ◌<◌, ◌++◌, ◌⊎◌, inl, inr, ◌==◌, eq-eqb, ℕ, pos, Bool, true, false, List, [], ◌∷◌, length, Option, Some, None, refl, sym, ap, ◌∙◌, subst}
 use Rattle.std.proofs.lemmas.Bool.{ne_eqb}
-use Rattle.prl_clock.specs.declared.timings.Timing.{Timing}
-use Rattle.prl_clock.specs.declared.standings.Standing.{Standing}
-use Rattle.prl_clock.specs.Assignments.{Assignment, tick, MeetsAll, IsConsistent, Joins, Connected, here, on, Passes, period_over, start_over}
-use Rattle.prl_clock.specs.Constraints.{Placed, related}
-use Rattle.prl_clock.specs.Timings.{Point, IsOver}
-use Rattle.prl_clock.specs.code.Composition.{IsComposed, IsComposedPast, IsOverPast, IsSmallTiming}
-use Rattle.prl_clock.specs.code.Standings.{AreStandings, IsSolved, IsJoint, IsMerging, IsLink, HasRate, HasClock, standing_at, root_at}
+use Rattle.prl_clock.specs.Vocabulary.{Timing, Standing, Assignment, tick, MeetsAll, IsConsistent, Joins, Connected, here, on, Passes, period_over, start_over, Placed, related, Point, IsOver}
+use Rattle.prl_clock.specs.Vocabulary.{IsComposed, IsComposedPast, IsOverPast, IsSmallTiming, AreStandings, IsSolved, IsJoint, IsMerging, IsLink, HasRate, HasClock, standing_at, root_at}
 use Rattle.prl_clock.proofs.Adjusting.{adjusted, adjusted_meets, bridge, bridge_back, IsBridge, IsBridgeBack, scaled}
 use Rattle.prl_clock.proofs.Algebra.{composed_of, composed_left, composed_right, composed_is}
 use Rattle.prl_clock.proofs.Graphs.{meets_before, meets_after, meets_both, joins_after, joins_either, rates_either, connected_before, same_root}

@@ -6,17 +6,13 @@ use Rattle.std.proofs.Math.Nat.{one-dvd}
 use Rattle.std.proofs.lemmas.Bool.{cases_lt}
 use Rattle.std.proofs.lemmas.List.{length-take-le, take_all}
 use Rattle.std.proofs.lemmas.Option.{slice_get_within}
-use Rattle.prl_base.specs.Ratios.{Fraction}
-use Rattle.prl_base.specs.Reductions.{IsReducedForm}
+use Rattle.prl_base.specs.Vocabulary.{Fraction, IsReducedForm}
 use Rattle.prl_base.specs.declared.operators.Clock.{Clock}
+use Rattle.prl_flow.specs.Vocabulary.{FlatProgram, IsFlat, clock_of}
 use Rattle.prl_flow.specs.declared.programs.Flow.{Flow}
-use Rattle.prl_flow.specs.Programs.{FlatProgram, IsFlat}
-use Rattle.prl_flow.specs.Solutions.{clock_of}
-use Rattle.prl_clock.specs.declared.calculus.ClockFault.{ClockFault}
+use Rattle.prl_clock.specs.Vocabulary.{ClockFault, Assignment, MeetsAll, IsConsistent, Passes, Placed, constraints_of, over_one, IsFine, IsMismatch, IsPastLimit, IsDetermined, HasChoice, IsFree}
+use Rattle.prl_clock.specs.Vocabulary.{HasTiming, IsWhole, IsNotWhole, AreOnlyClocks, IsOutcome}
 use Rattle.prl_clock.specs.declared.calculus.ClockFault.TheVariants as faults
-use Rattle.prl_clock.specs.Assignments.{Assignment, MeetsAll, IsConsistent, Passes}
-use Rattle.prl_clock.specs.Constraints.{Placed, constraints_of, over_one}
-use Rattle.prl_clock.specs.Outcomes.{IsFine, IsMismatch, IsPastLimit, IsDetermined, HasChoice, IsFree, HasTiming, IsWhole, IsNotWhole, AreOnlyClocks, IsOutcome}
 use Rattle.prl_clock.proofs.Terms.{only}
 use Rattle.prl_clock.proofs.Wholes.{only_these}
 

@@ -1,13 +1,7 @@
 -- Before the first constraint.
 use Rattle.std.proofs.Common.{◌≡◌, ℕ, ℤ, pos, ◌-ℤ◌, List, [], Option, Some, None, sym, ap, subst, arith}
 use borrow.Author.Differences.{ints, up, down}
-use Rattle.prl_clock.specs.declared.timings.Timing.{Timing}
-use Rattle.prl_clock.specs.declared.standings.Standing.{Standing}
-use Rattle.prl_clock.specs.Assignments.{Assignment, Connected, here}
-use Rattle.prl_clock.specs.Constraints.{same_clock}
-use Rattle.prl_clock.specs.Timings.{Point, IsOver}
-use Rattle.prl_clock.specs.code.Composition.{IsSmallTiming}
-use Rattle.prl_clock.specs.code.Standings.{IsSolved, alone, standing_at, root_at}
+use Rattle.prl_clock.specs.Vocabulary.{Timing, Standing, Assignment, Connected, here, same_clock, Point, IsOver, IsSmallTiming, IsSolved, alone, standing_at, root_at}
 use Rattle.prl_clock.proofs.Algebra.{ratio_in}
 use Rattle.prl_clock.proofs.Rated.{whole_small}
 

@@ -4,14 +4,12 @@ use Rattle.std.specs.Prelude.{IfErr, IsErrAnd, OnOk, slice_get}
 use Rattle.std.proofs.lemmas.Bool.{cases_lt}
 use Rattle.std.proofs.lemmas.List.{append-nil}
 use Rattle.std.proofs.Math.Seq.{take-append_seam}
+use Rattle.prl_flow.specs.Programs.{FlatProgram}
 use Rattle.prl_flow.specs.declared.programs.App.{App}
 use Rattle.prl_flow.specs.declared.programs.Flow.{Flow}
-use Rattle.prl_flow.specs.Programs.{FlatProgram}
-use Rattle.prl_clock.specs.declared.calculus.ClockFault.{ClockFault}
+use Rattle.prl_clock.specs.Vocabulary.{ClockFault, Standing, Placed, related, same_clock, argument_constraint, output_constraints, first_output, flow_constraints, rate_constraints}
+use Rattle.prl_clock.specs.Vocabulary.{definition_constraints, constraints_below, constraints_of, IsReached, IsStopped, IsStop}
 use Rattle.prl_clock.specs.declared.calculus.ClockFault.TheVariants as faults
-use Rattle.prl_clock.specs.declared.standings.Standing.{Standing}
-use Rattle.prl_clock.specs.Constraints.{Placed, related, same_clock, argument_constraint, output_constraints, first_output, flow_constraints, rate_constraints, definition_constraints, constraints_below, constraints_of}
-use Rattle.prl_clock.specs.code.Progress.{IsReached, IsStopped, IsStop}
 use Rattle.prl_clock.proofs.Fine.{stopped_later, stopped_within}
 
 pub if_err_same : {T E : Type 0} (r : Result T E) (P : E → Type 0) (f : E) → IsErrAnd r (λ e. e ≡ f) → P f → IfErr r P

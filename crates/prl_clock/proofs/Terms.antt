@@ -4,17 +4,12 @@ use borrow.Author.Differences.{up, down, same_in, product_is, sum_is_lem, neg_is
 use Rattle.std.proofs.lemmas.Cmp.{int_eq_equiv}
 use Rattle.std.proofs.Math.IntN.{*ℤ_comm}
 use Rattle.std.specs.Prelude.{IfErr, IsErrAnd, List, OnErr, OnOk}
-use Rattle.prl_base.specs.Ratios.{Fraction, IsSmallFraction}
-use Rattle.prl_base.specs.Reductions.{IsReducedForm, IsPast}
+use Rattle.prl_base.specs.Vocabulary.{Fraction, IsSmallFraction, IsReducedForm, IsPast}
 use Rattle.prl_base.proofs.Lowest.{lowest_only}
 use Rattle.prl_base.proofs.Signs.{neg_mul}
-use Rattle.prl_clock.specs.declared.steps.Refusal.{Refusal}
+use Rattle.prl_clock.specs.Vocabulary.{Refusal, Timing, IsConsistent, Passes, Placed, IsRefused, HasParts, IsProduct, IsSum, IsComposed, IsComposedPast, composed_period, composed_start, IsSmallTiming}
+use Rattle.prl_clock.specs.Vocabulary.{IsPastTerms}
 use Rattle.prl_clock.specs.declared.steps.Refusal.TheVariants as refusals
-use Rattle.prl_clock.specs.declared.timings.Timing.{Timing}
-use Rattle.prl_clock.specs.Assignments.{IsConsistent, Passes}
-use Rattle.prl_clock.specs.Constraints.{Placed}
-use Rattle.prl_clock.specs.code.Standings.{IsRefused}
-use Rattle.prl_clock.specs.code.Composition.{HasParts, IsProduct, IsSum, IsComposed, IsComposedPast, composed_period, composed_start, IsSmallTiming, IsPastTerms}
 use Rattle.prl_clock.proofs.Algebra.{twice, times, positive}
 
 pub on_err : {T E : Type 0} (r : Result T E) (P : Type 0) → P → OnErr r P

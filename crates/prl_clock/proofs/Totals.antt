@@ -3,15 +3,11 @@ use Rattle.std.proofs.Common.{◌≡◌, ◌≢◌, ◌≤◌, ◌<◌, ◌+◌,
 use Rattle.std.specs.Int.{IsGcd}
 use Rattle.std.proofs.lemmas.Bool.{cases_lt}
 use Rattle.std.proofs.lemmas.Nat.Gcd.{IsGcd-from_zero, IsGcd-swap, IsGcd-from_sub}
-use Rattle.prl_base.specs.Ratios.{Fraction, IsSmallFraction}
-use Rattle.prl_base.specs.Reductions.{IsReducedForm}
+use Rattle.prl_base.specs.Vocabulary.{Fraction, IsSmallFraction, IsReducedForm}
 use Rattle.prl_base.specs.declared.ratios.TheConstants.{MAX_PART}
 use Rattle.prl_base.proofs.Lowest.{lowest, lowest_is}
-use Rattle.prl_clock.specs.declared.standings.Standing.{Standing}
-use Rattle.prl_clock.specs.declared.timings.Timing.{Timing}
-use Rattle.prl_clock.specs.code.Composition.{HasParts, IsProduct, IsSum, IsComposed, IsComposedPast, composed_period, composed_start, IsOverPast, over_period, over_start, IsSmallTiming, IsPastTerms}
-use Rattle.prl_clock.specs.code.Rates.{IsReducedTiming, IsTimingPast}
-use Rattle.prl_clock.specs.code.Standings.{AreMoved, AreTimed, IsMoved, IsTimed, IsOnePast, alone, standing_at}
+use Rattle.prl_clock.specs.Vocabulary.{Standing, Timing, HasParts, IsProduct, IsSum, IsComposed, IsComposedPast, composed_period, composed_start, IsOverPast, over_period, over_start, IsSmallTiming}
+use Rattle.prl_clock.specs.Vocabulary.{IsPastTerms, IsReducedTiming, IsTimingPast, AreMoved, AreTimed, IsMoved, IsTimed, IsOnePast, alone, standing_at}
 use Rattle.prl_clock.proofs.Algebra.{positive}
 use Rattle.prl_clock.proofs.Loops.{same_within}
 use Rattle.prl_clock.proofs.Merging.{clock_or_none, decide}

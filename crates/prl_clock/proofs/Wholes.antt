@@ -5,29 +5,22 @@ use Rattle.std.specs.List.{AllByRecursion}
 use Rattle.std.proofs.lemmas.Bool.{cases_lt}
 use Rattle.std.proofs.Math.ListN.{get_or-map, length-map, get_or-eq_default}
 use Rattle.std.proofs.lemmas.Option.{slice_get-get_or}
-use Rattle.prl_base.specs.Clocks.{IsClock}
-use Rattle.prl_base.specs.Operators.{IsResultClock}
+use Rattle.prl_base.specs.Vocabulary.{IsClock, IsResultClock}
 use Rattle.prl_base.specs.declared.numbers.FlowNo.{FlowNo}
 use Rattle.prl_base.specs.declared.operators.Clock.{Clock}
 use Rattle.prl_base.specs.declared.values.Ty.{Ty}
 use Rattle.prl_ast.specs.InRange.{IfThere, IsRate}
 use Rattle.prl_ast.specs.declared.declarations.Rate.{Rate}
 use Rattle.prl_body.specs.declared.bodies.CheckedBody.{CheckedBody}
+use Rattle.prl_flow.specs.Vocabulary.{IsClockOf, FlatProgram, IsFlat, IsWellDefined, Rows, Rule, mark_rule, rate_rules, definition_rules, flow_rules, flows_rules, app_rule, apps_rules, flat_rules}
+use Rattle.prl_flow.specs.Vocabulary.{State, Timed, IsTimed, HaveClock, Holds, IsSolution, flow_at, registers_at, AreClocks, AgreesClock, HasOneClock, HasRate, clock_of}
 use Rattle.prl_flow.specs.declared.programs.App.{App}
 use Rattle.prl_flow.specs.declared.programs.Arg.{Arg}
 use Rattle.prl_flow.specs.declared.programs.Def.{Def}
-use Rattle.prl_flow.specs.declared.programs.Def.TheVariants as definitions
 use Rattle.prl_flow.specs.declared.programs.Flow.{Flow}
-use Rattle.prl_flow.specs.Flows.{IsClockOf}
-use Rattle.prl_flow.specs.Programs.{FlatProgram, IsFlat, IsWellDefined}
-use Rattle.prl_flow.specs.Rows.{Rows}
-use Rattle.prl_flow.specs.Rules.{Rule, mark_rule, rate_rules, definition_rules, flow_rules, flows_rules, app_rule, apps_rules, flat_rules}
-use Rattle.prl_flow.specs.States.{State, Timed, IsTimed, HaveClock, Holds, IsSolution, flow_at, registers_at}
-use Rattle.prl_flow.specs.Solutions.{AreClocks, AgreesClock, HasOneClock, HasRate, clock_of}
-use Rattle.prl_clock.specs.Assignments.{MeetsAll}
-use Rattle.prl_clock.specs.Constraints.{rate_constraints, output_constraints, definition_constraints, flow_constraints, constraints_of, first_output}
-use Rattle.prl_clock.specs.Outcomes.{AreOnlyClocks}
-use Rattle.prl_clock.specs.Whole.{ArePeriods, whole_assignment}
+use Rattle.prl_flow.specs.declared.programs.Def.TheVariants as definitions
+use Rattle.prl_clock.specs.Vocabulary.{MeetsAll, rate_constraints, output_constraints, definition_constraints, flow_constraints, constraints_of, first_output, AreOnlyClocks, ArePeriods}
+use Rattle.prl_clock.specs.Vocabulary.{whole_assignment}
 use Rattle.prl_clock.proofs.Graphs.{meets_both}
 use Rattle.prl_clock.proofs.Meeting.{over_same, over_result, over_rate, equal_clocks}
 use Rattle.prl_clock.proofs.Reading.{of_each, mapped_in, are_clocks}

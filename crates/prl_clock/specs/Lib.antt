@@ -10,3 +10,4 @@ pub mod Outcomes
 pub mod Whole
 -- what private functions say to one another
 pub mod code
+pub mod Vocabulary

@@ -3,8 +3,8 @@
 ghost use Rattle.std.specs.Prelude.{◌≡◌, ◌≤◌, ◌<◌, ◌++◌, ◌∷◌, ℕ, List, [], length, map, Some, slice_get, IfErr, IfOk, OnOk};
 ghost use Rattle.prl_base.specs.declared.values.Ty.{Ty};
 ghost use Rattle.prl_ast.specs.InRange.{IfThere, IsRate};
-ghost use Rattle.prl_flow.specs.declared.programs.Arg.{Arg};
 ghost use Rattle.prl_flow.specs.Programs.{IsWellDefined};
+ghost use Rattle.prl_flow.specs.declared.programs.Arg.{Arg};
 ghost use Rattle.prl_clock.specs.Constraints.{Placed, argument_constraint, constraints_of, definition_constraints, flow_constraints, output_constraints, rate_constraints, rated, related, timing_of_rate};
 ghost use Rattle.prl_clock.specs.code.Progress.{IsReached, IsStop, IsStopped, told};
 ghost use Rattle.prl_clock.specs.code.Standings.{IsLink};

@@ -4,10 +4,8 @@
 ghost use Rattle.std.specs.Prelude.{◌≡◌, ◌≤◌, ◌↔◌, ℕ, List, Result, length, map};
 ghost use Rattle.prl_base.specs.declared.operators.Clock.{Clock};
 ghost use Rattle.prl_body.specs.declared.bodies.CheckedBody.{CheckedBody};
-ghost use Rattle.prl_flow.specs.Programs.{FlatProgram, IsFlat};
-ghost use Rattle.prl_flow.specs.Rows.{Rows};
-ghost use Rattle.prl_flow.specs.Solutions.{AreClocks};
-ghost use Rattle.prl_flow.specs.States.{IsSolution, State, Timed};
+ghost use Rattle.prl_flow.specs.Vocabulary.{FlatProgram, IsFlat, Rows, AreClocks, IsSolution};
+ghost use Rattle.prl_flow.specs.Vocabulary.{State, Timed};
 ghost use Rattle.prl_clock.specs.Assignments.{MeetsAll};
 ghost use Rattle.prl_clock.specs.Constraints.{constraints_of};
 ghost use Rattle.prl_clock.specs.Outcomes.{AreOnlyClocks, IsOutcome};

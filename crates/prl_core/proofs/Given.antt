@@ -13,23 +13,18 @@ use Rattle.prl_body.specs.Machines.{MachineState}
 use Rattle.prl_body.specs.declared.bodies.CheckedBody.{CheckedBody}
 use Rattle.prl_flow.specs.Applications.{registers_before}
 use Rattle.prl_flow.proofs.Lists.{slice_get_push, slice_get_append_left}
+use Rattle.prl_plan.specs.Vocabulary.{is_actuator, task_at, job_count, IsHorizonJob, IsPlan, edge_at, no_edge, IsSound}
 use Rattle.prl_plan.specs.declared.graphs.Edge.{Edge}
 use Rattle.prl_plan.specs.declared.graphs.Kind.TheVariants as kinds
-use Rattle.prl_plan.specs.Graphs.{is_actuator}
-use Rattle.prl_plan.specs.Jobs.{task_at, job_count, IsHorizonJob}
-use Rattle.prl_plan.specs.Plans.{IsPlan, edge_at, no_edge}
-use Rattle.prl_plan.specs.States.{IsSound}
 use Rattle.prl_plan.proofs.RoundPeriods.{task_is}
 use Rattle.prl_track.specs.Machine.{Drives}
 use Rattle.prl_track.proofs.Places.{slice_get_take}
 use Rattle.prl_values.specs.JobValues.{value_on, read_on, reads_of_job, body_of_task}
-use Rattle.prl_workers.specs.declared.workers.Work.{Work}
-use Rattle.prl_workers.specs.declared.workers.Work.TheVariants as works
-use Rattle.prl_workers.specs.declared.workers.Worker.{Worker}
 use Rattle.prl_workers.specs.Workers.{HasMachine, HasNoMachine, IsWork, once}
-use Rattle.prl_core.specs.Cores.{CoreView, constants, values_of, AreOutputs, IsMachineOf, IsNoNode}
-use Rattle.prl_core.specs.code.Kept.{IsKept}
-use Rattle.prl_core.specs.code.Laws.{HasCoreLaws}
+use Rattle.prl_workers.specs.declared.workers.Work.{Work}
+use Rattle.prl_workers.specs.declared.workers.Worker.{Worker}
+use Rattle.prl_workers.specs.declared.workers.Work.TheVariants as works
+use Rattle.prl_core.specs.Vocabulary.{CoreView, constants, values_of, AreOutputs, IsMachineOf, IsNoNode, IsKept, HasCoreLaws}
 use Rattle.prl_workers.proofs.PortReads.{read_at_port}
 
 module _ (core : CoreView) (is_plan : IsPlan core.plan) (sound : IsSound (constants core) core.state) where

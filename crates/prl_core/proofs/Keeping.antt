@@ -11,32 +11,24 @@ use Rattle.prl_base.specs.declared.values.Value.{Value}
 use Rattle.prl_base.specs.declared.values.Value.TheVariants as values
 use Rattle.prl_body.specs.declared.bodies.CheckedBody.{CheckedBody}
 use Rattle.prl_flow.specs.Rows.{Rows}
+use Rattle.prl_plan.specs.Vocabulary.{IsJob, ReadsAt, WritesAt, PlanView, edge_at, no_edge, completes, IsAtPort, IsActionOf, ComesFrom, constants_of, MayTick, HasJob, KeepsLegal, first_unfinished}
+use Rattle.prl_plan.specs.Vocabulary.{action_at, next_action, moved, after_action, after_event, IsSound}
 use Rattle.prl_plan.specs.declared.events.Action.{Action}
-use Rattle.prl_plan.specs.declared.events.Action.TheVariants as actions
-use Rattle.prl_plan.specs.declared.events.Event.TheVariants as events
 use Rattle.prl_plan.specs.declared.events.SlotNo.{SlotNo}
 use Rattle.prl_plan.specs.declared.graphs.Producer.{Producer}
+use Rattle.prl_plan.specs.declared.events.Action.TheVariants as actions
+use Rattle.prl_plan.specs.declared.events.Event.TheVariants as events
 use Rattle.prl_plan.specs.declared.graphs.Producer.TheVariants as producers
 use Rattle.prl_plan.specs.declared.walks.Operand.TheVariants as operands
-use Rattle.prl_plan.specs.Facts.{IsJob, ReadsAt, WritesAt}
-use Rattle.prl_plan.specs.Plans.{PlanView, edge_at, no_edge, completes, IsAtPort, IsActionOf}
-use Rattle.prl_plan.specs.Precedence.{ComesFrom}
-use Rattle.prl_plan.specs.Horizons.{constants_of}
-use Rattle.prl_plan.specs.Rules.{MayTick, HasJob, KeepsLegal, first_unfinished}
-use Rattle.prl_plan.specs.Runs.{action_at, next_action, moved, after_action, after_event}
-use Rattle.prl_plan.specs.States.{IsSound}
 use Rattle.prl_plan.proofs.StateLaws.{gated_event_keeps_sound, legal_event_is_gated, write_finds_half_free}
+use Rattle.prl_track.specs.Vocabulary.{cell_no, TrackView}
 use Rattle.prl_track.specs.declared.seen.Seen.{Seen}
-use Rattle.prl_track.specs.Machine.{cell_no}
-use Rattle.prl_track.specs.Tracks.{TrackView}
 use Rattle.prl_track.proofs.Places.{slice_get_set_same, slice_get_set_other}
 use Rattle.prl_values.specs.JobValues.{value_from, value_on, reads_of_job}
-use Rattle.prl_workers.specs.declared.workers.Worker.{Worker}
 use Rattle.prl_workers.specs.Workers.{HasBegun, IsWorker}
-use Rattle.prl_core.specs.Cores.{CoreView, constants, values_of, IsRead, IsReadConst, IsSightOf, IsSightOfRead}
-use Rattle.prl_core.specs.code.Stores.{CanTake, CanBegin, CanGive, CanRead, CanServe, Takes, DoesRead, Gives, Ends, Serves}
-use Rattle.prl_core.specs.code.Laws.{HasCoreLaws}
-use Rattle.prl_core.specs.code.Kept.{AreWorkers, AreHalves, IsKept}
+use Rattle.prl_workers.specs.declared.workers.Worker.{Worker}
+use Rattle.prl_core.specs.Vocabulary.{CoreView, constants, values_of, IsRead, IsReadConst, IsSightOf, IsSightOfRead, CanTake, CanBegin, CanGive, CanRead, CanServe, Takes, DoesRead, Gives, Ends}
+use Rattle.prl_core.specs.Vocabulary.{Serves, HasCoreLaws, AreWorkers, AreHalves, IsKept}
 use Rattle.prl_workers.proofs.Operands.{Reads}
 use Rattle.prl_workers.proofs.PortReads.{read_at_port}
 use Rattle.prl_workers.proofs.Serving.{low_read as worker_reads_low, may_take, has_taken, may_begin, has_written, has_ended, port_of_edge, output_there, output_is}

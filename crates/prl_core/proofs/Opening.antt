@@ -4,18 +4,14 @@ use Rattle.std.specs.Prelude.{sum}
 use Rattle.prl_base.specs.declared.values.Value.{Value}
 use Rattle.prl_body.specs.declared.bodies.CheckedBody.{CheckedBody}
 use Rattle.prl_flow.specs.Rows.{Rows}
+use Rattle.prl_plan.specs.Vocabulary.{HasPlanFacts, IsHorizon, Placement, constants_on, PlanView, IsPlan}
 use Rattle.prl_plan.specs.declared.horizons.Horizon.{Horizon}
-use Rattle.prl_plan.specs.Facts.{HasPlanFacts}
-use Rattle.prl_plan.specs.Horizons.{IsHorizon, Placement, constants_on}
-use Rattle.prl_plan.specs.Plans.{PlanView, IsPlan}
 use Rattle.prl_plan.proofs.StateLaws.{opening_is_sound}
 use Rattle.prl_values.specs.Fitting.{HaveTaskBodies, HaveTypedRows}
-use Rattle.prl_workers.specs.declared.workers.Worker.{Worker}
 use Rattle.prl_workers.specs.Workers.{IsWorker}
+use Rattle.prl_workers.specs.declared.workers.Worker.{Worker}
 use Rattle.prl_workers.proofs.Working.{new_worker}
-use Rattle.prl_core.specs.Cores.{opened_on, values_of}
-use Rattle.prl_core.specs.code.Stores.{AreNewWorkers}
-use Rattle.prl_core.specs.code.Kept.{IsKept}
+use Rattle.prl_core.specs.Vocabulary.{opened_on, values_of, AreNewWorkers, IsKept}
 
 zeros : (n j : ℕ) → ◌≡◌ {A = ℕ} (get_or (replicate n 0) j 0) 0
 zeros zero zero = refl

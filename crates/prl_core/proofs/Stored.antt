@@ -9,9 +9,9 @@ use Rattle.prl_body.specs.declared.bodies.CheckedBody.{CheckedBody}
 use Rattle.prl_flow.specs.Rows.{Rows}
 use Rattle.prl_plan.specs.declared.events.Action.TheVariants as actions
 use Rattle.prl_plan.specs.declared.events.SlotNo.{SlotNo}
+use Rattle.prl_track.specs.Machine.{cell_no}
 use Rattle.prl_track.specs.declared.seen.Seen.{Seen}
 use Rattle.prl_track.specs.declared.seen.Seen.TheVariants as sights
-use Rattle.prl_track.specs.Machine.{cell_no}
 use Rattle.prl_workers.specs.declared.workers.Worker.{Worker}
 use Rattle.prl_core.specs.code.Stores.{CanTake, CanRead, DoesRead, Takes}
 

@@ -3,25 +3,19 @@ use Rattle.std.proofs.Common.{◌≡◌, ◌+◌, ◌/◌, ◌%◌, ◌-◌, ℕ
 use Rattle.prl_base.specs.declared.numbers.EdgeNo.{EdgeNo}
 use Rattle.prl_base.specs.declared.numbers.TaskNo.{TaskNo}
 use Rattle.prl_base.specs.declared.values.Value.{Value}
+use Rattle.prl_plan.specs.Vocabulary.{IsJob, IsHorizonJob, IsPlan, edge_at, cell_of, low, high, IsActionOf, IsHigh, low_of, HasJob, KeepsLegal, FindsTag, action_at, next_action, IsSound}
 use Rattle.prl_plan.specs.declared.events.Action.{Action}
-use Rattle.prl_plan.specs.declared.events.Action.TheVariants as actions
 use Rattle.prl_plan.specs.declared.events.Event.{Event}
-use Rattle.prl_plan.specs.declared.events.Event.TheVariants as events
 use Rattle.prl_plan.specs.declared.events.SlotNo.{SlotNo}
-use Rattle.prl_plan.specs.Facts.{IsJob}
-use Rattle.prl_plan.specs.Jobs.{IsHorizonJob}
-use Rattle.prl_plan.specs.Plans.{IsPlan, edge_at, cell_of, low, high, IsActionOf, IsHigh, low_of}
-use Rattle.prl_plan.specs.Rules.{HasJob, KeepsLegal, FindsTag}
-use Rattle.prl_plan.specs.Runs.{action_at, next_action}
-use Rattle.prl_plan.specs.States.{IsSound}
+use Rattle.prl_plan.specs.declared.events.Action.TheVariants as actions
+use Rattle.prl_plan.specs.declared.events.Event.TheVariants as events
 use Rattle.prl_plan.proofs.RoundPeriods.{task_is}
 use Rattle.prl_plan.proofs.StateLaws.{legal_read_finds_tag, write_finds_half_free, action_is_as_defined, low_is_even}
+use Rattle.prl_track.specs.Machine.{cell_no, sight_of_write}
 use Rattle.prl_track.specs.declared.seen.Seen.{Seen}
 use Rattle.prl_track.specs.declared.seen.Seen.TheVariants as sights
-use Rattle.prl_track.specs.Machine.{cell_no, sight_of_write}
 use Rattle.prl_values.specs.JobValues.{value_on}
-use Rattle.prl_core.specs.Cores.{CoreView, constants, values_of, Tells, IsRead, IsReadConst, IsSightOf, IsSightOfRead}
-use Rattle.prl_core.specs.code.Laws.{HasCoreLaws}
+use Rattle.prl_core.specs.Vocabulary.{CoreView, constants, values_of, Tells, IsRead, IsReadConst, IsSightOf, IsSightOfRead, HasCoreLaws}
 
 module _ (core : CoreView) (is_plan : IsPlan core.plan) (sound : IsSound (constants core) core.state) (laws : HasCoreLaws core) where
   module _ (task : TaskNo) (keeps : KeepsLegal (constants core) core.state (events.Act task)) where

@@ -2,3 +2,4 @@
 pub mod Cores
 -- what private functions say to one another
 pub mod code
+pub mod Vocabulary

@@ -1,13 +1,11 @@
 //! The machine.
 
 ghost use Rattle.std.specs.Prelude.{◌≡◌, ◌<◌, ℕ, length, IfOk, IfErr, MatchOption, MatchResult};
-ghost use Rattle.prl_plan.specs.Facts.{HasPlanFacts};
-ghost use Rattle.prl_plan.specs.Horizons.{IsHorizon, Placement, constants_on};
-ghost use Rattle.prl_plan.specs.Rules.{first_unfinished, IsComplete, IsFirstUnfinished, KeepsLegal, FirstBroken};
-ghost use Rattle.prl_plan.specs.Runs.{after_event};
+ghost use Rattle.prl_plan.specs.Vocabulary.{HasPlanFacts, IsHorizon, Placement, constants_on};
+ghost use Rattle.prl_plan.specs.Vocabulary.{first_unfinished, IsComplete, IsFirstUnfinished};
+ghost use Rattle.prl_plan.specs.Vocabulary.{KeepsLegal, FirstBroken, after_event};
 ghost use Rattle.prl_values.specs.Fitting.{HaveTaskBodies, HaveTypedRows};
-ghost use Rattle.prl_track.specs.Tracks.{IsNext};
-ghost use Rattle.prl_track.specs.Machine.{IsOfPlan, Drives};
+ghost use Rattle.prl_track.specs.Vocabulary.{IsNext, IsOfPlan, Drives};
 
 use crate::laws::machine_laws;
 use crate::stores::Store;

@@ -2,14 +2,10 @@
 
 ghost use Rattle.std.specs.Prelude.{ℕ, List};
 ghost use Rattle.prl_base.specs.declared.values.Value.{Value};
-ghost use Rattle.prl_track.specs.declared.seen.Seen.{Seen};
 ghost use Rattle.prl_track.specs.Machine.{Drives};
+ghost use Rattle.prl_track.specs.declared.seen.Seen.{Seen};
+ghost use Rattle.prl_plan.specs.Vocabulary.{HasPlanFacts, IsHorizon, IsPlan, KeepsLegal, IsSound};
 ghost use Rattle.prl_plan.specs.declared.events.Event.{Event};
-ghost use Rattle.prl_plan.specs.Facts.{HasPlanFacts};
-ghost use Rattle.prl_plan.specs.Horizons.{IsHorizon};
-ghost use Rattle.prl_plan.specs.Plans.{IsPlan};
-ghost use Rattle.prl_plan.specs.Rules.{KeepsLegal};
-ghost use Rattle.prl_plan.specs.States.{IsSound};
 ghost use Rattle.prl_values.specs.Fitting.{HaveTaskBodies, HaveTypedRows};
 ghost use Rattle.prl_core.specs.Cores.{CoreView, constants, Tells, AreOutputs};
 ghost use Rattle.prl_core.specs.code.Laws.{HasCoreLaws};

@@ -4,8 +4,7 @@ ghost use Rattle.std.specs.Prelude.{◌≡◌, ◌*◌, ◌<◌, ◌%◌, ℕ, l
 ghost use Rattle.prl_base.specs.declared.numbers.TaskNo.{TaskNo as AnyTask};
 ghost use Rattle.prl_plan.specs.declared.events.Action.TheVariants as actions;
 ghost use Rattle.prl_plan.specs.declared.graphs.Producer.TheVariants as producers;
-ghost use Rattle.prl_plan.specs.Horizons.{IsHorizon};
-ghost use Rattle.prl_plan.specs.Plans.{edge_at};
+ghost use Rattle.prl_plan.specs.Vocabulary.{IsHorizon, edge_at};
 ghost use Rattle.prl_values.specs.Fitting.{HaveTaskBodies};
 ghost use Rattle.prl_track.specs.Machine.{cell_no, sight_of_write};
 ghost use Rattle.prl_core.specs.code.Stores.{AreNewWorkers, CanTake, CanRead, CanGive, CanBegin, CanServe, Takes, DoesRead, Gives, Ends, Serves};

@@ -4,14 +4,9 @@ use Rattle.std.specs.Prelude.{pos, ◌+ℤ◌, nat_abs, slice_index, slice_index
 use Rattle.std.proofs.Math.Path.{fun_ext}
 use Rattle.std.proofs.lemmas.Bool.{cases_lt}
 use Rattle.std.proofs.lemmas.Int.{ints}
+use Rattle.prl_plan.specs.Vocabulary.{encoded_release, no_window, place_in, Placement, constants_on, task_at, release_of, PlanView, RunConstants, AreSpreadReleases, IsSpread}
 use Rattle.prl_plan.specs.declared.horizons.Horizon.{Horizon}
 use Rattle.prl_plan.specs.declared.tables.Window.{Window}
-use Rattle.prl_plan.specs.Dates.{encoded_release, no_window, place_in}
-use Rattle.prl_plan.specs.Horizons.{Placement, constants_on}
-use Rattle.prl_plan.specs.Jobs.{task_at, release_of}
-use Rattle.prl_plan.specs.Plans.{PlanView}
-use Rattle.prl_plan.specs.Runs.{RunConstants}
-use Rattle.prl_plan.specs.Spread.{AreSpreadReleases, IsSpread}
 
 none_there : (windows : List (List Window)) (i : ℕ) → length windows ≤ i → slice_index_or windows i [] ≡ []
 none_there [] i past = refl

@@ -1,7 +1,6 @@
 -- Tasks placed line by line.
 use Rattle.std.proofs.Common.{◌≡◌, ℕ, ◌+◌, ◌<◌, List, [], ◌∷◌, ◌++◌, length, Option, Some, None, Result, Ok, Err, refl, sym, ap, ◌∙◌, arith, append_assoc}
-use Rattle.prl_base.specs.Lines.{cut_line, lines_of}
-use Rattle.prl_base.specs.Reading.{◌>>=◌}
+use Rattle.prl_base.specs.Vocabulary.{cut_line, lines_of, ◌>>=◌}
 use Rattle.prl_base.proofs.LineCuts.{lines_of_cut, lines_of_end, length_lines_of}
 use Rattle.prl_schedules.specs.Schedules.{without_return}
 use Rattle.prl_cores.specs.declared.texts.CoresFault.{CoresFault}

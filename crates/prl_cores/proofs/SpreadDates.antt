@@ -2,13 +2,9 @@
 use Rattle.std.proofs.Common.{◌+◌, ◌<◌, ℕ, List, length, arith}
 use Rattle.std.specs.Prelude.{ℤ, pos, ◌+ℤ◌, ◌-ℤ◌, ◌≤ℤ◌}
 use Rattle.std.proofs.lemmas.Int.{ints}
-use Rattle.prl_plan.specs.Cells.{Fits, used_at}
-use Rattle.prl_plan.specs.Dates.{Family, encoded_release, encoded_deadline}
+use Rattle.prl_plan.specs.Vocabulary.{Fits, used_at, Family, encoded_release, encoded_deadline, task_at, PlanView, IsPlan, AreSpreadReleases, AreLeastSpreadReleases}
 use Rattle.prl_plan.specs.declared.graphs.Edge.{Edge}
 use Rattle.prl_plan.specs.declared.tables.Used.{Used}
-use Rattle.prl_plan.specs.Jobs.{task_at}
-use Rattle.prl_plan.specs.Plans.{PlanView, IsPlan}
-use Rattle.prl_plan.specs.Spread.{AreSpreadReleases, AreLeastSpreadReleases}
 
 module _ (plan : PlanView) (is : IsPlan plan) (processors : List ℕ) (date : Family)
     (spread : AreLeastSpreadReleases plan.graph plan.windows processors date) where

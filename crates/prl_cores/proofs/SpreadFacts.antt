@@ -5,18 +5,14 @@ use Rattle.std.proofs.lemmas.Bool.{cases_eq}
 use Rattle.std.proofs.lemmas.Int.{ints}
 use Rattle.std.proofs.lemmas.Option.{slice_get-get_or}
 use Rattle.prl_base.specs.declared.numbers.EdgeNo.{EdgeNo}
-use Rattle.prl_plan.specs.Dates.{Family, encoded_release}
+use Rattle.prl_plan.specs.Vocabulary.{Family, encoded_release, IsJob, ReadsAt, WritesAt, HasPlanFacts, IsHorizon, Placement, constants_of, constants_on, PlanView, IsPlan, edge_at, no_edge, IsActionOf}
+use Rattle.prl_plan.specs.Vocabulary.{release_at, deadline_at, Precedes, ComesFrom, AreLeastSpreadReleases, IsSpread}
 use Rattle.prl_plan.specs.declared.events.Action.{Action}
-use Rattle.prl_plan.specs.declared.events.Action.TheVariants as actions
 use Rattle.prl_plan.specs.declared.horizons.Horizon.{Horizon}
-use Rattle.prl_plan.specs.Facts.{IsJob, ReadsAt, WritesAt, HasPlanFacts}
-use Rattle.prl_plan.specs.Horizons.{IsHorizon, Placement, constants_of, constants_on}
-use Rattle.prl_plan.specs.Plans.{PlanView, IsPlan, edge_at, no_edge, IsActionOf, release_at, deadline_at}
-use Rattle.prl_plan.specs.Precedence.{Precedes, ComesFrom}
+use Rattle.prl_plan.specs.declared.events.Action.TheVariants as actions
 use Rattle.prl_plan.proofs.RoundPeriods.{task_is}
 use Rattle.prl_plan.proofs.StateLaws.{action_is_as_defined}
 use Rattle.prl_plan.proofs.WalkLaws.{walk_preceding, operand_walks}
-use Rattle.prl_plan.specs.Spread.{AreLeastSpreadReleases, IsSpread}
 use Rattle.prl_cores.proofs.SpreadDates.{spread_room}
 
 module _ (plan : PlanView) (is : IsPlan plan) (h : Horizon) (horizon : IsHorizon plan h) (facts : HasPlanFacts (constants_of plan h))

@@ -1,12 +1,10 @@
 //! The machine of a plan on several processors.
 
 ghost use Rattle.std.specs.Prelude.{◌≡◌, ℕ, IfOk, IfErr, MatchResult};
-ghost use Rattle.prl_plan.specs.Horizons.{IsHorizon};
-ghost use Rattle.prl_plan.specs.Rules.{IsComplete, IsFirstUnfinished, KeepsLegal, FirstBroken};
-ghost use Rattle.prl_plan.specs.Runs.{after_event};
+ghost use Rattle.prl_plan.specs.Vocabulary.{IsHorizon, IsComplete, IsFirstUnfinished, KeepsLegal};
+ghost use Rattle.prl_plan.specs.Vocabulary.{FirstBroken, after_event};
 ghost use Rattle.prl_values.specs.Fitting.{HaveTaskBodies, HaveTypedRows};
-ghost use Rattle.prl_track.specs.Tracks.{IsNext};
-ghost use Rattle.prl_track.specs.Machine.{IsOfPlan, Drives};
+ghost use Rattle.prl_track.specs.Vocabulary.{IsNext, IsOfPlan, Drives};
 ghost use Rattle.prl_cores.specs.Spreads.{IsSpreadOf};
 
 use crate::Spread;

@@ -1,16 +1,12 @@
 //! Laws of plans on several processors, as functions that do nothing: the contract of each is the law, over the definitions alone.
 
 ghost use Rattle.std.specs.Prelude.{◌≡◌, ◌≢◌, ◌⊎◌, ℕ, Err, List, Ok};
+ghost use Rattle.prl_plan.specs.Vocabulary.{HasPlanFacts, IsHorizon, Placement, constants_of};
+ghost use Rattle.prl_plan.specs.Vocabulary.{constants_on, PlanView, IsPlan, IsComplete, IsGated};
+ghost use Rattle.prl_plan.specs.Vocabulary.{IsLegal, opening, after_events, IsSpread};
 ghost use Rattle.prl_plan.specs.declared.events.Event.{Event as AnyEvent};
 ghost use Rattle.prl_plan.specs.declared.horizons.Horizon.{Horizon as AnyHorizon};
-ghost use Rattle.prl_plan.specs.Facts.{HasPlanFacts};
-ghost use Rattle.prl_plan.specs.Horizons.{IsHorizon, Placement, constants_of, constants_on};
-ghost use Rattle.prl_plan.specs.Plans.{PlanView, IsPlan};
-ghost use Rattle.prl_plan.specs.Rules.{IsComplete, IsGated, IsLegal};
-ghost use Rattle.prl_plan.specs.Runs.{opening, after_events};
-ghost use Rattle.prl_plan.specs.Spread.{IsSpread};
-ghost use Rattle.prl_schedules.specs.Dispatches.{IsDispatched};
-ghost use Rattle.prl_schedules.specs.ScheduleTexts.{task_names};
+ghost use Rattle.prl_schedules.specs.Vocabulary.{IsDispatched, task_names};
 ghost use Rattle.prl_cores.specs.declared.texts.CoresFault.{CoresFault as AnyFault};
 ghost use Rattle.prl_cores.specs.declared.texts.CoresFault.TheVariants as faults;
 ghost use Rattle.prl_cores.specs.Processors.{processors_of};

@@ -1,8 +1,8 @@
 //! How a plan is spread over processors.
 
 ghost use Rattle.std.specs.Prelude.{◌≡◌, length, map, IfOk};
-ghost use Rattle.prl_plan.specs.declared.graphs.Task.{Task};
 ghost use Rattle.prl_plan.specs.Horizons.{Placement};
+ghost use Rattle.prl_plan.specs.declared.graphs.Task.{Task};
 ghost use Rattle.prl_cores.specs.Spreads.{SpreadView, IsSpreadOf, LeavesRoom};
 
 use crate::laws::spread_leaves_room;

@@ -3,12 +3,10 @@
 ghost use Rattle.std.specs.Prelude.{◌≡◌, ◌<◌, ◌≤◌, ◌^◌, List, Option, Some, None, length, replicate, IfErr, IfOk, IfSome, MatchOption};
 ghost use Rattle.std.specs.Bool.{OnTrue, OnFalse};
 ghost use Rattle.std.specs.Vec.{vec_items};
-ghost use Rattle.prl_base.specs.Reading.{GivesBut};
+ghost use Rattle.prl_base.specs.Vocabulary.{GivesBut, lines_of};
 ghost use Rattle.prl_cores.specs.declared.texts.CoresFault.TheVariants as faults;
-ghost use Rattle.prl_base.specs.Lines.{lines_of};
 ghost use Rattle.prl_cores.specs.Processors.{IsOfTasks, processor_in, placing_of, placed_in, or_line, placed_from, all_placed, processors_of};
-ghost use Rattle.prl_schedules.specs.Schedules.{without_return};
-ghost use Rattle.prl_schedules.specs.ScheduleTexts.{task_names};
+ghost use Rattle.prl_schedules.specs.Vocabulary.{without_return, task_names};
 
 use prl_base::{TaskNo, cut_line, len_before};
 use prl_plan::{Plan, plan_is_one};

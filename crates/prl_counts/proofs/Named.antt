@@ -1,12 +1,12 @@
 -- What is declared of a name, and what is told of it.
 use Rattle.std.proofs.Common.{◌≡◌, ◌≤◌, ℕ, List, [], Ok, Some, inl, inr, length, refl}
 use Rattle.std.specs.Prelude.{slice_get}
+use Rattle.prl_ast.specs.Trees.{program_tree}
 use Rattle.prl_ast.specs.declared.declarations.Import.{Import}
 use Rattle.prl_ast.specs.declared.declarations.Node.{Node}
 use Rattle.prl_ast.specs.declared.declarations.Program.{Program}
-use Rattle.prl_ast.specs.Trees.{program_tree}
-use Rattle.prl_lex.specs.declared.tokens.Token.{Token}
 use Rattle.prl_lex.specs.Lexing.{token_text, tokens_of}
+use Rattle.prl_lex.specs.declared.tokens.Token.{Token}
 use Rattle.prl_syntax.specs.Parsing.{IsParsed}
 use Rattle.prl_counts.specs.declared.counts.Counts.{Counts}
 use Rattle.prl_counts.specs.Counted.{Declares, IsCounted, IsNamedFrom, IsOfImport, IsOfNode, counts_text}

@@ -2,13 +2,9 @@
 use Rattle.std.proofs.Common.{◌≡◌, ◌+◌, ◌<◌, ◌≤◌, ℕ, suc, zero, List, [], ◌∷◌, length, inl, inr, refl, sym, ◌∙◌, ap, subst, arith}
 use Rattle.std.specs.Prelude.{ℤ, pos, ◌+ℤ◌, ◌-ℤ◌, ◌≤ℤ◌}
 use Rattle.std.proofs.lemmas.Int.{ints}
+use Rattle.prl_plan.specs.Vocabulary.{Job, task_at, release_of, preceding, Precedes, PrecedesAlong, IsWellFormed, IsChain, last_of, wcets_of, needs_of, EndsIn, Family, AreReleases, AreLeastReleases}
 use Rattle.prl_plan.specs.declared.graphs.Edge.{Edge}
 use Rattle.prl_plan.specs.declared.graphs.TaskGraph.{TaskGraph}
-use Rattle.prl_plan.specs.Jobs.{Job, task_at, release_of}
-use Rattle.prl_plan.specs.Precedence.{preceding, Precedes, PrecedesAlong}
-use Rattle.prl_plan.specs.Graphs.{IsWellFormed}
-use Rattle.prl_plan.specs.Chains.{IsChain, last_of, wcets_of, needs_of, EndsIn}
-use Rattle.prl_plan.specs.Dates.{Family, AreReleases, AreLeastReleases}
 use Rattle.prl_plan.proofs.ReaderLaws.{preceding_rises}
 use Rattle.prl_dates.specs.code.Families.{AreBests, IsRound}
 use Rattle.prl_dates.proofs.ChainEnds.{Ending, before_last, Longer, one_longer, ends_inside, begins_inside, both_inside}

@@ -7,21 +7,15 @@ use Rattle.std.proofs.Math.Nat.{mod-add-div', mod-eq_of_lt, mul-le-mul_left}
 use Rattle.std.proofs.lemmas.Bool.Decides.{nat_tests}
 use Rattle.std.proofs.lemmas.Int.{ints}
 use Rattle.std.proofs.lemmas.Map.Steps.{length-le_from_distinct_below}
+use Rattle.prl_plan.specs.Vocabulary.{IsChain, last_of, wcets_of, needs_of, EndsIn, place_in, IsWellFormed, jobs_in_hyperperiod, Job, task_at, release_of, deadline_of, preceding, Precedes}
+use Rattle.prl_plan.specs.Vocabulary.{PrecedesAlong}
 use Rattle.prl_plan.specs.declared.graphs.Edge.{Edge}
 use Rattle.prl_plan.specs.declared.graphs.TaskGraph.{TaskGraph}
-use Rattle.prl_plan.specs.Chains.{IsChain, last_of, wcets_of, needs_of, EndsIn}
-use Rattle.prl_plan.specs.Dates.{place_in}
-use Rattle.prl_plan.specs.Graphs.{IsWellFormed, jobs_in_hyperperiod}
-use Rattle.prl_plan.specs.Jobs.{Job, task_at, release_of, deadline_of}
-use Rattle.prl_plan.specs.Precedence.{preceding, Precedes, PrecedesAlong}
 use Rattle.prl_plan.proofs.NotLater.{released_first}
 use Rattle.prl_plan.proofs.Periods.{everywhere, plus_mul}
 use Rattle.prl_plan.proofs.RoundPeriods.{task_is}
-use Rattle.prl_dates.specs.declared.faults.DateFault.{DateFault}
+use Rattle.prl_dates.specs.Vocabulary.{DateFault, jobs_of, IsLate, EndsLoop, IsDateFault, IsOfGraph, HasNarrowChain, Joins, index_of}
 use Rattle.prl_dates.specs.declared.faults.DateFault.TheVariants as faults
-use Rattle.prl_dates.specs.Faults.{jobs_of, IsLate, EndsLoop, IsDateFault, IsOfGraph, HasNarrowChain}
-use Rattle.prl_dates.specs.code.Lanes.{Joins}
-use Rattle.prl_dates.specs.code.Indices.{index_of}
 use Rattle.prl_dates.proofs.ChainEnds.{ends_inside, begins_inside}
 use Rattle.prl_dates.proofs.Links.{joins_shift}
 use Rattle.prl_dates.proofs.Settles.{release_rises}

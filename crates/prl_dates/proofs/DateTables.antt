@@ -6,24 +6,14 @@ use Rattle.std.proofs.lemmas.Int.{ints}
 use Rattle.std.proofs.lemmas.List.{length-take-le}
 use Rattle.std.proofs.lemmas.Nat.{mod_below}
 use Rattle.std.proofs.lemmas.Option.{slice_get-get_or, slice_get_within}
+use Rattle.prl_plan.specs.Vocabulary.{AreReleases, AreDeadlines, AreLeastReleases, AreGreatestDeadlines, AreEncodedDates, place_in, no_window, window_at, encoded_release, encoded_deadline}
+use Rattle.prl_plan.specs.Vocabulary.{IsWellFormed, jobs_in_hyperperiod, Job, task_at, release_of, HaveRoom, AreShortWindows, Precedes, IsLeastRepeat}
 use Rattle.prl_plan.specs.declared.graphs.TaskGraph.{TaskGraph}
 use Rattle.prl_plan.specs.declared.tables.Window.{Window}
-use Rattle.prl_plan.specs.Dates.{AreReleases, AreDeadlines, AreLeastReleases, AreGreatestDeadlines, AreEncodedDates, place_in, no_window, window_at, encoded_release, encoded_deadline}
-use Rattle.prl_plan.specs.Graphs.{IsWellFormed, jobs_in_hyperperiod}
-use Rattle.prl_plan.specs.Jobs.{Job, task_at, release_of}
-use Rattle.prl_plan.specs.Plans.{HaveRoom, AreShortWindows}
-use Rattle.prl_plan.specs.Precedence.{Precedes}
 use Rattle.prl_plan.proofs.RoundPeriods.{task_is}
 use Rattle.prl_plan.proofs.ShortestRepeats.{cut_repeats, cut_is_shortest}
 use Rattle.prl_dates.specs.declared.bests.First.TheVariants as firsts
-use Rattle.prl_dates.specs.declared.lanes.Lane.{Lane}
-use Rattle.prl_dates.specs.Faults.{jobs_of}
-use Rattle.prl_dates.specs.code.Families.{IsRound}
-use Rattle.prl_dates.specs.code.Lanes.{AreLanes}
-use Rattle.prl_dates.specs.code.Indices.{jobs_before, index_of, dates_of}
-use Rattle.prl_dates.specs.code.Tables.{LeaveAll, IsFirstTable, AreFinal, AreUpperDates}
-use Rattle.prl_plan.specs.Repeats.{IsLeastRepeat}
-use Rattle.prl_dates.specs.code.Windows.{window_of, AreWindowsOf, AreWindows}
+use Rattle.prl_dates.specs.Vocabulary.{Lane, jobs_of, IsRound, AreLanes, jobs_before, index_of, dates_of, LeaveAll, IsFirstTable, AreFinal, AreUpperDates, window_of, AreWindowsOf, AreWindows}
 use Rattle.prl_dates.proofs.BestRounds.{above_release, least_releases}
 use Rattle.prl_dates.proofs.ChainEnds.{both_inside}
 use Rattle.prl_dates.proofs.Settles.{date_here}

@@ -4,10 +4,7 @@ use Rattle.std.specs.Prelude.{slice_index}
 use Rattle.std.proofs.lemmas.List.{ext_get_or}
 use Rattle.std.proofs.lemmas.Bool.{cases_lt}
 use Rattle.prl_plan.specs.declared.graphs.TaskGraph.{TaskGraph}
-use Rattle.prl_dates.specs.declared.bests.First.{First}
-use Rattle.prl_dates.specs.Faults.{jobs_of}
-use Rattle.prl_dates.specs.code.Indices.{jobs_before}
-use Rattle.prl_dates.specs.code.Tables.{first_of, IsFirstTable, AreWithin}
+use Rattle.prl_dates.specs.Vocabulary.{First, jobs_of, jobs_before, first_of, IsFirstTable, AreWithin}
 use Rattle.prl_dates.proofs.Indices.{before_rises}
 use Rattle.prl_dates.proofs.Readings.{before_next}
 

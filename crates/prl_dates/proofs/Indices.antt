@@ -6,14 +6,11 @@ use Rattle.std.proofs.lemmas.Bool.{cases_lt}
 use Rattle.std.proofs.lemmas.Nat.{mod_below}
 use Rattle.std.proofs.lemmas.Int.{ints}
 use Rattle.std.proofs.lemmas.List.Sums.{sum_by-cons}
+use Rattle.prl_plan.specs.Vocabulary.{place_in, task_at, release_of, no_task, IsWellFormed, jobs_in_hyperperiod}
 use Rattle.prl_plan.specs.declared.graphs.Task.{Task}
 use Rattle.prl_plan.specs.declared.graphs.TaskGraph.{TaskGraph}
-use Rattle.prl_plan.specs.Dates.{place_in}
-use Rattle.prl_plan.specs.Jobs.{task_at, release_of, no_task}
-use Rattle.prl_plan.specs.Graphs.{IsWellFormed, jobs_in_hyperperiod}
 use Rattle.prl_plan.proofs.RoundPeriods.{task_is, release_shift}
-use Rattle.prl_dates.specs.Faults.{jobs_of}
-use Rattle.prl_dates.specs.code.Indices.{jobs_before, index_of}
+use Rattle.prl_dates.specs.Vocabulary.{jobs_of, jobs_before, index_of}
 
 -- a number's place in a list that repeats in both directions comes again a list's length later
 pub place_again : (len : ℕ) → 1 ≤ len → (m : ℤ) → place_in (m +ℤ pos len) len ≡ place_in m len

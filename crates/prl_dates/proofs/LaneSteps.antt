@@ -7,27 +7,18 @@ use Rattle.std.proofs.Math.Nat.{mul-le-mul_left, mul-le-mul_right}
 use Rattle.std.proofs.lemmas.Bool.{cases_lt}
 use Rattle.std.proofs.lemmas.Int.{ints, clamps}
 use Rattle.std.proofs.lemmas.Option.{slice_get_within, slice_get-get_or}
+use Rattle.prl_base.specs.Operators.{preceding_number}
+use Rattle.prl_base.specs.declared.operators.Clock.{Clock}
 use Rattle.prl_base.specs.declared.operators.Op.{Op}
 use Rattle.prl_base.specs.declared.operators.Op.TheVariants as operators
-use Rattle.prl_base.specs.declared.operators.Clock.{Clock}
-use Rattle.prl_base.specs.Operators.{preceding_number}
+use Rattle.prl_plan.specs.Vocabulary.{task_at, release_of, place_in, preceding, ComesFrom, no_edge, IsWellFormed, IsEdge, TakeClock, Fits64, PrecedingFits}
 use Rattle.prl_plan.specs.declared.graphs.Edge.{Edge}
 use Rattle.prl_plan.specs.declared.graphs.TaskGraph.{TaskGraph}
-use Rattle.prl_plan.specs.Jobs.{task_at, release_of}
-use Rattle.prl_plan.specs.Dates.{place_in}
-use Rattle.prl_plan.specs.Precedence.{preceding, ComesFrom}
-use Rattle.prl_plan.specs.Plans.{no_edge}
-use Rattle.prl_plan.specs.Graphs.{IsWellFormed, IsEdge, TakeClock}
-use Rattle.prl_plan.specs.Ranges.{Fits64, PrecedingFits}
 use Rattle.prl_plan.proofs.NotLater.{released_first}
 use Rattle.prl_plan.proofs.RoundLaws.{source_inside}
 use Rattle.prl_plan.proofs.RoundPeriods.{edge_takes, task_is}
 use Rattle.prl_plan.proofs.WalkNumbers.{preceding_fits, number_within}
-use Rattle.prl_dates.specs.declared.lanes.Lane.{Lane}
-use Rattle.prl_dates.specs.declared.lanes.Link.{Link}
-use Rattle.prl_dates.specs.Faults.{jobs_of}
-use Rattle.prl_dates.specs.code.Indices.{jobs_before}
-use Rattle.prl_dates.specs.code.Lanes.{Joins, IsGreatestBefore, no_link, link_at, IsLinkOf, IsLane, IsJoined, JoinsAt, AreGreatest, AreLanesOf, AreLanes}
+use Rattle.prl_dates.specs.Vocabulary.{Lane, Link, jobs_of, jobs_before, Joins, IsGreatestBefore, no_link, link_at, IsLinkOf, IsLane, IsJoined, JoinsAt, AreGreatest, AreLanesOf, AreLanes}
 use Rattle.prl_dates.proofs.Indices.{jobs_are, place_self}
 use Rattle.prl_dates.proofs.Readings.{fits_rest, item_stands}
 

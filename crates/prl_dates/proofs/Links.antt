@@ -2,19 +2,13 @@
 use Rattle.std.proofs.Common.{◌≡◌, ◌*◌, ◌<◌, ◌≤◌, ℕ, length, refl, sym, ◌∙◌, ap, subst, arith}
 use Rattle.std.specs.Prelude.{ℤ, pos, ◌+ℤ◌, ◌-ℤ◌}
 use Rattle.std.proofs.lemmas.Int.{ints}
+use Rattle.prl_plan.specs.Vocabulary.{place_in, task_at, preceding, Precedes, IsWellFormed, IsEdge}
 use Rattle.prl_plan.specs.declared.graphs.Edge.{Edge}
 use Rattle.prl_plan.specs.declared.graphs.TaskGraph.{TaskGraph}
-use Rattle.prl_plan.specs.Dates.{place_in}
-use Rattle.prl_plan.specs.Jobs.{task_at}
-use Rattle.prl_plan.specs.Precedence.{preceding, Precedes}
-use Rattle.prl_plan.specs.Graphs.{IsWellFormed, IsEdge}
 use Rattle.prl_plan.proofs.Periods.{everywhere}
 use Rattle.prl_plan.proofs.RoundLaws.{source_inside}
 use Rattle.prl_plan.proofs.RoundPeriods.{edge_precedes}
-use Rattle.prl_dates.specs.declared.lanes.Lane.{Lane}
-use Rattle.prl_dates.specs.Faults.{jobs_of}
-use Rattle.prl_dates.specs.code.Indices.{index_of}
-use Rattle.prl_dates.specs.code.Lanes.{Joins, link_at, IsLink, IsLane}
+use Rattle.prl_dates.specs.Vocabulary.{Lane, jobs_of, index_of, Joins, link_at, IsLink, IsLane}
 use Rattle.prl_dates.proofs.Indices.{place_again, place_self, jobs_are, some_jobs, index_again, release_again}
 
 module _ (graph : TaskGraph) (good : IsWellFormed graph) where

@@ -6,17 +6,10 @@ use Rattle.std.proofs.lemmas.Bool.{cases_lt}
 use Rattle.std.proofs.lemmas.Int.{ints}
 use Rattle.std.proofs.lemmas.List.{length-set}
 use Rattle.std.proofs.lemmas.List.Sums.{sum_by-set}
+use Rattle.prl_plan.specs.Vocabulary.{AreDeadlines, Family, place_in, IsWellFormed, task_at, release_of}
 use Rattle.prl_plan.specs.declared.graphs.TaskGraph.{TaskGraph}
-use Rattle.prl_plan.specs.Dates.{AreDeadlines, Family, place_in}
-use Rattle.prl_plan.specs.Graphs.{IsWellFormed}
-use Rattle.prl_plan.specs.Jobs.{task_at, release_of}
 use Rattle.prl_plan.proofs.RoundPeriods.{task_is}
-use Rattle.prl_dates.specs.declared.lanes.Lane.{Lane}
-use Rattle.prl_dates.specs.declared.lanes.Link.{Link}
-use Rattle.prl_dates.specs.Faults.{jobs_of}
-use Rattle.prl_dates.specs.code.Lanes.{no_link, link_at, IsLink, IsLane}
-use Rattle.prl_dates.specs.code.Indices.{jobs_before, index_of, dates_of}
-use Rattle.prl_dates.specs.code.Tables.{Leaves, AreUpperDates, IsLowering, ArePassed}
+use Rattle.prl_dates.specs.Vocabulary.{Lane, Link, jobs_of, no_link, link_at, IsLink, IsLane, jobs_before, index_of, dates_of, Leaves, AreUpperDates, IsLowering, ArePassed}
 use Rattle.prl_dates.proofs.Links.{link_from, link_precedes}
 use Rattle.prl_dates.proofs.RoundSteps.{lane_more, links_from, links_to}
 use Rattle.prl_dates.proofs.Indices.{one_index, place_below, some_jobs}

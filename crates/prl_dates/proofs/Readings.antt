@@ -6,17 +6,14 @@ use Rattle.std.proofs.Math.IntN.{pred_ℤ}
 use Rattle.std.proofs.lemmas.List.{get_or_default}
 use Rattle.std.proofs.lemmas.Option.{slice_get-get_or}
 use Rattle.std.proofs.lemmas.Bool.{cases_lt}
+use Rattle.prl_base.specs.Operators.{preceding_number}
 use Rattle.prl_base.specs.declared.operators.Op.{Op}
 use Rattle.prl_base.specs.declared.operators.Op.TheVariants as operators
-use Rattle.prl_base.specs.Operators.{preceding_number}
+use Rattle.prl_plan.specs.Vocabulary.{IsWellFormed, jobs_in_hyperperiod, task_at, no_task, PrecedingFits}
 use Rattle.prl_plan.specs.declared.graphs.Task.{Task}
 use Rattle.prl_plan.specs.declared.graphs.TaskGraph.{TaskGraph}
-use Rattle.prl_plan.specs.Graphs.{IsWellFormed, jobs_in_hyperperiod}
-use Rattle.prl_plan.specs.Jobs.{task_at, no_task}
 use Rattle.prl_plan.proofs.Floors.{suc_is, pred_is}
-use Rattle.prl_plan.specs.Ranges.{PrecedingFits}
-use Rattle.prl_dates.specs.Faults.{jobs_of}
-use Rattle.prl_dates.specs.code.Indices.{jobs_before}
+use Rattle.prl_dates.specs.Vocabulary.{jobs_of, jobs_before}
 use Rattle.prl_dates.proofs.Indices.{before_rises, before_all}
 
 -- an element of a list is the one that stands there

@@ -3,16 +3,10 @@ use Rattle.std.proofs.Common.{◌≡◌, ◌+◌, ◌<◌, ◌≤◌, ◌^◌, �
 use Rattle.std.specs.Prelude.{slice_get, slice_index}
 use Rattle.std.proofs.lemmas.Bool.{cases_lt}
 use Rattle.std.proofs.lemmas.Option.{slice_get_within}
+use Rattle.prl_plan.specs.Vocabulary.{place_in, task_at, IsWellFormed, jobs_in_hyperperiod}
 use Rattle.prl_plan.specs.declared.graphs.TaskGraph.{TaskGraph}
-use Rattle.prl_plan.specs.Dates.{place_in}
-use Rattle.prl_plan.specs.Jobs.{task_at}
-use Rattle.prl_plan.specs.Graphs.{IsWellFormed, jobs_in_hyperperiod}
 use Rattle.prl_plan.proofs.RoundPeriods.{task_is}
-use Rattle.prl_dates.specs.declared.lanes.Lane.{Lane}
-use Rattle.prl_dates.specs.Faults.{jobs_of}
-use Rattle.prl_dates.specs.code.Indices.{index_of}
-use Rattle.prl_dates.specs.code.Lanes.{link_at, IsLane, AreEachLane}
-use Rattle.prl_dates.specs.code.Tables.{Leaves, Meets, AreRaised, AreRound, AreSettled, AreMarked, AreWithin}
+use Rattle.prl_dates.specs.Vocabulary.{Lane, jobs_of, index_of, link_at, IsLane, AreEachLane, Leaves, Meets, AreRaised, AreRound, AreSettled, AreMarked, AreWithin}
 use Rattle.prl_dates.proofs.Indices.{before_rises, before_all, index_below, place_below, some_jobs}
 
 same_lane : (lanes : List Lane) (l : ℕ) (a b : Lane) → slice_get lanes l ≡ Some a → slice_get lanes l ≡ Some b → a ≡ b

@@ -5,23 +5,16 @@ use Rattle.std.proofs.Math.IntN.{*ℤ_comm}
 use Rattle.std.proofs.lemmas.Bool.{cases_lt}
 use Rattle.std.proofs.lemmas.Int.{ints}
 use Rattle.prl_base.specs.declared.numbers.TaskNo.{TaskNo}
+use Rattle.prl_plan.specs.Vocabulary.{needs_of, EndsIn, IsBest, place_in, IsWellFormed, jobs_in_hyperperiod, Job, task_at, release_of, deadline_of}
 use Rattle.prl_plan.specs.declared.graphs.Task.{Task}
 use Rattle.prl_plan.specs.declared.graphs.TaskGraph.{TaskGraph}
-use Rattle.prl_plan.specs.Chains.{needs_of, EndsIn, IsBest}
-use Rattle.prl_plan.specs.Dates.{place_in}
-use Rattle.prl_plan.specs.Graphs.{IsWellFormed, jobs_in_hyperperiod}
-use Rattle.prl_plan.specs.Jobs.{Job, task_at, release_of, deadline_of}
 use Rattle.prl_plan.proofs.ChainLaws.{one_best}
 use Rattle.prl_plan.proofs.Floors.{mono}
 use Rattle.prl_plan.proofs.RoundPeriods.{task_is}
 use Rattle.prl_dates.specs.declared.bests.First.TheVariants as firsts
 use Rattle.prl_dates.specs.declared.faults.DateFault.TheVariants as faults
-use Rattle.prl_dates.specs.declared.lanes.Lane.{Lane}
-use Rattle.prl_dates.specs.Faults.{jobs_of, IsOfPeriod, IsLate, EndsLoop, NoneOfPeriod, IsSomehowLate, IsDateFault}
-use Rattle.prl_dates.specs.code.Families.{AreBests}
-use Rattle.prl_dates.specs.code.Lanes.{AreLanes, AreEachLane}
-use Rattle.prl_dates.specs.code.Indices.{jobs_before, dates_of}
-use Rattle.prl_dates.specs.code.Tables.{AreRound, AreSettled, IsFirstTable, IsNowhereAbove, IsFirstAbove}
+use Rattle.prl_dates.specs.Vocabulary.{Lane, jobs_of, IsOfPeriod, IsLate, EndsLoop, NoneOfPeriod, IsSomehowLate, IsDateFault, AreBests, AreLanes, AreEachLane, jobs_before, dates_of, AreRound}
+use Rattle.prl_dates.specs.Vocabulary.{AreSettled, IsFirstTable, IsNowhereAbove, IsFirstAbove}
 use Rattle.prl_dates.proofs.BestRounds.{next_bests}
 use Rattle.prl_dates.proofs.Indices.{place_below, place_self, some_jobs, index_below}
 use Rattle.prl_dates.proofs.LaneSteps.{date_small}

@@ -6,25 +6,15 @@ use Rattle.std.proofs.lemmas.Bool.{cases_eq, cases_lt}
 use Rattle.std.proofs.lemmas.List.{length-set, length_push, get_or_push, get_or_append_left}
 use Rattle.std.proofs.lemmas.Option.{same_Some, slice_get_within}
 use Rattle.prl_base.specs.declared.numbers.TaskNo.{TaskNo}
+use Rattle.prl_plan.specs.Vocabulary.{AreEncodedDates, no_window, IsWellFormed, jobs_in_hyperperiod, task_at, deadline_of, HaveRoom, AreShortWindows}
 use Rattle.prl_plan.specs.declared.graphs.TaskGraph.{TaskGraph}
 use Rattle.prl_plan.specs.declared.tables.Window.{Window}
-use Rattle.prl_plan.specs.Dates.{AreEncodedDates, no_window}
-use Rattle.prl_plan.specs.Graphs.{IsWellFormed, jobs_in_hyperperiod}
-use Rattle.prl_plan.specs.Jobs.{task_at, deadline_of}
-use Rattle.prl_plan.specs.Plans.{HaveRoom, AreShortWindows}
 use Rattle.prl_plan.proofs.Searches.{IsLeastSuch, all_or_least, listed, listed_long, listed_or, places_tell}
 use Rattle.prl_plan.proofs.ShortestRepeats.{some_repeat}
-use Rattle.prl_dates.specs.declared.bests.First.{First}
+use Rattle.prl_dates.specs.Vocabulary.{First, DateFault, Lane, jobs_of, IsOfPeriod, IsDateFault, IsOfGraph, AreBests, jobs_before, dates_of, link_at, IsLane, AreLanes, Leaves, Meets, AreRaised}
+use Rattle.prl_dates.specs.Vocabulary.{AreRound, first_of, IsFirstTable, IsNowhereAbove, IsFirstAbove, AreFinal, LeaveAll, AreUpperDates, window_of, AreWindowsOf, AreWindows}
 use Rattle.prl_dates.specs.declared.bests.First.TheVariants as firsts
-use Rattle.prl_dates.specs.declared.faults.DateFault.{DateFault}
 use Rattle.prl_dates.specs.declared.faults.DateFault.TheVariants as faults
-use Rattle.prl_dates.specs.declared.lanes.Lane.{Lane}
-use Rattle.prl_dates.specs.Faults.{jobs_of, IsOfPeriod, IsDateFault, IsOfGraph}
-use Rattle.prl_dates.specs.code.Families.{AreBests}
-use Rattle.prl_dates.specs.code.Indices.{jobs_before, dates_of}
-use Rattle.prl_dates.specs.code.Lanes.{link_at, IsLane, AreLanes}
-use Rattle.prl_dates.specs.code.Tables.{Leaves, Meets, AreRaised, AreRound, first_of, IsFirstTable, IsNowhereAbove, IsFirstAbove, AreFinal, LeaveAll, AreUpperDates}
-use Rattle.prl_dates.specs.code.Windows.{window_of, AreWindowsOf, AreWindows}
 use Rattle.prl_dates.proofs.BestRounds.{next_bests}
 use Rattle.prl_dates.proofs.DateTables.{first_dates, floors_leave, dates_made, room_made, short_made, cut_made}
 use Rattle.prl_dates.proofs.FirstTables.{first_more, first_none}

@@ -5,21 +5,13 @@ use Rattle.std.specs.Int.{int_max}
 use Rattle.std.proofs.lemmas.Bool.{cases_eq}
 use Rattle.std.proofs.lemmas.Option.{slice_get-get_or, slice_get_within, same_Some}
 use Rattle.prl_base.specs.declared.numbers.TaskNo.{TaskNo}
+use Rattle.prl_plan.specs.Vocabulary.{place_in, IsWellFormed, task_at, release_of, edge_at, no_edge, preceding, ComesFrom}
 use Rattle.prl_plan.specs.declared.graphs.Edge.{Edge}
 use Rattle.prl_plan.specs.declared.graphs.Producer.{Producer}
-use Rattle.prl_plan.specs.declared.graphs.Producer.TheVariants as producers
 use Rattle.prl_plan.specs.declared.graphs.TaskGraph.{TaskGraph}
-use Rattle.prl_plan.specs.Dates.{place_in}
-use Rattle.prl_plan.specs.Graphs.{IsWellFormed}
-use Rattle.prl_plan.specs.Jobs.{task_at, release_of}
-use Rattle.prl_plan.specs.Plans.{edge_at, no_edge}
-use Rattle.prl_plan.specs.Precedence.{preceding, ComesFrom}
+use Rattle.prl_plan.specs.declared.graphs.Producer.TheVariants as producers
 use Rattle.prl_plan.proofs.Searches.{listed, listed_long, listed_at, listed_or}
-use Rattle.prl_dates.specs.declared.lanes.Lane.{Lane}
-use Rattle.prl_dates.specs.declared.lanes.Link.{Link}
-use Rattle.prl_dates.specs.Faults.{jobs_of}
-use Rattle.prl_dates.specs.code.Indices.{jobs_before}
-use Rattle.prl_dates.specs.code.Lanes.{JoinsAt, AreGreatest, IsLinkOf, IsLane, AreLanesOf, AreLanes}
+use Rattle.prl_dates.specs.Vocabulary.{Lane, Link, jobs_of, jobs_before, JoinsAt, AreGreatest, IsLinkOf, IsLane, AreLanesOf, AreLanes}
 use Rattle.prl_dates.proofs.LaneSteps.{joins_inside, are_near, link_made, greatest_first, greatest_more, greatest_same, greatest_all, lane_made, lanes_same, lanes_more, lanes_begin, lanes_all}
 
 module _ (graph : TaskGraph) (good : IsWellFormed graph) where

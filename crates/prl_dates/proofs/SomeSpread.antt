@@ -2,19 +2,11 @@
 use Rattle.std.proofs.Common.{◌≡◌, ◌+◌, ◌-◌, ◌*◌, ◌≤◌, ◌^◌, ◌⊎◌, ◌++◌, ℕ, zero, suc, List, [], ◌∷◌, length, sum, inl, inr, refl, sym, ◌∙◌, subst, arith}
 use Rattle.std.specs.Prelude.{slice_index}
 use Rattle.std.proofs.lemmas.Bool.{cases_eq}
+use Rattle.prl_plan.specs.Vocabulary.{IsWellFormed, jobs_in_hyperperiod, task_at, PlanView, IsPlan, IsSpread}
 use Rattle.prl_plan.specs.declared.graphs.TaskGraph.{TaskGraph}
 use Rattle.prl_plan.specs.declared.tables.Window.{Window}
-use Rattle.prl_plan.specs.Graphs.{IsWellFormed, jobs_in_hyperperiod}
-use Rattle.prl_plan.specs.Jobs.{task_at}
-use Rattle.prl_plan.specs.Plans.{PlanView, IsPlan}
-use Rattle.prl_plan.specs.Spread.{IsSpread}
-use Rattle.prl_dates.specs.declared.lanes.Lane.{Lane}
-use Rattle.prl_dates.specs.declared.spreads.Bound.{Bound}
+use Rattle.prl_dates.specs.Vocabulary.{Lane, Bound, jobs_of, AreEachLane, bound_of, IsTablePart, AreRaisedAcross, AreEndsAcross, IsRising, IsLeastAbove, AreRound}
 use Rattle.prl_dates.specs.declared.spreads.Bound.TheVariants as bounds
-use Rattle.prl_dates.specs.Faults.{jobs_of}
-use Rattle.prl_dates.specs.code.Lanes.{AreEachLane}
-use Rattle.prl_dates.specs.code.Spreads.{bound_of, IsTablePart, AreRaisedAcross, AreEndsAcross, IsRising, IsLeastAbove}
-use Rattle.prl_dates.specs.code.Tables.{AreRound}
 use Rattle.prl_dates.proofs.RoundSteps.{links_to}
 use Rattle.prl_dates.proofs.SomeDates.{lane_here, some_raised, some_round, some_windows}
 use Rattle.prl_dates.proofs.SomeLanes.{lanes_exist}

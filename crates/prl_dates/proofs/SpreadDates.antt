@@ -4,24 +4,14 @@ use Rattle.std.specs.Prelude.{ℤ, pos, ◌+ℤ◌, ◌-ℤ◌, ◌≤ℤ◌, fi
 use Rattle.std.proofs.lemmas.Bool.{eq-eqb, eqb-true}
 use Rattle.std.proofs.lemmas.Int.{ints}
 use Rattle.std.proofs.lemmas.Option.{slice_get_within}
+use Rattle.prl_plan.specs.Vocabulary.{Family, RepeatsByHyper, place_in, window_at, encoded_release, encoded_deadline, jobs_in_hyperperiod, Job, task_at, release_of, PlanView, IsPlan, Precedes}
+use Rattle.prl_plan.specs.Vocabulary.{AreTogether, AreSpreadReleases, IsSpread}
 use Rattle.prl_plan.specs.declared.tables.Window.{Window}
-use Rattle.prl_plan.specs.Dates.{Family, RepeatsByHyper, place_in, window_at, encoded_release, encoded_deadline}
-use Rattle.prl_plan.specs.Graphs.{jobs_in_hyperperiod}
-use Rattle.prl_plan.specs.Jobs.{Job, task_at, release_of}
-use Rattle.prl_plan.specs.Plans.{PlanView, IsPlan}
-use Rattle.prl_plan.specs.Precedence.{Precedes}
-use Rattle.prl_plan.specs.Spread.{AreTogether, AreSpreadReleases, IsSpread}
 use Rattle.prl_plan.proofs.DatePeriods.{least_repeat, greatest_repeat}
 use Rattle.prl_plan.proofs.RoundPeriods.{task_is}
-use Rattle.prl_dates.specs.declared.lanes.Lane.{Lane}
-use Rattle.prl_dates.specs.declared.spreads.Bound.{Bound}
+use Rattle.prl_dates.specs.Vocabulary.{Lane, Bound, jobs_of, jobs_before, index_of, dates_of, AreLanes, AreEachLane, IsTableOf, AreEndsAcross, IsBelow, KeepsLanes, HasCeiling, IsLeastAbove}
+use Rattle.prl_dates.specs.Vocabulary.{AreSpreadEnds, AreWithin, AreWindows}
 use Rattle.prl_dates.specs.declared.spreads.Bound.TheVariants as bounds
-use Rattle.prl_dates.specs.Faults.{jobs_of}
-use Rattle.prl_dates.specs.code.Indices.{jobs_before, index_of, dates_of}
-use Rattle.prl_dates.specs.code.Lanes.{AreLanes, AreEachLane}
-use Rattle.prl_dates.specs.code.Spreads.{IsTableOf, AreEndsAcross, IsBelow, KeepsLanes, HasCeiling, IsLeastAbove, AreSpreadEnds}
-use Rattle.prl_dates.specs.code.Tables.{AreWithin}
-use Rattle.prl_dates.specs.code.Windows.{AreWindows}
 use Rattle.prl_dates.proofs.ChainEnds.{both_inside}
 use Rattle.prl_dates.proofs.Indices.{before_all, place_below, some_jobs}
 use Rattle.prl_dates.proofs.Links.{link_precedes}

@@ -3,17 +3,11 @@ use Rattle.std.proofs.Common.{◌≡◌, ◌+◌, ◌-◌, ◌*◌, ◌<◌, ◌
 use Rattle.std.specs.Prelude.{ℤ, pos, ◌+ℤ◌, ◌≤ℤ◌, sum, slice_get, slice_index}
 use Rattle.std.proofs.lemmas.Bool.{cases_lt}
 use Rattle.std.proofs.lemmas.Int.{ints}
+use Rattle.prl_plan.specs.Vocabulary.{Family, IsWellFormed, jobs_in_hyperperiod, task_at, deadline_of, AreTogether}
 use Rattle.prl_plan.specs.declared.graphs.TaskGraph.{TaskGraph}
-use Rattle.prl_plan.specs.Dates.{Family}
-use Rattle.prl_plan.specs.Graphs.{IsWellFormed, jobs_in_hyperperiod}
-use Rattle.prl_plan.specs.Jobs.{task_at, deadline_of}
-use Rattle.prl_plan.specs.Spread.{AreTogether}
 use Rattle.prl_plan.proofs.RoundPeriods.{task_is}
-use Rattle.prl_dates.specs.declared.lanes.Lane.{Lane}
-use Rattle.prl_dates.specs.code.Indices.{jobs_before, index_of, dates_of}
-use Rattle.prl_dates.specs.code.Lanes.{IsLink, AreEachLane}
-use Rattle.prl_dates.specs.code.Spreads.{AreRaisedAcross, IsBelow, KeepsLanes, HasCeiling, IsRising, IsLeastAbove}
-use Rattle.prl_dates.specs.code.Tables.{Leaves, AreRaised, AreRound, AreWithin}
+use Rattle.prl_dates.specs.Vocabulary.{Lane, jobs_before, index_of, dates_of, IsLink, AreEachLane, AreRaisedAcross, IsBelow, KeepsLanes, HasCeiling, IsRising, IsLeastAbove, Leaves, AreRaised}
+use Rattle.prl_dates.specs.Vocabulary.{AreRound, AreWithin}
 use Rattle.prl_dates.proofs.FirstTables.{get_past, index_found}
 use Rattle.prl_dates.proofs.Indices.{before_all}
 use Rattle.prl_dates.proofs.RoundSteps.{lane_more, still_meets}

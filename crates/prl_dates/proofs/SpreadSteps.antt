@@ -4,11 +4,7 @@ use Rattle.std.specs.Prelude.{sum, filter, slice_get, slice_index}
 use Rattle.std.proofs.lemmas.Bool.{cases_lt}
 use Rattle.std.proofs.lemmas.List.Sums.{sum_by-cons}
 use Rattle.prl_plan.specs.Plans.{PlanView}
-use Rattle.prl_dates.specs.declared.spreads.Bound.{Bound}
-use Rattle.prl_dates.specs.Faults.{jobs_of}
-use Rattle.prl_dates.specs.code.Indices.{jobs_before}
-use Rattle.prl_dates.specs.code.Spreads.{bound_of, IsTablePart}
-use Rattle.prl_dates.specs.code.Tables.{AreWithin}
+use Rattle.prl_dates.specs.Vocabulary.{Bound, jobs_of, jobs_before, bound_of, IsTablePart, AreWithin}
 use Rattle.prl_dates.proofs.FirstTables.{get_first, get_second, length_both}
 use Rattle.prl_dates.proofs.Indices.{before_rises}
 use Rattle.prl_dates.proofs.Readings.{before_next}

@@ -3,18 +3,10 @@ use Rattle.std.proofs.Common.{◌≡◌, ◌+◌, ◌<◌, ◌⊎◌, ℕ, List,
 use Rattle.std.specs.Prelude.{ℤ, pos, ◌+ℤ◌, ◌≤ℤ◌, slice_get, slice_index}
 use Rattle.std.proofs.lemmas.Int.{ints}
 use Rattle.std.proofs.lemmas.Option.{slice_get_within}
+use Rattle.prl_plan.specs.Vocabulary.{place_in, Job, task_at, release_of, ComesFrom, Precedes, PrecedesAlong, IsWellFormed}
 use Rattle.prl_plan.specs.declared.graphs.Edge.{Edge}
 use Rattle.prl_plan.specs.declared.graphs.TaskGraph.{TaskGraph}
-use Rattle.prl_plan.specs.Dates.{place_in}
-use Rattle.prl_plan.specs.Jobs.{Job, task_at, release_of}
-use Rattle.prl_plan.specs.Precedence.{ComesFrom, Precedes, PrecedesAlong}
-use Rattle.prl_plan.specs.Graphs.{IsWellFormed}
-use Rattle.prl_dates.specs.declared.lanes.Lane.{Lane}
-use Rattle.prl_dates.specs.Faults.{jobs_of}
-use Rattle.prl_dates.specs.code.Families.{IsRound}
-use Rattle.prl_dates.specs.code.Indices.{jobs_before, index_of, dates_of}
-use Rattle.prl_dates.specs.code.Lanes.{Joins, link_at, IsLink, IsLane, AreLanes}
-use Rattle.prl_dates.specs.code.Tables.{Leaves, Meets, AreRound}
+use Rattle.prl_dates.specs.Vocabulary.{Lane, jobs_of, IsRound, jobs_before, index_of, dates_of, Joins, link_at, IsLink, IsLane, AreLanes, Leaves, Meets, AreRound}
 use Rattle.prl_dates.proofs.Links.{link_to, link_precedes}
 use Rattle.prl_dates.proofs.Indices.{one_index, place_below, some_jobs}
 

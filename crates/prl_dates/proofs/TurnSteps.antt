@@ -6,16 +6,13 @@ use lib.IntN.{suc_ℤ, pred_ℤ}
 use Rattle.std.proofs.Math.Nat.{div-mul_cancel, div-le_self, mul-le-mul_left}
 use Rattle.std.proofs.lemmas.Int.{ints, to_z-of_z, to_z_pos}
 use Rattle.std.proofs.lemmas.List.{get_or_default, take_more}
+use Rattle.prl_base.specs.Operators.{preceding_number, floor_div}
 use Rattle.prl_base.specs.declared.operators.Op.{Op}
 use Rattle.prl_base.specs.declared.operators.Op.TheVariants as operators
-use Rattle.prl_base.specs.Operators.{preceding_number, floor_div}
-use Rattle.prl_plan.specs.Precedence.{preceding}
-use Rattle.prl_plan.specs.Ranges.{Fits64, HasFactor, PrecedingFits}
+use Rattle.prl_plan.specs.Vocabulary.{preceding, Fits64, HasFactor, PrecedingFits}
 use Rattle.prl_plan.proofs.Floors.{suc_is}
 use Rattle.prl_plan.proofs.Periods.{floor_shift, mul_plus}
-use Rattle.prl_dates.specs.declared.turns.Turn.{Turn}
-use Rattle.prl_dates.specs.code.Runs.{AreFitting}
-use Rattle.prl_dates.specs.code.Turns.{StepsBy, IsTurnUnder}
+use Rattle.prl_dates.specs.Vocabulary.{Turn, AreFitting, StepsBy, IsTurnUnder}
 use Rattle.prl_dates.proofs.LaneSteps.{fits_low, fits_high, fits_between}
 use Rattle.prl_dates.proofs.Readings.{fits_rest, pred_same}
 

@@ -3,17 +3,13 @@ use Rattle.std.proofs.Common.{◌≡◌, ◌+◌, ◌*◌, ◌/◌, ◌<◌, ◌
 use Rattle.std.specs.Prelude.{ℤ, pos, negsuc, ◌+ℤ◌, ◌-ℤ◌, ◌≤ℤ◌, slice_index, slice_index_or}
 use Rattle.std.proofs.Math.Nat.{mod-add-div', mul-div_cancel}
 use Rattle.std.proofs.lemmas.Int.{ints}
+use Rattle.prl_plan.specs.Vocabulary.{Family, RepeatsByHyper, place_in, no_window, window_at, IsWellFormed, task_at, release_of}
 use Rattle.prl_plan.specs.declared.graphs.TaskGraph.{TaskGraph}
 use Rattle.prl_plan.specs.declared.tables.Window.{Window}
-use Rattle.prl_plan.specs.Dates.{Family, RepeatsByHyper, place_in, no_window, window_at}
-use Rattle.prl_plan.specs.Graphs.{IsWellFormed}
-use Rattle.prl_plan.specs.Jobs.{task_at, release_of}
 use Rattle.prl_plan.proofs.DatePeriods.{families_agree}
 use Rattle.prl_plan.proofs.Periods.{everywhere, plus_mul}
 use Rattle.prl_plan.proofs.RoundPeriods.{task_is}
-use Rattle.prl_dates.specs.Faults.{jobs_of}
-use Rattle.prl_dates.specs.code.Indices.{jobs_before, index_of, dates_of}
-use Rattle.prl_dates.specs.code.Windows.{window_of, AreWindowsOf, AreWindows}
+use Rattle.prl_dates.specs.Vocabulary.{jobs_of, jobs_before, index_of, dates_of, window_of, AreWindowsOf, AreWindows}
 use Rattle.prl_dates.proofs.Indices.{place_again, place_below, place_self, jobs_are, some_jobs, index_again, release_again}
 use Rattle.prl_dates.proofs.Settles.{date_here, release_rises}
 

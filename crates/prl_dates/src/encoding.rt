@@ -1,9 +1,8 @@
 //! Encoded dates of a task graph.
 
 ghost use Rattle.std.specs.Prelude.{MatchResult};
-ghost use Rattle.prl_plan.specs.Dates.{AreEncodedDates};
-ghost use Rattle.prl_plan.specs.Graphs.{IsWellFormed};
-ghost use Rattle.prl_plan.specs.Plans.{HaveRoom, AreShortWindows};
+ghost use Rattle.prl_plan.specs.Vocabulary.{AreEncodedDates, IsWellFormed, HaveRoom};
+ghost use Rattle.prl_plan.specs.Vocabulary.{AreShortWindows};
 ghost use Rattle.prl_dates.specs.Faults.{IsDateFault, IsOfGraph, HasNarrowChain, HasNoNarrowChain};
 
 use crate::DateFault;

@@ -3,10 +3,8 @@
 
 ghost use Rattle.std.specs.Prelude.{◌≡◌, ◌+◌, ◌<◌, ◌≤◌, ◌^◌, ◌↔◌, ℕ, ℤ, pos, length, IfOk, IsTrue, Some, slice_get, slice_index_or};
 ghost use Rattle.std.specs.Int.{int_max};
+ghost use Rattle.prl_plan.specs.Vocabulary.{IsWellFormed, task_at, release_of, ComesFrom};
 ghost use Rattle.prl_plan.specs.declared.graphs.Edge.{Edge};
-ghost use Rattle.prl_plan.specs.Graphs.{IsWellFormed};
-ghost use Rattle.prl_plan.specs.Jobs.{task_at, release_of};
-ghost use Rattle.prl_plan.specs.Precedence.{ComesFrom};
 ghost use Rattle.prl_dates.specs.Faults.{jobs_of};
 ghost use Rattle.prl_dates.specs.code.Lanes.{Joins, AreGreatest, IsGreatestBefore, JoinsAt, IsLinkOf, IsLane, AreLanes, IsJoined, AreLanesOf};
 ghost use Rattle.prl_dates.specs.code.Indices.{jobs_before};

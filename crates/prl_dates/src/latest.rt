@@ -1,8 +1,7 @@
 //! The greatest deadlines: lowered along single links until none asks for an earlier one.
 
 ghost use Rattle.std.specs.Prelude.{◌≡◌, ◌+◌, ◌<◌, ◌≤◌, ℕ, length, sum, true, false, slice_get};
-ghost use Rattle.prl_plan.specs.Graphs.{IsWellFormed};
-ghost use Rattle.prl_plan.specs.Jobs.{task_at};
+ghost use Rattle.prl_plan.specs.Vocabulary.{IsWellFormed, task_at};
 ghost use Rattle.prl_dates.specs.code.Lanes.{IsLane, AreLanes};
 ghost use Rattle.prl_dates.specs.code.Tables.{Leaves, LeaveAll, AreUpperDates};
 

@@ -1,12 +1,10 @@
 //! What holds of dates and faults, as functions that do nothing: the contract of each is the law.
 
 ghost use Rattle.std.specs.Prelude.{◌≡◌, ◌⊎◌, ℕ, List, length};
+ghost use Rattle.prl_plan.specs.Vocabulary.{AreEncodedDates, IsWellFormed, PlanView, IsPlan};
+ghost use Rattle.prl_plan.specs.Vocabulary.{HaveRoom, AreShortWindows, IsSpread};
 ghost use Rattle.prl_plan.specs.declared.graphs.TaskGraph.{TaskGraph};
 ghost use Rattle.prl_plan.specs.declared.tables.Window.{Window};
-ghost use Rattle.prl_plan.specs.Dates.{AreEncodedDates};
-ghost use Rattle.prl_plan.specs.Graphs.{IsWellFormed};
-ghost use Rattle.prl_plan.specs.Plans.{PlanView, IsPlan, HaveRoom, AreShortWindows};
-ghost use Rattle.prl_plan.specs.Spread.{IsSpread};
 ghost use Rattle.prl_dates.specs.declared.faults.DateFault.{DateFault};
 ghost use Rattle.prl_dates.specs.Faults.{IsDateFault, IsOfGraph, HasNarrowChain, HasNoNarrowChain};
 

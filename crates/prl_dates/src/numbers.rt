@@ -3,12 +3,9 @@
 
 ghost use Rattle.std.specs.Prelude.{◌≡◌, ◌+◌, ◌<◌, ◌≤◌, ◌^◌, ◌∷◌, [], ℤ, pos, ◌*ℤ◌, length};
 ghost use Rattle.prl_base.specs.Operators.{preceding_number};
-ghost use Rattle.prl_plan.specs.Dates.{place_in};
+ghost use Rattle.prl_plan.specs.Vocabulary.{place_in, IsWellFormed, task_at, release_of, preceding};
+ghost use Rattle.prl_plan.specs.Vocabulary.{Fits64, PrecedingFits};
 ghost use Rattle.prl_plan.specs.declared.limits.TheConstants.{MAX_PERIOD_JOBS};
-ghost use Rattle.prl_plan.specs.Graphs.{IsWellFormed};
-ghost use Rattle.prl_plan.specs.Jobs.{task_at, release_of};
-ghost use Rattle.prl_plan.specs.Precedence.{preceding};
-ghost use Rattle.prl_plan.specs.Ranges.{Fits64, PrecedingFits};
 ghost use Rattle.prl_dates.specs.Faults.{jobs_of};
 ghost use Rattle.prl_dates.specs.code.Indices.{jobs_before};
 

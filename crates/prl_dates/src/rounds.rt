@@ -1,8 +1,8 @@
 //! Rounds: each lets the bests of the round before reach one job further.
 
 ghost use Rattle.std.specs.Prelude.{◌≡◌, ◌+◌, ◌*◌, ◌<◌, ◌≤◌, ◌^◌, ℕ, length, true, false, slice_index};
-ghost use Rattle.prl_plan.specs.declared.limits.TheConstants.{MAX_PERIOD_JOBS};
 ghost use Rattle.prl_plan.specs.Graphs.{IsWellFormed, jobs_in_hyperperiod};
+ghost use Rattle.prl_plan.specs.declared.limits.TheConstants.{MAX_PERIOD_JOBS};
 ghost use Rattle.prl_dates.specs.code.Families.{AreBests};
 ghost use Rattle.prl_dates.specs.code.Indices.{dates_of};
 ghost use Rattle.prl_dates.specs.code.Lanes.{link_at, IsLane, AreLanes, AreEachLane};

@@ -2,8 +2,7 @@
 //! each job.
 
 ghost use Rattle.std.specs.Prelude.{◌≡◌, ◌+◌, ◌<◌, ◌≤◌, ◌++◌, ◌^◌, ℕ, ℤ, pos, ◌≤ℤ◌, length, replicate, IfOk, slice_index_or};
-ghost use Rattle.prl_plan.specs.Precedence.{preceding};
-ghost use Rattle.prl_plan.specs.Ranges.{PrecedingFits};
+ghost use Rattle.prl_plan.specs.Vocabulary.{preceding, PrecedingFits};
 ghost use Rattle.prl_dates.specs.code.Runs.{Rises, AreFitting, IsSameTo};
 
 use crate::numbers::preceding_job;

@@ -2,9 +2,7 @@
 //! lanes within them until none asks for a later one.
 
 ghost use Rattle.std.specs.Prelude.{◌≡◌, ◌+◌, ◌<◌, ◌≤◌, ◌^◌, ◌==◌, ℕ, length, filter, IfOk, OnOk, slice_index};
-ghost use Rattle.prl_plan.specs.Graphs.{IsWellFormed, jobs_in_hyperperiod};
-ghost use Rattle.prl_plan.specs.Horizons.{Placement};
-ghost use Rattle.prl_plan.specs.Spread.{IsSpread};
+ghost use Rattle.prl_plan.specs.Vocabulary.{IsWellFormed, jobs_in_hyperperiod, Placement, IsSpread};
 ghost use Rattle.prl_dates.specs.declared.lanes.Lane.{Lane};
 ghost use Rattle.prl_dates.specs.declared.spreads.Bound.TheVariants as bounds;
 ghost use Rattle.prl_dates.specs.code.Lanes.{IsLane, AreLanes, AreEachLane};

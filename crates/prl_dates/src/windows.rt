@@ -1,9 +1,7 @@
 //! Windows of the jobs of a hyperperiod, as shortest lists that repeat.
 
 ghost use Rattle.std.specs.Prelude.{◌≡◌, ◌+◌, ◌<◌, ◌≤◌, ℕ, length, IfOk, slice_index, slice_index_or};
-ghost use Rattle.prl_plan.specs.Dates.{no_window};
-ghost use Rattle.prl_plan.specs.Graphs.{IsWellFormed, jobs_in_hyperperiod};
-ghost use Rattle.prl_plan.specs.Jobs.{task_at};
+ghost use Rattle.prl_plan.specs.Vocabulary.{no_window, IsWellFormed, jobs_in_hyperperiod, task_at};
 ghost use Rattle.prl_dates.specs.Faults.{jobs_of};
 ghost use Rattle.prl_dates.specs.code.Indices.{jobs_before};
 ghost use Rattle.prl_dates.specs.code.Windows.{window_of, AreWindowsOf, AreWindows};

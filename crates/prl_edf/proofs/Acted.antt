@@ -3,9 +3,8 @@ use Rattle.std.proofs.Common.{◌≡◌, ◌+◌, ◌<◌, ◌++◌, ℕ, List, 
 use Rattle.std.proofs.lemmas.Bool.{cases_lt}
 use Rattle.std.proofs.lemmas.List.{replicate_more}
 use Rattle.prl_plan.specs.declared.events.Action.TheVariants as actions
+use Rattle.prl_plan.specs.Vocabulary.{IsJob, RunConstants, action_at}
 use Rattle.prl_plan.specs.declared.events.Event.{Event}
-use Rattle.prl_plan.specs.Facts.{IsJob}
-use Rattle.prl_plan.specs.Runs.{RunConstants, action_at}
 use Rattle.prl_edf.specs.Unrolled.{HaveOneEnd}
 
 pub one_more_event : (old new start : List Event) (n : ℕ) (x : Event) → old ≡ start ++ replicate n x → new ≡ old ++ (x ∷ []) → new ≡ start ++ replicate (n + 1) x

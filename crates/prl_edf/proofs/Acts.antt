@@ -3,13 +3,11 @@ use Rattle.std.proofs.Common.{◌≡◌, ◌≢◌, ◌+◌, ◌<◌, ◌++◌, 
 use Rattle.std.proofs.lemmas.Bool.{cases_eq}
 use Rattle.std.proofs.lemmas.Grind.{get_or-set_at}
 use Rattle.std.proofs.lemmas.List.{get_or-set_other, length-set}
+use Rattle.prl_plan.specs.Vocabulary.{IsJob, RunConstants, ExecState, action_at, next_action, after_action, after_event, after_events, IsUnfinished, KeepsLegal, IsLegal}
 use Rattle.prl_plan.specs.declared.events.Action.{Action}
-use Rattle.prl_plan.specs.declared.events.Action.TheVariants as actions
 use Rattle.prl_plan.specs.declared.events.Event.{Event}
+use Rattle.prl_plan.specs.declared.events.Action.TheVariants as actions
 use Rattle.prl_plan.specs.declared.events.Event.TheVariants as events
-use Rattle.prl_plan.specs.Facts.{IsJob}
-use Rattle.prl_plan.specs.Runs.{RunConstants, ExecState, action_at, next_action, after_action, after_event, after_events}
-use Rattle.prl_plan.specs.Rules.{IsUnfinished, KeepsLegal, IsLegal}
 use Rattle.prl_edf.specs.Unrolled.{HaveOneEnd}
 
 -- a run of two lists of events

@@ -1,14 +1,7 @@
 -- The pieces of a run that meets all windows have as many ticks together as the jobs have units.
 use Rattle.std.proofs.Common.{◌≡◌, ◌+◌, ◌-◌, ℕ, zero, suc, List, [], ◌∷◌, Option, Some, None, Bool, cond, min, inl, inr, refl, ap, arith}
-use Rattle.prl_plan.specs.Facts.{HasPlanFacts}
-use Rattle.prl_plan.specs.Horizons.{sum_below}
-use Rattle.prl_plan.specs.Runs.{RunConstants}
-use Rattle.prl_edf.specs.declared.pieces.Piece.{Piece}
-use Rattle.prl_edf.specs.Demand.{sum_of_jobs}
-use Rattle.prl_edf.specs.TimedRuns.{units_before, IsTimedRun}
-use Rattle.prl_edf.specs.MetWindows.{MeetsAllWindows}
-use Rattle.prl_edf.specs.Pieces.{lies_in, run_of, ticks_of, AreLongest}
-use Rattle.prl_edf.specs.code.Extended.{EndBy}
+use Rattle.prl_plan.specs.Vocabulary.{HasPlanFacts, sum_below, RunConstants}
+use Rattle.prl_edf.specs.Vocabulary.{Piece, sum_of_jobs, units_before, IsTimedRun, MeetsAllWindows, lies_in, run_of, ticks_of, AreLongest, EndBy}
 use Rattle.prl_edf.proofs.PieceLists.{lies, lies_not, end_later}
 use Rattle.prl_edf.proofs.Skips.{run_in, run_out, none_between, in_or_out}
 use Rattle.prl_edf.proofs.Sums.{sum_plus, jobs_none, jobs_rise, jobs_grow, jobs_by_one}

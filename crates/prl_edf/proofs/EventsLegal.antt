@@ -4,15 +4,10 @@ use Rattle.std.proofs.lemmas.Bool.{cases_lt, cases_eq}
 use Rattle.std.proofs.Math.ListN.{get_or-eq_default}
 use Rattle.std.proofs.lemmas.List.{get_or-replicate, length-replicate}
 use Rattle.std.proofs.lemmas.Bool.Decides.{eqb_tells}
+use Rattle.prl_plan.specs.Vocabulary.{IsJob, HasPlanFacts, RunConstants, ExecState, opening, after_event, after_events, IsUnfinished, KeepsLegal, IsLegal, IsComplete}
 use Rattle.prl_plan.specs.declared.events.Event.{Event}
 use Rattle.prl_plan.specs.declared.events.Event.TheVariants as events
-use Rattle.prl_plan.specs.Facts.{IsJob, HasPlanFacts}
-use Rattle.prl_plan.specs.Runs.{RunConstants, ExecState, opening, after_event, after_events}
-use Rattle.prl_plan.specs.Rules.{IsUnfinished, KeepsLegal, IsLegal, IsComplete}
-use Rattle.prl_edf.specs.TimedRuns.{units_before, IsReady, AreUnits}
-use Rattle.prl_edf.specs.EdfRuns.{IsEdfRun}
-use Rattle.prl_edf.specs.MetWindows.{MeetsAllWindows}
-use Rattle.prl_edf.specs.Unrolled.{acts_of, acts_in, events_to, IsLastBusy, IsUnrolled, HaveOneEnd}
+use Rattle.prl_edf.specs.Vocabulary.{units_before, IsReady, AreUnits, IsEdfRun, MeetsAllWindows, acts_of, acts_in, events_to, IsLastBusy, IsUnrolled, HaveOneEnd}
 use Rattle.prl_edf.proofs.Acts.{state_of_two, legal_of_two, Follows, acts_well}
 use Rattle.prl_edf.proofs.Units.{units_rise, unit_not, unit_none, never_more}
 

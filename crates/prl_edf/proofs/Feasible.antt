@@ -1,11 +1,8 @@
 -- A job that misses its window in a run by earliest deadline first shows an overloaded interval that ends with its deadline.
 use Rattle.std.proofs.Common.{◌≡◌, ◌+◌, ◌<◌, ◌≤◌, ◌⊎◌, ℕ, zero, suc, Option, Some, None, inl, inr, arith}
 use Rattle.std.proofs.lemmas.Bool.{cases_lt}
-use Rattle.prl_plan.specs.Facts.{IsJob}
-use Rattle.prl_plan.specs.Runs.{RunConstants}
-use Rattle.prl_edf.specs.Demand.{sum_of_jobs, cost_within, IsOverloaded}
-use Rattle.prl_edf.specs.TimedRuns.{units_before, IsReady, AreUnits}
-use Rattle.prl_edf.specs.EdfRuns.{IsEdfRun}
+use Rattle.prl_plan.specs.Vocabulary.{IsJob, RunConstants}
+use Rattle.prl_edf.specs.Vocabulary.{sum_of_jobs, cost_within, IsOverloaded, units_before, IsReady, AreUnits, IsEdfRun}
 use Rattle.prl_edf.proofs.Busy.{AreGoodSince, good_since}
 use Rattle.prl_edf.proofs.Sums.{jobs_grow}
 use Rattle.prl_edf.proofs.Units.{some_or_none, units_rise, unit_more, never_more, inside, cost_inside, cost_rises}

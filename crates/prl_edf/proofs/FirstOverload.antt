@@ -1,12 +1,8 @@
 -- The least end of an overloaded interval is the earliest deadline that a run by earliest deadline first misses.
 use Rattle.std.proofs.Common.{◌≡◌, ◌-◌, ◌≤◌, ◌⊎◌, ℕ, Option, inl, inr, refl, sym, subst, arith}
 use Rattle.std.proofs.lemmas.Bool.{cases_lt}
-use Rattle.prl_plan.specs.Facts.{IsJob, HasPlanFacts}
-use Rattle.prl_plan.specs.Runs.{RunConstants}
-use Rattle.prl_edf.specs.Demand.{cost_within, demand, IsOverloaded, IsFirstOverload}
-use Rattle.prl_edf.specs.TimedRuns.{units_before, IsTimedRun, AreUnits}
-use Rattle.prl_edf.specs.EdfRuns.{IsEdfRun}
-use Rattle.prl_edf.specs.MetWindows.{MissesWindow, IsFirstMiss}
+use Rattle.prl_plan.specs.Vocabulary.{IsJob, HasPlanFacts, RunConstants}
+use Rattle.prl_edf.specs.Vocabulary.{cost_within, demand, IsOverloaded, IsFirstOverload, units_before, IsTimedRun, AreUnits, IsEdfRun, MissesWindow, IsFirstMiss}
 use Rattle.prl_edf.proofs.Best.{none_or_least}
 use Rattle.prl_edf.proofs.Feasible.{missed_overloads}
 use Rattle.prl_edf.proofs.Overloaded.{met_fits}

@@ -1,19 +1,10 @@
 -- Runs in which each job has all that it costs.
 use Rattle.std.proofs.Common.{◌≡◌, ◌<◌, ◌≤◌, ◌^◌, ℕ, List, [], length, get_or, replicate, Option, sym, ap, ◌∙◌, arith}
 use Rattle.std.proofs.lemmas.List.{get_or-replicate, length-replicate}
-use Rattle.prl_plan.specs.Facts.{IsJob}
-use Rattle.prl_plan.specs.Jobs.{task_at}
-use Rattle.prl_plan.specs.Plans.{PlanView, IsPlan}
-use Rattle.prl_plan.specs.Runs.{RunConstants}
+use Rattle.prl_plan.specs.Vocabulary.{IsJob, task_at, PlanView, IsPlan, RunConstants}
 use Rattle.prl_plan.proofs.RoundPeriods.{task_is}
-use Rattle.prl_edf.specs.declared.runs.Outcome.{Outcome}
+use Rattle.prl_edf.specs.Vocabulary.{Outcome, ComesTo, run_of, IsReady, IsEdfRun, IsPlainRun, IsFirstMiss, MeetsAllWindows, AreFullLists}
 use Rattle.prl_edf.specs.declared.runs.Outcome.TheVariants as outcomes
-use Rattle.prl_edf.specs.Outcomes.{ComesTo}
-use Rattle.prl_edf.specs.Pieces.{run_of}
-use Rattle.prl_edf.specs.TimedRuns.{IsReady}
-use Rattle.prl_edf.specs.EdfRuns.{IsEdfRun, IsPlainRun}
-use Rattle.prl_edf.specs.MetWindows.{IsFirstMiss, MeetsAllWindows}
-use Rattle.prl_edf.specs.code.Starts.{AreFullLists}
 
 pub wcet_bounds : (plan : PlanView) → IsPlan plan → (i : ℕ) → i < length plan.graph.tasks → (1 ≤ (task_at plan.graph i).wcet) × ((task_at plan.graph i).wcet < 2 ^ 31)
 wcet_bounds plan is i inside = (task_is plan.graph is.graph i inside).wcet

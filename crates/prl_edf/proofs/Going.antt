@@ -4,16 +4,9 @@ use Rattle.std.specs.Prelude.{MatchOption}
 use Rattle.std.proofs.lemmas.Bool.{cases_lt, cases_eq}
 use Rattle.std.proofs.lemmas.Grind.{get_or-set_at}
 use Rattle.std.proofs.lemmas.List.{get_or-set_other, length-set}
-use Rattle.prl_plan.specs.Facts.{IsJob, HasPlanFacts}
-use Rattle.prl_plan.specs.Runs.{RunConstants}
-use Rattle.prl_edf.specs.TimedRuns.{units_before, IsReady}
-use Rattle.prl_edf.specs.EdfRuns.{IsPlainRun}
-use Rattle.prl_edf.specs.MetWindows.{IsFirstMiss, MeetsAllWindows}
-use Rattle.prl_edf.specs.declared.rests.Rest.{Rest}
-use Rattle.prl_edf.specs.declared.rests.Ready.{Ready}
-use Rattle.prl_edf.specs.declared.rests.Choice.{Choice}
-use Rattle.prl_edf.specs.code.Extended.{Extends}
-use Rattle.prl_edf.specs.code.Going.{rest_of, IsFirstReady, NoneReady, IsChoice, IsRestOf, IsDoneTask, IsFresh, IsPlainTo, IsGoing}
+use Rattle.prl_plan.specs.Vocabulary.{IsJob, HasPlanFacts, RunConstants}
+use Rattle.prl_edf.specs.Vocabulary.{units_before, IsReady, IsPlainRun, IsFirstMiss, MeetsAllWindows, Rest, Ready, Choice, Extends, rest_of, IsFirstReady, NoneReady, IsChoice, IsRestOf, IsDoneTask}
+use Rattle.prl_edf.specs.Vocabulary.{IsFresh, IsPlainTo, IsGoing}
 use Rattle.prl_edf.proofs.Units.{some_or_none, units_rise, unit_not, unit_none, unit_more}
 
 -- what an option is

@@ -2,19 +2,9 @@
 use Rattle.std.proofs.Common.{◌≡◌, ◌+◌, ◌-◌, ◌<◌, ◌≤◌, ℕ, List, [], length, set, min, Option, Some, None, inl, inr, refl, sym, subst, arith}
 use Rattle.std.specs.Prelude.{MatchOption}
 use Rattle.std.proofs.lemmas.Bool.{cases_lt}
-use Rattle.prl_plan.specs.Facts.{HasPlanFacts}
-use Rattle.prl_plan.specs.Runs.{RunConstants}
-use Rattle.prl_edf.specs.TimedRuns.{AreUnits}
-use Rattle.prl_edf.specs.EdfRuns.{IsPlainRun}
-use Rattle.prl_edf.specs.MetWindows.{IsFirstMiss}
-use Rattle.prl_edf.specs.Outcomes.{IsFeasibleRun}
-use Rattle.prl_edf.specs.Pieces.{run_of, AreLongest}
-use Rattle.prl_edf.specs.declared.pieces.Piece.{Piece}
-use Rattle.prl_edf.specs.declared.rests.Rest.{Rest}
-use Rattle.prl_edf.specs.declared.rests.Ready.{Ready}
-use Rattle.prl_edf.specs.declared.rests.Choice.{Choice}
-use Rattle.prl_edf.specs.code.Extended.{Extends, EndBy}
-use Rattle.prl_edf.specs.code.Going.{IsFirstReady, NoneReady, IsChoice, IsRestOf, IsDoneTask, IsRestAfter, AreRests, IsMaking}
+use Rattle.prl_plan.specs.Vocabulary.{HasPlanFacts, RunConstants}
+use Rattle.prl_edf.specs.Vocabulary.{AreUnits, IsPlainRun, IsFirstMiss, IsFeasibleRun, run_of, AreLongest, Piece, Rest, Ready, Choice, Extends, EndBy, IsFirstReady, NoneReady, IsChoice, IsRestOf}
+use Rattle.prl_edf.specs.Vocabulary.{IsDoneTask, IsRestAfter, AreRests, IsMaking}
 use Rattle.prl_edf.proofs.Going.{before_next, idle_goes_on, run_is_whole, goes_on, rest_shorter, rest_next, is_first_miss}
 use Rattle.prl_edf.proofs.OneRun.{plain_agrees}
 use Rattle.prl_edf.proofs.PieceLists.{end_later}

@@ -1,16 +1,8 @@
 -- What a miss of the plain run shows in which each job has all that it costs.
 use Rattle.std.proofs.Common.{◌≡◌, ◌<◌, ◌≤◌, ◌^◌, ℕ, Option, sym, subst, arith}
+use Rattle.prl_plan.specs.Vocabulary.{IsJob, HasPlanFacts, IsHorizon, constants_of, PlanView, IsPlan, RunConstants}
 use Rattle.prl_plan.specs.declared.horizons.Horizon.{Horizon}
-use Rattle.prl_plan.specs.Facts.{IsJob, HasPlanFacts}
-use Rattle.prl_plan.specs.Horizons.{IsHorizon, constants_of}
-use Rattle.prl_plan.specs.Plans.{PlanView, IsPlan}
-use Rattle.prl_plan.specs.Runs.{RunConstants}
-use Rattle.prl_edf.specs.Demand.{cost_within, demand, IsOverloaded, IsFirstOverload}
-use Rattle.prl_edf.specs.TimedRuns.{AreUnits}
-use Rattle.prl_edf.specs.EdfRuns.{IsPlainRun}
-use Rattle.prl_edf.specs.MetWindows.{IsFirstMiss}
-use Rattle.prl_edf.specs.UnitLists.{wcets_of}
-use Rattle.prl_edf.specs.code.Starts.{IsGreatest}
+use Rattle.prl_edf.specs.Vocabulary.{cost_within, demand, IsOverloaded, IsFirstOverload, AreUnits, IsPlainRun, IsFirstMiss, wcets_of, IsGreatest}
 use Rattle.prl_edf.proofs.Feasible.{missed_overloads}
 use Rattle.prl_edf.proofs.FirstOverload.{begins_with_a_job}
 use Rattle.prl_edf.proofs.FullUnits.{wcet_bounds}

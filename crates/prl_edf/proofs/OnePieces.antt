@@ -1,14 +1,9 @@
 -- A run has one list of pieces that are as long as possible, and a plan one verdict.
 use Rattle.std.proofs.Common.{◌≡◌, ◌≤◌, ℕ, List, [], ◌∷◌, Some, None, inl, inr, refl, sym, ap, ◌∙◌, arith}
 use Rattle.std.proofs.lemmas.Bool.{cases_lt}
-use Rattle.prl_plan.specs.Facts.{HasPlanFacts}
-use Rattle.prl_plan.specs.Runs.{RunConstants}
-use Rattle.prl_edf.specs.declared.analysis.Verdict.{Verdict}
+use Rattle.prl_plan.specs.Vocabulary.{HasPlanFacts, RunConstants}
+use Rattle.prl_edf.specs.Vocabulary.{Verdict, Piece, demand, run_of, AreLongest, IsVerdict}
 use Rattle.prl_edf.specs.declared.analysis.Verdict.TheVariants as verdicts
-use Rattle.prl_edf.specs.declared.pieces.Piece.{Piece}
-use Rattle.prl_edf.specs.Demand.{demand}
-use Rattle.prl_edf.specs.Pieces.{run_of, AreLongest}
-use Rattle.prl_edf.specs.Verdicts.{IsVerdict}
 use Rattle.prl_edf.proofs.FirstOverload.{one_first_overload}
 use Rattle.prl_edf.proofs.Going.{none_is_some, some_is_some}
 use Rattle.prl_edf.proofs.OneRun.{plain_is_one}

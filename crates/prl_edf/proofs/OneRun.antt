@@ -1,10 +1,8 @@
 -- Plain runs are one.
 use Rattle.std.proofs.Common.{◌≡◌, ◌<◌, ◌≤◌, ℕ, zero, suc, Option, Some, inl, inr, sym, ap, subst, ◌∙◌, arith}
 use Rattle.std.proofs.lemmas.Bool.{cases_lt}
-use Rattle.prl_plan.specs.Facts.{IsJob, HasPlanFacts}
-use Rattle.prl_plan.specs.Runs.{RunConstants}
-use Rattle.prl_edf.specs.EdfRuns.{IsPlainRun}
-use Rattle.prl_edf.specs.code.Going.{IsPlainTo}
+use Rattle.prl_plan.specs.Vocabulary.{IsJob, HasPlanFacts, RunConstants}
+use Rattle.prl_edf.specs.Vocabulary.{IsPlainRun, IsPlainTo}
 use Rattle.prl_edf.proofs.Going.{same_units, ready_same}
 use Rattle.prl_edf.proofs.Units.{some_or_none}
 

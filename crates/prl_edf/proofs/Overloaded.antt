@@ -1,11 +1,8 @@
 -- A timed run that gives the jobs within an interval all that they cost has no more ticks there than the interval.
 use Rattle.std.proofs.Common.{◌≡◌, ◌+◌, ◌-◌, ◌≤◌, ℕ, zero, suc, Option, inl, inr, ◌∙◌, arith}
 use Rattle.std.proofs.lemmas.Bool.{cases_lt}
-use Rattle.prl_plan.specs.Facts.{IsJob}
-use Rattle.prl_plan.specs.Runs.{RunConstants}
-use Rattle.prl_edf.specs.Demand.{sum_of_jobs, cost_within, demand}
-use Rattle.prl_edf.specs.TimedRuns.{units_before, IsTimedRun}
-use Rattle.prl_edf.specs.MetWindows.{MeetsWindow}
+use Rattle.prl_plan.specs.Vocabulary.{IsJob, RunConstants}
+use Rattle.prl_edf.specs.Vocabulary.{sum_of_jobs, cost_within, demand, units_before, IsTimedRun, MeetsWindow}
 use Rattle.prl_edf.proofs.Sums.{jobs_rise, jobs_none, jobs_by_one}
 use Rattle.prl_edf.proofs.Units.{some_or_none, units_rise, unit_not, unit_none, unit_at_most, none_yet, inside_or_not, cost_inside, cost_outside, cost_rises}
 

@@ -2,9 +2,7 @@
 use Rattle.std.proofs.Common.{◌≡◌, ◌<◌, ◌≤◌, ◌⊎◌, ◌++◌, ℕ, List, [], ◌∷◌, Option, Some, None, Bool, true, false, cond, inl, inr, refl, sym, ap, subst, ◌∙◌, arith}
 use Rattle.std.proofs.lemmas.Bool.{cases_lt}
 use Rattle.std.proofs.lemmas.Bool.Decides.{nat_tests}
-use Rattle.prl_edf.specs.declared.pieces.Piece.{Piece}
-use Rattle.prl_edf.specs.Pieces.{lies_in, run_of, AreLongest}
-use Rattle.prl_edf.specs.code.Extended.{IsExtended, EndBy}
+use Rattle.prl_edf.specs.Vocabulary.{Piece, lies_in, run_of, AreLongest, IsExtended, EndBy}
 
 pub lies : (p : Piece) (t : ℕ) → p.from ≤ t → t < p.to → lies_in p t ≡ true
 lies p t from to = grind (arith, nat_tests)

@@ -6,17 +6,11 @@ use Rattle.std.proofs.lemmas.Bool.Decides.{nat_tests, eqb_tells}
 use Rattle.std.proofs.lemmas.List.{append-nil, reverse-append, get_or-reverse, length-reverse, get_or-set_other, replicate_more}
 use Rattle.std.proofs.lemmas.Grind.{get_or-set_at}
 use Rattle.std.specs.Prelude.{slice_get}
+use Rattle.prl_plan.specs.Vocabulary.{IsJob, HasPlanFacts, RunConstants}
 use Rattle.prl_plan.specs.declared.events.Event.{Event}
 use Rattle.prl_plan.specs.declared.events.Event.TheVariants as kinds
-use Rattle.prl_plan.specs.Facts.{IsJob, HasPlanFacts}
-use Rattle.prl_plan.specs.Runs.{RunConstants}
-use Rattle.prl_edf.specs.declared.pieces.Piece.{Piece}
-use Rattle.prl_edf.specs.Pieces.{run_of, IsFollowed, AreLongest}
-use Rattle.prl_edf.specs.TimedRuns.{units_before, AreUnits, totals}
-use Rattle.prl_edf.specs.EdfRuns.{IsEdfRun, IsMetRun}
-use Rattle.prl_edf.specs.MetWindows.{MeetsAllWindows}
-use Rattle.prl_edf.specs.Unrolled.{acts_of, acts_in, events_to, IsUnrolled}
-use Rattle.prl_edf.specs.code.Lasts.{next_job, is_other, lasts_in, before, IsUnrolling}
+use Rattle.prl_edf.specs.Vocabulary.{Piece, run_of, IsFollowed, AreLongest, units_before, AreUnits, totals, IsEdfRun, IsMetRun, MeetsAllWindows, acts_of, acts_in, events_to, IsUnrolled, next_job}
+use Rattle.prl_edf.specs.Vocabulary.{is_other, lasts_in, before, IsUnrolling}
 use Rattle.prl_edf.proofs.Going.{none_is_some, some_is_some}
 use Rattle.prl_edf.proofs.FullUnits.{edf_as, met_as}
 use Rattle.prl_edf.proofs.PieceLists.{lies, lies_not}

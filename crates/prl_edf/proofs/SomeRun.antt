@@ -3,11 +3,8 @@ use Rattle.std.proofs.Common.{◌≡◌, ◌+◌, ◌*◌, ◌<◌, ◌≤◌, �
 use Rattle.std.proofs.Math.Nat.{mul-le-mul_right}
 use Rattle.std.proofs.lemmas.Bool.{cases_lt}
 use Rattle.std.proofs.lemmas.Bool.Decides.{nat_tests}
-use Rattle.prl_plan.specs.Facts.{IsJob, HasPlanFacts}
-use Rattle.prl_plan.specs.Runs.{RunConstants}
-use Rattle.prl_edf.specs.TimedRuns.{units_before, IsReady}
-use Rattle.prl_edf.specs.EdfRuns.{IsPlainRun}
-use Rattle.prl_edf.specs.code.Going.{IsPlainTo}
+use Rattle.prl_plan.specs.Vocabulary.{IsJob, HasPlanFacts, RunConstants}
+use Rattle.prl_edf.specs.Vocabulary.{units_before, IsReady, IsPlainRun, IsPlainTo}
 use Rattle.prl_edf.proofs.Best.{none_or_least}
 use Rattle.prl_edf.proofs.Going.{same_units, ready_same, none_is_some, some_is_some}
 

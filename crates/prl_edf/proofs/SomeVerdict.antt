@@ -3,16 +3,9 @@ use Rattle.std.proofs.Common.{◌≡◌, ◌+◌, ◌*◌, ◌<◌, ◌⊎◌, �
 use Rattle.std.proofs.Math.Path.{fun_ext}
 use Rattle.std.proofs.lemmas.Bool.{cases_eq, cases_lt}
 use Rattle.prl_plan.specs.Runs.{RunConstants}
-use Rattle.prl_edf.specs.declared.analysis.Verdict.{Verdict}
+use Rattle.prl_edf.specs.Vocabulary.{Verdict, Piece, demand, IsFirstOverload, IsOverloaded, IsPlainRun, MissesWindow, MeetsAllWindows, IsFirstMiss, run_of, AreLongest, units_before, IsVerdict}
+use Rattle.prl_edf.specs.Vocabulary.{IsExtended, EndBy}
 use Rattle.prl_edf.specs.declared.analysis.Verdict.TheVariants as verdicts
-use Rattle.prl_edf.specs.declared.pieces.Piece.{Piece}
-use Rattle.prl_edf.specs.Demand.{demand, IsFirstOverload, IsOverloaded}
-use Rattle.prl_edf.specs.EdfRuns.{IsPlainRun}
-use Rattle.prl_edf.specs.MetWindows.{MissesWindow, MeetsAllWindows, IsFirstMiss}
-use Rattle.prl_edf.specs.Pieces.{run_of, AreLongest}
-use Rattle.prl_edf.specs.TimedRuns.{units_before}
-use Rattle.prl_edf.specs.Verdicts.{IsVerdict}
-use Rattle.prl_edf.specs.code.Extended.{IsExtended, EndBy}
 use Rattle.prl_edf.proofs.Best.{none_or_least}
 use Rattle.prl_edf.proofs.PieceLists.{IsGiven, end_later, given_longer, given_more, none_after, one_more}
 use Rattle.prl_edf.proofs.SomeRun.{earliest_of, lowest_of}

@@ -4,14 +4,8 @@ use Rattle.std.proofs.lemmas.Bool.{cases_lt, cases_eq}
 use Rattle.std.proofs.lemmas.Grind.{get_or-set_at}
 use Rattle.std.proofs.lemmas.List.{get_or-set_other}
 use Rattle.std.proofs.lemmas.Bool.Decides.{nat_tests}
-use Rattle.prl_plan.specs.Facts.{HasPlanFacts}
-use Rattle.prl_plan.specs.Horizons.{sum_below}
-use Rattle.prl_plan.specs.Runs.{RunConstants}
-use Rattle.prl_edf.specs.Demand.{sum_of_jobs, cost_within, demand, IsOverloaded, IsFirstOverload}
-use Rattle.prl_edf.specs.TimedRuns.{AreUnits}
-use Rattle.prl_edf.specs.EdfRuns.{IsEdfRun}
-use Rattle.prl_edf.specs.MetWindows.{IsFirstMiss}
-use Rattle.prl_edf.specs.code.Starts.{cost_at, starts_at, IsGreatest}
+use Rattle.prl_plan.specs.Vocabulary.{HasPlanFacts, sum_below, RunConstants}
+use Rattle.prl_edf.specs.Vocabulary.{sum_of_jobs, cost_within, demand, IsOverloaded, IsFirstOverload, AreUnits, IsEdfRun, IsFirstMiss, cost_at, starts_at, IsGreatest}
 use Rattle.prl_edf.proofs.Sums.{jobs_none}
 use Rattle.prl_edf.proofs.Units.{inside_or_not, cost_outside}
 use Rattle.prl_edf.proofs.FirstOverload.{begins_with_a_job, first_overload}

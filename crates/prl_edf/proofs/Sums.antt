@@ -1,9 +1,7 @@
 -- Sums over the horizon jobs, compared part by part.
 use Rattle.std.proofs.Common.{◌≡◌, ◌+◌, ◌<◌, ◌≤◌, ℕ, zero, suc, inl, inr, refl, subst, arith}
 use Rattle.std.proofs.lemmas.Bool.{cases_lt}
-use Rattle.prl_plan.specs.Facts.{IsJob}
-use Rattle.prl_plan.specs.Horizons.{sum_below}
-use Rattle.prl_plan.specs.Runs.{RunConstants}
+use Rattle.prl_plan.specs.Vocabulary.{IsJob, sum_below, RunConstants}
 use Rattle.prl_edf.specs.Demand.{sum_of_jobs}
 
 -- no part is greater, so the sum is not

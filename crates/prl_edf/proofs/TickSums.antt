@@ -1,7 +1,6 @@
 -- The ticks of pieces, added up from the first piece on.
 use Rattle.std.proofs.Common.{◌≡◌, ◌+◌, ◌-◌, ◌<◌, ◌≤◌, ℕ, List, ◌∷◌, length, get_or, drop, inl, inr, ap, subst, arith}
-use Rattle.prl_edf.specs.declared.pieces.Piece.{Piece}
-use Rattle.prl_edf.specs.Pieces.{ticks_of, IsFollowed, AreLongest}
+use Rattle.prl_edf.specs.Vocabulary.{Piece, ticks_of, IsFollowed, AreLongest}
 use Rattle.prl_edf.proofs.Skips.{longest_from, piece_at, none_left}
 
 -- the sum of the first k pieces, which is no more than where the next one begins

@@ -3,8 +3,7 @@ use Rattle.std.proofs.Common.{◌≡◌, ◌+◌, ◌≤◌, ℕ, zero, suc, Opt
 use Rattle.std.proofs.lemmas.Bool.{cases_lt}
 use Rattle.std.proofs.lemmas.Bool.Decides.{nat_tests}
 use Rattle.prl_plan.specs.Runs.{RunConstants}
-use Rattle.prl_edf.specs.Demand.{is_within, cost_within}
-use Rattle.prl_edf.specs.TimedRuns.{unit_of, units_before, IsTimedRun}
+use Rattle.prl_edf.specs.Vocabulary.{is_within, cost_within, unit_of, units_before, IsTimedRun}
 
 pub unit_here : (i n : ℕ) → unit_of (Some (i, n)) i n ≡ 1
 unit_here i n = grind (arith, nat_tests)

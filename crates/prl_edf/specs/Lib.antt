@@ -16,3 +16,4 @@ pub mod Verdicts
 pub mod VerdictTexts
 -- what private functions say to one another
 pub mod code
+pub mod Vocabulary

@@ -1,9 +1,7 @@
 //! Whether one processor serves: the run, or the overloaded interval that shows why not.
 
 ghost use Rattle.std.specs.Prelude.{◌≡◌, ◌+◌, ◌*◌, ◌<◌, ◌≤◌, ◌^◌, ℕ, Option, length, map, vec_items, slice_index, IfOk};
-ghost use Rattle.prl_plan.specs.Horizons.{IsHorizon, constants_of, sum_below};
-ghost use Rattle.prl_plan.specs.Jobs.{task_at};
-ghost use Rattle.prl_plan.specs.Plans.{IsPlan};
+ghost use Rattle.prl_plan.specs.Vocabulary.{IsHorizon, constants_of, sum_below, task_at, IsPlan};
 ghost use Rattle.prl_edf.specs.Demand.{demand, IsOverloaded, IsFirstOverload};
 ghost use Rattle.prl_edf.specs.EdfRuns.{IsPlainRun};
 ghost use Rattle.prl_edf.specs.MetWindows.{IsFirstMiss};

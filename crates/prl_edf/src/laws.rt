@@ -1,13 +1,11 @@
 //! The laws of one processor: functions that do nothing and whose clauses say what always holds.
 
 ghost use Rattle.std.specs.Prelude.{◌≡◌, ◌<◌, ◌≤◌, ℕ, List, Option};
+ghost use Rattle.prl_plan.specs.Vocabulary.{IsJob, HasPlanFacts, IsHorizon, constants_of, PlanView};
+ghost use Rattle.prl_plan.specs.Vocabulary.{IsPlan, RunConstants, opening, after_events, IsLegal};
+ghost use Rattle.prl_plan.specs.Vocabulary.{IsComplete};
 ghost use Rattle.prl_plan.specs.declared.events.Event.{Event};
 ghost use Rattle.prl_plan.specs.declared.horizons.Horizon.{Horizon};
-ghost use Rattle.prl_plan.specs.Facts.{IsJob, HasPlanFacts};
-ghost use Rattle.prl_plan.specs.Horizons.{IsHorizon, constants_of};
-ghost use Rattle.prl_plan.specs.Plans.{PlanView, IsPlan};
-ghost use Rattle.prl_plan.specs.Runs.{RunConstants, opening, after_events};
-ghost use Rattle.prl_plan.specs.Rules.{IsLegal, IsComplete};
 ghost use Rattle.prl_edf.specs.declared.analysis.Verdict.{Verdict};
 ghost use Rattle.prl_edf.specs.declared.pieces.Piece.{Piece};
 ghost use Rattle.prl_edf.specs.Demand.{sum_of_jobs, IsOverloaded, IsFirstOverload};

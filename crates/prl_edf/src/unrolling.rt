@@ -4,10 +4,8 @@ ghost use Rattle.std.specs.Prelude.{◌≡◌, ◌+◌, ◌<◌, ◌≤◌, ◌+
 ghost use Rattle.std.specs.Bool.{OnTrue, OnFalse};
 ghost use Rattle.prl_plan.specs.declared.events.Action.TheVariants as actions;
 ghost use Rattle.prl_plan.specs.declared.events.Event.TheVariants as kinds;
-ghost use Rattle.prl_plan.specs.Facts.{IsJob};
-ghost use Rattle.prl_plan.specs.Horizons.{IsHorizon, constants_of};
-ghost use Rattle.prl_plan.specs.Runs.{opening, after_events};
-ghost use Rattle.prl_plan.specs.Rules.{IsLegal, IsComplete};
+ghost use Rattle.prl_plan.specs.Vocabulary.{IsJob, IsHorizon, constants_of, opening, after_events};
+ghost use Rattle.prl_plan.specs.Vocabulary.{IsLegal, IsComplete};
 ghost use Rattle.prl_track.specs.Routes.{AreRoutes};
 ghost use Rattle.prl_edf.specs.declared.pieces.Piece.{Piece};
 ghost use Rattle.prl_edf.specs.Pieces.{run_of, AreLongest};

@@ -7,19 +7,13 @@ use Rattle.prl_base.specs.Clocks.{IsClock, date_at}
 use Rattle.prl_base.specs.declared.numbers.FlowNo.{FlowNo}
 use Rattle.prl_base.specs.declared.values.Value.{Value}
 use Rattle.prl_body.specs.declared.bodies.CheckedBody.{CheckedBody}
-use Rattle.prl_flow.specs.Counts.{dates_before}
-use Rattle.prl_flow.specs.Programs.{FlatProgram}
-use Rattle.prl_flow.specs.Solutions.{clock_of, values_of}
+use Rattle.prl_flow.specs.Vocabulary.{dates_before, FlatProgram, clock_of, values_of}
 use Rattle.prl_flow.specs.declared.programs.App.{App}
 use Rattle.prl_flow.specs.declared.programs.Flow.{Flow}
 use Rattle.prl_flow.proofs.ClockDates.{dates_before_number}
 use Rattle.prl_solutions.specs.Tables.{Reads, nothing, table_of, value_of}
 use Rattle.prl_solutions.proofs.Earlier.{reads_earlier, value_local}
-use Rattle.prl_evaluation.specs.code.Dates.{IsFull}
-use Rattle.prl_evaluation.specs.code.Fronts.{IsPlain, IsSet, IsThere, UnderWay, len}
-use Rattle.prl_evaluation.specs.code.Wholes.{AreWhole, IsGroup}
-use Rattle.prl_evaluation.specs.declared.runs.Run.{Run}
-use Rattle.prl_evaluation.specs.declared.settings.Setting.{Setting}
+use Rattle.prl_evaluation.specs.Vocabulary.{IsFull, IsPlain, IsSet, IsThere, UnderWay, len, AreWhole, IsGroup, Run, Setting}
 use Rattle.prl_evaluation.proofs.Groups.{clock_there, names_of_reads}
 use Rattle.prl_evaluation.proofs.There.{is_there_at}
 

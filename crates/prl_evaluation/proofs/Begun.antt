@@ -6,8 +6,7 @@ use Rattle.std.proofs.lemmas.Option.{same_Some, slice_get_within}
 use Rattle.prl_body.specs.declared.bodies.CheckedBody.{CheckedBody}
 use Rattle.prl_flow.specs.declared.programs.App.{App}
 use Rattle.prl_flow.proofs.Lists.{slice_get_append_left, slice_get_push}
-use Rattle.prl_evaluation.specs.code.Runs.{IsNew}
-use Rattle.prl_evaluation.specs.declared.runs.Run.{Run}
+use Rattle.prl_evaluation.specs.Vocabulary.{IsNew, Run}
 
 pub new_pushed : (bodies : List CheckedBody) (apps : List App) (runs : List Run) (own : App) (run : Run) → slice_get apps (length runs) ≡ Some own → IsNew bodies own run
     → ((k : ℕ) (app : App) (r : Run) → slice_get apps k ≡ Some app → slice_get runs k ≡ Some r → IsNew bodies app r)

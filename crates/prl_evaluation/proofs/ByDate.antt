@@ -11,18 +11,14 @@ use Rattle.prl_base.specs.declared.numbers.FlowNo.{FlowNo}
 use Rattle.prl_base.specs.declared.operators.Clock.{Clock}
 use Rattle.prl_base.specs.declared.values.Value.{Value}
 use Rattle.prl_calendar.specs.Calendars.{AreAllClocks, AreDue, HasDate}
-use Rattle.prl_flow.specs.Counts.{dates_before}
-use Rattle.prl_flow.specs.Programs.{IsWellDefined}
-use Rattle.prl_flow.specs.Solutions.{clock_of}
+use Rattle.prl_flow.specs.Vocabulary.{dates_before, IsWellDefined, clock_of}
 use Rattle.prl_flow.specs.declared.programs.App.{App}
-use Rattle.prl_flow.specs.declared.programs.Def.TheVariants as definitions
 use Rattle.prl_flow.specs.declared.programs.Flow.{Flow}
+use Rattle.prl_flow.specs.declared.programs.Def.TheVariants as definitions
 use Rattle.prl_flow.proofs.ClockDates.{dates_before_number}
 use Rattle.prl_solutions.specs.Tables.{Reads}
 use Rattle.prl_solutions.proofs.Earlier.{reads_earlier}
-use Rattle.prl_evaluation.specs.code.Dates.{AreAt, AreFull, IsPart, IsRest, clocks_by, place_after}
-use Rattle.prl_evaluation.specs.code.Fronts.{CanGrow, HasGrown, IsSet, len}
-use Rattle.prl_evaluation.specs.declared.settings.Setting.{Setting}
+use Rattle.prl_evaluation.specs.Vocabulary.{AreAt, AreFull, IsPart, IsRest, clocks_by, place_after, CanGrow, HasGrown, IsSet, len, Setting}
 
 not_more : (a b : ℕ) → ((k : ℕ) → k < a → k < b) → a ≤ b
 not_more a b each = elim (cases_lt b a) [

@@ -6,23 +6,16 @@ use Rattle.std.proofs.lemmas.Option.{same_Some, slice_get_read, slice_get_within
 use Rattle.prl_base.specs.Clocks.{IsClock, date_at}
 use Rattle.prl_base.specs.declared.numbers.FlowNo.{FlowNo}
 use Rattle.prl_base.specs.declared.values.Value.{Value}
-use Rattle.prl_flow.specs.Counts.{dates_before}
-use Rattle.prl_flow.specs.Programs.{FlatProgram, IsFlat, IsWellDefined}
-use Rattle.prl_flow.specs.Solutions.{clock_of}
-use Rattle.prl_flow.specs.Uses.{IsArgument}
+use Rattle.prl_flow.specs.Vocabulary.{dates_before, FlatProgram, IsFlat, IsWellDefined, clock_of, IsArgument}
 use Rattle.prl_flow.specs.declared.programs.App.{App}
 use Rattle.prl_flow.specs.declared.programs.Arg.{Arg}
 use Rattle.prl_flow.specs.declared.programs.Def.{Def}
-use Rattle.prl_flow.specs.declared.programs.Def.TheVariants as definitions
 use Rattle.prl_flow.specs.declared.programs.Flow.{Flow}
+use Rattle.prl_flow.specs.declared.programs.Def.TheVariants as definitions
 use Rattle.prl_flow.proofs.ClockDates.{dates_before_number}
 use Rattle.prl_solutions.specs.Tables.{Reads}
 use Rattle.prl_solutions.proofs.Earlier.{reads_earlier}
-use Rattle.prl_evaluation.specs.code.Dates.{AreAt, IsFull, IsRest}
-use Rattle.prl_evaluation.specs.code.Fronts.{CanGrow, HasGrown, IsSet, UnderWay, len}
-use Rattle.prl_evaluation.specs.code.Wholes.{AreWhole, IsFilling, IsGroup, Names, is_full}
-use Rattle.prl_evaluation.specs.declared.runs.Run.{Run}
-use Rattle.prl_evaluation.specs.declared.settings.Setting.{Setting}
+use Rattle.prl_evaluation.specs.Vocabulary.{AreAt, IsFull, IsRest, CanGrow, HasGrown, IsSet, UnderWay, len, AreWhole, IsFilling, IsGroup, Names, is_full, Run, Setting}
 use Rattle.prl_evaluation.proofs.Orders.{order_once, order_within}
 
 -- what is read is used

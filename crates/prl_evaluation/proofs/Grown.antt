@@ -4,34 +4,25 @@ use Rattle.std.proofs.Math.Nat.{mul-le-mul_left}
 use Rattle.std.proofs.lemmas.Bool.{cases_eq, cases_lt}
 use Rattle.std.proofs.lemmas.List.{get_or-set_other, get_or-set_same, get_or_append_left, get_or_push, length-set, length_push}
 use Rattle.std.proofs.lemmas.Option.{same_Some, slice_get_within}
-use Rattle.prl_base.specs.Clocks.{IsClock, date_at}
-use Rattle.prl_base.specs.Values.{type_of}
+use Rattle.prl_base.specs.Vocabulary.{IsClock, date_at, type_of}
 use Rattle.prl_base.specs.declared.numbers.FlowNo.{FlowNo}
 use Rattle.prl_base.specs.declared.operators.Clock.{Clock}
 use Rattle.prl_base.specs.declared.values.Value.{Value}
+use Rattle.prl_body.specs.Vocabulary.{body_step, input_types, output_types, register_types, MachineState}
 use Rattle.prl_body.specs.declared.bodies.CheckedBody.{CheckedBody}
-use Rattle.prl_body.specs.Bodies.{body_step, input_types, output_types, register_types}
-use Rattle.prl_body.specs.Machines.{MachineState}
-use Rattle.prl_flow.specs.Applications.{HaveBodies, nth_step, registers_before}
-use Rattle.prl_flow.specs.Counts.{dates_before}
-use Rattle.prl_flow.specs.Programs.{FlatProgram, IsFlat, IsWellDefined}
-use Rattle.prl_flow.specs.Rows.{Rows}
-use Rattle.prl_flow.specs.Solutions.{AreClocks, clock_of, values_of}
-use Rattle.prl_flow.specs.Uses.{IsArgument}
+use Rattle.prl_flow.specs.Vocabulary.{HaveBodies, nth_step, registers_before, dates_before, FlatProgram, IsFlat, IsWellDefined, Rows, AreClocks, clock_of, values_of, IsArgument}
 use Rattle.prl_flow.specs.declared.programs.App.{App}
 use Rattle.prl_flow.specs.declared.programs.Arg.{Arg}
 use Rattle.prl_flow.specs.declared.programs.Def.{Def}
-use Rattle.prl_flow.specs.declared.programs.Def.TheVariants as definitions
 use Rattle.prl_flow.specs.declared.programs.Flow.{Flow}
+use Rattle.prl_flow.specs.declared.programs.Def.TheVariants as definitions
 use Rattle.prl_flow.proofs.Applied.{length_HaveTypes}
 use Rattle.prl_flow.proofs.ClockDates.{dates_before_number}
 use Rattle.prl_solutions.specs.Tables.{Reads, inputs_of, nothing, table_of, value_of}
 use Rattle.prl_solutions.proofs.Earlier.{inputs_local, reads_before, reads_earlier, value_local}
 use Rattle.prl_solutions.proofs.Solved.{applied_is}
 use Rattle.prl_solutions.proofs.Typed.{types_inputs, types_registers}
-use Rattle.prl_evaluation.specs.code.Fronts.{HasGrown, IsPlain, IsReady, IsUnderWay, len, pushed}
-use Rattle.prl_evaluation.specs.code.Runs.{HasStepped, HaveArguments, IsRun, MayStep}
-use Rattle.prl_evaluation.specs.declared.runs.Run.{Run}
+use Rattle.prl_evaluation.specs.Vocabulary.{HasGrown, IsPlain, IsReady, IsUnderWay, len, pushed, HasStepped, HaveArguments, IsRun, MayStep, Run}
 
 same_application : (j o k out : ℕ) → definitions.Apply j o ≡ definitions.Apply k out → j ≡ k
 same_application j o k out e = cc

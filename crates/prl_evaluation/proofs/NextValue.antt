@@ -6,13 +6,10 @@ use Rattle.prl_flow.specs.Programs.{IsWellDefined}
 use Rattle.prl_flow.specs.declared.programs.App.{App}
 use Rattle.prl_flow.specs.declared.programs.Arg.{Arg}
 use Rattle.prl_flow.specs.declared.programs.Def.{Def}
-use Rattle.prl_flow.specs.declared.programs.Def.TheVariants as definitions
 use Rattle.prl_flow.specs.declared.programs.Flow.{Flow}
+use Rattle.prl_flow.specs.declared.programs.Def.TheVariants as definitions
 use Rattle.prl_solutions.specs.Tables.{inputs_of, nothing, table_of, value_of}
-use Rattle.prl_evaluation.specs.code.Fronts.{CanGrow, IsPlain, IsReady, IsSet, IsThere, UnderWay, len, pushed}
-use Rattle.prl_evaluation.specs.code.Runs.{HasStepped, HaveArguments, MayStep}
-use Rattle.prl_evaluation.specs.declared.runs.Run.{Run}
-use Rattle.prl_evaluation.specs.declared.settings.Setting.{Setting}
+use Rattle.prl_evaluation.specs.Vocabulary.{CanGrow, IsPlain, IsReady, IsSet, IsThere, UnderWay, len, pushed, HasStepped, HaveArguments, MayStep, Run, Setting}
 use Rattle.prl_evaluation.proofs.Grown as grown
 use Rattle.prl_evaluation.proofs.There.{is_there}
 

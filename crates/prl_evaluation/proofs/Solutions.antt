@@ -6,32 +6,19 @@ use Rattle.prl_base.specs.Clocks.{IsClock}
 use Rattle.prl_base.specs.declared.numbers.FlowNo.{FlowNo}
 use Rattle.prl_base.specs.declared.operators.Clock.{Clock}
 use Rattle.prl_base.specs.declared.values.Value.{Value}
-use Rattle.prl_body.specs.declared.bodies.CheckedBody.{CheckedBody}
 use Rattle.prl_body.specs.Bodies.{IsWellTyped}
-use Rattle.prl_flow.specs.Applications.{HaveBodies}
-use Rattle.prl_flow.specs.Counts.{dates_before}
-use Rattle.prl_flow.specs.Programs.{FlatProgram, IsFlat}
-use Rattle.prl_flow.specs.Rows.{Rows}
-use Rattle.prl_flow.specs.Solutions.{AreClocks, HasRows, Solves, clock_of, values_of}
-use Rattle.prl_flow.specs.States.{IsSolution, State}
-use Rattle.prl_flow.specs.Uses.{IsOrder}
+use Rattle.prl_body.specs.declared.bodies.CheckedBody.{CheckedBody}
+use Rattle.prl_flow.specs.Vocabulary.{HaveBodies, dates_before, FlatProgram, IsFlat, Rows, AreClocks, HasRows, Solves, clock_of, values_of, IsSolution, State, IsOrder}
 use Rattle.prl_flow.specs.declared.programs.App.{App}
 use Rattle.prl_flow.proofs.ClockDates.{dates_before_number}
 use Rattle.prl_flow.proofs.Lists.{element_at}
-use Rattle.prl_solutions.specs.Conditions.{HaveTypedBodies, clocks_in, values_in}
-use Rattle.prl_solutions.specs.Tables.{IsFixed, nothing, table_of}
-use Rattle.prl_solutions.specs.Uniqueness.{ExactlyOne}
+use Rattle.prl_solutions.specs.Vocabulary.{HaveTypedBodies, clocks_in, values_in, IsFixed, nothing, table_of, ExactlyOne}
 use Rattle.prl_solutions.proofs.Listed.{solutions_same}
 use Rattle.prl_solutions.proofs.Ones.{AreOfTheirClocks, solves_over}
 use Rattle.prl_solutions.proofs.Rounds.{fixed_along, the_table, the_table_fixed}
 use Rattle.prl_solutions.proofs.Solved.{solves_from_fixed}
 use Rattle.prl_solutions.proofs.Typed.{fixed_typed}
-use Rattle.prl_evaluation.specs.code.Dates.{AreAt, AreFull}
-use Rattle.prl_evaluation.specs.Evaluations.{AreSolution}
-use Rattle.prl_evaluation.specs.code.Fronts.{IsSet, UnderWay, len}
-use Rattle.prl_evaluation.specs.code.Runs.{IsNew}
-use Rattle.prl_evaluation.specs.declared.runs.Run.{Run}
-use Rattle.prl_evaluation.specs.declared.settings.Setting.{Setting}
+use Rattle.prl_evaluation.specs.Vocabulary.{AreAt, AreFull, AreSolution, IsSet, UnderWay, len, IsNew, Run, Setting}
 
 module _ (s : Setting) (set : IsSet s) where
   clock_there : (i : ℕ) → i < length s.flat.now.flows → IsClock (clock_of s.clocks.now i)

@@ -3,11 +3,10 @@ use Rattle.std.proofs.Common.{◌≡◌, ◌+◌, ◌-◌, ◌*◌, ◌/◌, ◌
 use Rattle.std.proofs.lemmas.Option.{slice_get_within}
 use Rattle.prl_base.specs.Operators.{IsOperatorFor, after_constant, instance, origin_of}
 use Rattle.prl_base.specs.declared.operators.Op.{Op}
-use Rattle.prl_base.specs.declared.operators.Op.TheVariants as operators
 use Rattle.prl_base.specs.declared.values.Ty.{Ty}
 use Rattle.prl_base.specs.declared.values.Value.{Value}
-use Rattle.prl_flow.specs.Programs.{FlatProgram, IsWellDefined}
-use Rattle.prl_flow.specs.Rows.{Rows, rows_of}
+use Rattle.prl_base.specs.declared.operators.Op.TheVariants as operators
+use Rattle.prl_flow.specs.Vocabulary.{FlatProgram, IsWellDefined, Rows, rows_of}
 use Rattle.prl_flow.specs.declared.programs.Def.{Def}
 use Rattle.prl_flow.specs.declared.programs.Def.TheVariants as definitions
 use Rattle.prl_solutions.specs.Tables.{Reads}

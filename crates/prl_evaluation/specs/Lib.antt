@@ -2,3 +2,4 @@
 pub mod Evaluations
 -- what private functions say to one another
 pub mod code
+pub mod Vocabulary

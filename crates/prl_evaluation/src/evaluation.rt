@@ -1,12 +1,10 @@
 //! The flows of a flat program.
 
 ghost use Rattle.std.specs.Prelude.{◌≡◌, ◌<◌, ◌≤◌, ◌^◌, ℕ, [], length, slice_get, Some, IfOk, IfErr};
-ghost use Rattle.prl_flow.specs.Applications.{HaveBodies};
-ghost use Rattle.prl_flow.specs.Counts.{values_before};
-ghost use Rattle.prl_flow.specs.Solutions.{AreClocks, HasRows, clock_of, values_of};
-ghost use Rattle.prl_flow.specs.Uses.{IsOrder};
-ghost use Rattle.prl_base.specs.Clocks.{IsClock};
+ghost use Rattle.prl_flow.specs.Vocabulary.{HaveBodies, values_before, AreClocks, HasRows};
+ghost use Rattle.prl_flow.specs.Vocabulary.{clock_of, values_of, IsOrder};
 ghost use Rattle.prl_flow.specs.declared.programs.App.{App as AnyApp};
+ghost use Rattle.prl_base.specs.Clocks.{IsClock};
 ghost use Rattle.prl_solutions.specs.Conditions.{AreTypedRows};
 ghost use Rattle.prl_evaluation.specs.Evaluations.{AreSolution, IsFlowFault};
 ghost use Rattle.prl_evaluation.specs.code.Fronts.{IsSet};

@@ -3,9 +3,7 @@
 ghost use Rattle.std.specs.Prelude.{◌≡◌, ◌<◌, ◌≤◌, List, length, slice_index_or};
 ghost use Rattle.prl_base.specs.Operators.{after_constant as first_origin, origin_of};
 ghost use Rattle.prl_body.specs.declared.bodies.CheckedBody.{CheckedBody};
-ghost use Rattle.prl_flow.specs.Programs.{FlatProgram};
-ghost use Rattle.prl_flow.specs.Rows.{rows_of};
-ghost use Rattle.prl_flow.specs.Solutions.{values_of};
+ghost use Rattle.prl_flow.specs.Vocabulary.{FlatProgram, rows_of, values_of};
 ghost use Rattle.prl_solutions.specs.Tables.{nothing, table_of, taken, value_of};
 ghost use Rattle.prl_evaluation.specs.code.Fronts.{HasInstance, IsPlain, IsThere};
 

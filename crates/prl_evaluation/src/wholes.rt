@@ -1,10 +1,10 @@
 //! Flows that depend on no cycle, each with all its values at once.
 
 ghost use Rattle.std.specs.Prelude.{◌≡◌, ◌+◌, ◌<◌, ◌^◌, ◌∷◌, ℕ, true, [], length, slice_get, Some, IfOk, OnOk};
+ghost use Rattle.prl_flow.specs.Solutions.{values_of};
 ghost use Rattle.prl_flow.specs.declared.programs.Arg.{Arg as AnyArg};
 ghost use Rattle.prl_flow.specs.declared.programs.Flow.{Flow as AnyFlow};
 ghost use Rattle.prl_evaluation.specs.code.Dates.{AreAt, AreFull, IsFull, IsRest};
-ghost use Rattle.prl_flow.specs.Solutions.{values_of};
 ghost use Rattle.prl_evaluation.specs.code.Fronts.{IsPlain, IsSet, UnderWay};
 ghost use Rattle.prl_evaluation.specs.code.Wholes.{AreFlows, AreWhole, IsFilling, IsGroup, is_full};
 

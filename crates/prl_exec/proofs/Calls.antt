@@ -3,31 +3,26 @@ use Rattle.std.proofs.Common.{◌≡◌, ◌+◌, ◌<◌, ◌≤◌, ◌++◌, 
 use Rattle.std.specs.Prelude.{slice_get, slice_index}
 use Rattle.std.proofs.lemmas.Option.{slice_get_within}
 use Rattle.prl_base.specs.declared.numbers.EdgeNo.{EdgeNo}
+use Rattle.prl_plan.specs.Vocabulary.{FindsTag, KeepsGated, RunConstants, action_at, next_action}
 use Rattle.prl_plan.specs.declared.events.Action.{Action}
-use Rattle.prl_plan.specs.declared.events.Action.TheVariants as actions
 use Rattle.prl_plan.specs.declared.events.Event.{Event}
 use Rattle.prl_plan.specs.declared.events.SlotNo.{SlotNo}
-use Rattle.prl_plan.specs.Rules.{FindsTag, KeepsGated}
-use Rattle.prl_plan.specs.Runs.{RunConstants, action_at, next_action}
+use Rattle.prl_plan.specs.declared.events.Action.TheVariants as actions
+use Rattle.prl_rule.specs.Vocabulary.{run_of, reached}
 use Rattle.prl_rule.specs.declared.views.ClockPart.{ClockPart}
 use Rattle.prl_rule.specs.declared.views.Constants.{Constants}
-use Rattle.prl_rule.specs.Known.{run_of}
-use Rattle.prl_rule.specs.Rule.{reached}
 use Rattle.prl_seats.specs.declared.jobs.Release.TheVariants as releases
+use Rattle.prl_seats.specs.JobSeats.{AnswersRelease, Ends, GoesOn, IsStage, JobSeatView}
 use Rattle.prl_seats.specs.declared.jobs.Stage.{Stage}
 use Rattle.prl_seats.specs.declared.jobs.Stage.TheVariants as stages
-use Rattle.prl_seats.specs.JobSeats.{AnswersRelease, Ends, GoesOn, IsStage, JobSeatView}
+use Rattle.prl_board.specs.Vocabulary.{IsPlacedAt, IsReleasedBy, IsTaskCall, IsWhole, LoneView, lent_to, tag_found, AnswersHalf, AnswersRead, AnswersWrite, MayFinish, MayRead, MayWrite, place_of}
 use Rattle.prl_board.specs.declared.seats.Got.{Got}
-use Rattle.prl_board.specs.declared.seats.Got.TheVariants as gots
 use Rattle.prl_board.specs.declared.seats.Place.{Place}
-use Rattle.prl_board.specs.declared.seats.Place.TheVariants as places
 use Rattle.prl_board.specs.declared.seats.Wrote.{Wrote}
+use Rattle.prl_board.specs.declared.seats.Got.TheVariants as gots
+use Rattle.prl_board.specs.declared.seats.Place.TheVariants as places
 use Rattle.prl_board.specs.Lones as lones
-use Rattle.prl_board.specs.Lones.{IsPlacedAt, IsReleasedBy, IsTaskCall, IsWhole, LoneView, lent_to, tag_found}
-use Rattle.prl_board.specs.TaskSeats.{AnswersHalf, AnswersRead, AnswersWrite, MayFinish, MayRead, MayWrite, place_of}
-use Rattle.prl_exec.specs.Standing.{RunLaws, StandsIn, act_of}
-use Rattle.prl_exec.specs.code.Alone.{IsIdle}
-use Rattle.prl_exec.specs.Standing.{IsPolled}
+use Rattle.prl_exec.specs.Vocabulary.{RunLaws, StandsIn, act_of, IsIdle, IsPolled}
 use Rattle.prl_exec.proofs.Standing.{IsElse, acted, stayed}
 use Rattle.prl_board.proofs.Lists.{seat_there}
 use Rattle.prl_exec.proofs.Finding.{found_there}

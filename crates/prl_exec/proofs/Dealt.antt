@@ -4,8 +4,7 @@ use Rattle.std.proofs.Common.{Option, Some, None, length, length-set, length-app
 use Rattle.std.specs.Prelude.{slice_get}
 use Rattle.std.proofs.lemmas.Bool.{cases_eq}
 use Rattle.prl_seats.specs.JobSeats.{JobSeatView}
-use Rattle.prl_exec.specs.code.Hands.{Has}
-use Rattle.prl_exec.specs.code.Polls.{IsPut, IsTaken}
+use Rattle.prl_exec.specs.Vocabulary.{Has, IsPut, IsTaken}
 use Rattle.prl_board.proofs.Lists.{set_at, set_else, set_here}
 use Rattle.prl_exec.proofs.Holding.{get_last}
 

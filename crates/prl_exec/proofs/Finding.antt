@@ -4,17 +4,15 @@ use Rattle.std.specs.Prelude.{slice_get, slice_index}
 use Rattle.std.proofs.lemmas.Option.{slice_get-get_or}
 use Rattle.prl_base.specs.declared.numbers.EdgeNo.{EdgeNo}
 use Rattle.prl_plan.specs.declared.events.Action.TheVariants as actions
+use Rattle.prl_plan.specs.Vocabulary.{ReadsAt, IsWriter, last_tag, RunConstants, action_at}
 use Rattle.prl_plan.specs.declared.events.Event.{Event}
 use Rattle.prl_plan.specs.declared.events.SlotNo.{SlotNo}
-use Rattle.prl_plan.specs.Facts.{ReadsAt}
-use Rattle.prl_plan.specs.LastTags.{IsWriter, last_tag}
-use Rattle.prl_plan.specs.Runs.{RunConstants, action_at}
-use Rattle.prl_rule.specs.declared.views.ClockPart.{ClockPart}
 use Rattle.prl_rule.specs.Rule.{reached}
+use Rattle.prl_rule.specs.declared.views.ClockPart.{ClockPart}
 use Rattle.prl_seats.specs.declared.jobs.Stage.TheVariants as stages
 use Rattle.prl_seats.specs.JobSeats.{JobSeatView}
-use Rattle.prl_board.specs.declared.seats.Got.{Got}
 use Rattle.prl_board.specs.Lones.{FindsTag, LoneView, tag_found}
+use Rattle.prl_board.specs.declared.seats.Got.{Got}
 use Rattle.prl_exec.specs.Standing.{RunLaws, StandsIn}
 
 -- the half holds the tag that was found

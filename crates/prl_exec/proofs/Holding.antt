@@ -4,11 +4,9 @@ use Rattle.std.specs.Prelude.{Vec, slice_get}
 use Rattle.std.specs.Vec.{vec_items}
 use Rattle.std.specs.declared.alloc.Global.{Global}
 use Rattle.std.proofs.lemmas.Bool.{cases_eq}
-use Rattle.prl_seats.specs.Boards.{BoardView}
-use Rattle.prl_seats.specs.JobSeats.{IsSeatOf, JobSeatView}
+use Rattle.prl_seats.specs.Vocabulary.{BoardView, IsSeatOf, JobSeatView}
 use Rattle.prl_board.proofs.Lists.{set_at, set_else, set_here}
-use Rattle.prl_exec.specs.code.Hands.{AreHeld, Has, KeepSeats}
-use Rattle.prl_exec.specs.code.Polls.{IsSlotOf, IsSlotPolled}
+use Rattle.prl_exec.specs.Vocabulary.{AreHeld, Has, KeepSeats, IsSlotOf, IsSlotPolled}
 
 module _ (b : BoardView) (seats : List (Option JobSeatView)) (held : AreHeld b seats) (i : ℕ) where
   -- a slot for a seat of the board

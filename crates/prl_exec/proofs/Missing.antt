@@ -5,20 +5,17 @@ use Rattle.std.proofs.lemmas.Bool.{cases_eq}
 use Rattle.prl_base.specs.declared.numbers.CellNo.{CellNo}
 use Rattle.prl_base.specs.declared.numbers.TaskNo.{TaskNo}
 use Rattle.prl_plan.specs.declared.events.Action.TheVariants as actions
-use Rattle.prl_plan.specs.LastTags.{last_tag}
-use Rattle.prl_plan.specs.Runs.{RunConstants, action_at}
-use Rattle.prl_rule.specs.declared.views.Constants.{Constants}
+use Rattle.prl_plan.specs.Vocabulary.{last_tag, RunConstants, action_at}
 use Rattle.prl_rule.specs.Known.{run_of}
+use Rattle.prl_rule.specs.declared.views.Constants.{Constants}
+use Rattle.prl_seats.specs.JobSeats.{IsStage, JobSeatView}
 use Rattle.prl_seats.specs.declared.jobs.Stage.{Stage}
 use Rattle.prl_seats.specs.declared.jobs.Stage.TheVariants as stages
-use Rattle.prl_seats.specs.JobSeats.{IsStage, JobSeatView}
 use Rattle.prl_board.specs.declared.seats.Got.TheVariants as gots
+use Rattle.prl_board.specs.Vocabulary.{FindsTag, HoldsTag, IsPlacedAt, IsTaskCall, IsWhole, LoneView, lent_to, AnswersRead, MayRead, place_of}
 use Rattle.prl_board.specs.declared.seats.Half.{Half}
 use Rattle.prl_board.specs.declared.seats.Place.TheVariants as places
-use Rattle.prl_board.specs.Lones.{FindsTag, HoldsTag, IsPlacedAt, IsTaskCall, IsWhole, LoneView, lent_to}
-use Rattle.prl_board.specs.TaskSeats.{AnswersRead, MayRead, place_of}
-use Rattle.prl_exec.specs.declared.overruns.Missed.{Missed}
-use Rattle.prl_exec.specs.code.Overruns.{IsOverrunIn, IsReadingAt}
+use Rattle.prl_exec.specs.Vocabulary.{Missed, IsOverrunIn, IsReadingAt}
 use Rattle.prl_board.proofs.Lists.{seat_there}
 
 -- it may read

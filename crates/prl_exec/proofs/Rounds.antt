@@ -5,33 +5,24 @@ use Rattle.std.proofs.lemmas.Bool.{cases_eq}
 use Rattle.std.proofs.lemmas.Grind.{get_or-set_at}
 use Rattle.std.proofs.lemmas.List.{get_or-set_other, get_or-replicate, length-replicate}
 use Rattle.std.proofs.lemmas.Option.{slice_get_within}
+use Rattle.prl_plan.specs.Vocabulary.{IsComplete, IsUnfinished, KeepsGated, RunConstants, ExecState, opening}
 use Rattle.prl_plan.specs.declared.events.Action.{Action}
-use Rattle.prl_plan.specs.declared.events.Action.TheVariants as actions
 use Rattle.prl_plan.specs.declared.events.Event.{Event}
+use Rattle.prl_plan.specs.declared.events.Action.TheVariants as actions
 use Rattle.prl_plan.specs.declared.events.Event.TheVariants as events
-use Rattle.prl_plan.specs.Rules.{IsComplete, IsUnfinished, KeepsGated}
-use Rattle.prl_plan.specs.Runs.{RunConstants, ExecState, opening}
+use Rattle.prl_rule.specs.Vocabulary.{run_of, reached, looked, ticked, LookTold}
 use Rattle.prl_rule.specs.declared.views.ClockPart.{ClockPart}
 use Rattle.prl_rule.specs.declared.views.Constants.{Constants}
 use Rattle.prl_rule.specs.declared.views.View.{View}
-use Rattle.prl_rule.specs.Known.{run_of}
-use Rattle.prl_rule.specs.Rule.{reached}
-use Rattle.prl_rule.specs.Steps.{looked, ticked}
-use Rattle.prl_rule.specs.Told.{LookTold}
+use Rattle.prl_seats.specs.Vocabulary.{IsStage, JobSeatView, BoardView}
 use Rattle.prl_seats.specs.declared.jobs.Stage.{Stage}
 use Rattle.prl_seats.specs.declared.jobs.Stage.TheVariants as stages
-use Rattle.prl_seats.specs.JobSeats.{IsStage, JobSeatView}
-use Rattle.prl_seats.specs.Boards.{BoardView}
+use Rattle.prl_board.specs.Vocabulary.{IsClosed, IsLastState, IsClockCall, IsTicked, IsWhole, LoneView, StandAs, AreFirstSeats, first_clock, place_of}
 use Rattle.prl_board.specs.declared.clocks.Ticked.{Ticked}
-use Rattle.prl_board.specs.declared.clocks.Ticked.TheVariants as ticks
 use Rattle.prl_board.specs.declared.seats.Place.{Place}
+use Rattle.prl_board.specs.declared.clocks.Ticked.TheVariants as ticks
 use Rattle.prl_board.specs.declared.seats.Place.TheVariants as places
-use Rattle.prl_board.specs.Closings.{IsClosed, IsLastState}
-use Rattle.prl_board.specs.Lones.{IsClockCall, IsTicked, IsWhole, LoneView, StandAs}
-use Rattle.prl_board.specs.Openings.{AreFirstSeats, first_clock}
-use Rattle.prl_board.specs.TaskSeats.{place_of}
-use Rattle.prl_exec.specs.Standing.{HasSeen, RunLaws, StandsIn, act_of}
-use Rattle.prl_exec.specs.code.Alone.{IsLeftOver}
+use Rattle.prl_exec.specs.Vocabulary.{HasSeen, RunLaws, StandsIn, act_of, IsLeftOver}
 use Rattle.prl_exec.proofs.Standing.{appended}
 use Rattle.prl_board.proofs.Lists.{seat_there}
 

@@ -5,14 +5,12 @@ use Rattle.std.proofs.lemmas.Bool.{cases_eq}
 use Rattle.std.proofs.lemmas.Grind.{get_or-set_at}
 use Rattle.std.proofs.lemmas.List.{get_or-set_other}
 use Rattle.std.proofs.lemmas.Option.{slice_get_within}
+use Rattle.prl_plan.specs.Vocabulary.{FindsTag, HasJob, IsFree, KeepsGated, RunConstants, ExecState, opening, action_at, next_action, after_action, after_event, IsSound}
 use Rattle.prl_plan.specs.declared.events.Action.{Action}
-use Rattle.prl_plan.specs.declared.events.Action.TheVariants as actions
 use Rattle.prl_plan.specs.declared.events.Event.{Event}
-use Rattle.prl_plan.specs.Rules.{FindsTag, HasJob, IsFree, KeepsGated}
-use Rattle.prl_plan.specs.Runs.{RunConstants, ExecState, opening, action_at, next_action, after_action, after_event}
-use Rattle.prl_plan.specs.States.{IsSound}
-use Rattle.prl_rule.specs.declared.views.ClockPart.{ClockPart}
+use Rattle.prl_plan.specs.declared.events.Action.TheVariants as actions
 use Rattle.prl_rule.specs.Rule.{reached}
+use Rattle.prl_rule.specs.declared.views.ClockPart.{ClockPart}
 use Rattle.prl_seats.specs.declared.jobs.Stage.TheVariants as stages
 use Rattle.prl_seats.specs.JobSeats.{JobSeatView}
 use Rattle.prl_board.specs.Lones.{LoneView}

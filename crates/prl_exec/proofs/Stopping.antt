@@ -3,29 +3,16 @@ use Rattle.std.proofs.Common.{◌≡◌, ◌+◌, ◌/◌, ◌^◌, ◌<◌, ◌
 use Rattle.std.specs.Prelude.{IsSome, slice_get, slice_index}
 use Rattle.prl_base.specs.declared.numbers.EdgeNo.{EdgeNo}
 use Rattle.prl_plan.specs.declared.events.Action.TheVariants as actions
+use Rattle.prl_plan.specs.Vocabulary.{IsJob, ReadsAt, IsWriter, last_tag, operand_of, IsActionOf, IsHalfOf, cell_of, edge_at, high, low, place_on, ComesFrom, IsFree, RunConstants, ExecState}
+use Rattle.prl_plan.specs.Vocabulary.{action_at, opening, IsTagged}
 use Rattle.prl_plan.specs.declared.events.Event.{Event}
-use Rattle.prl_plan.specs.Facts.{IsJob, ReadsAt}
-use Rattle.prl_plan.specs.LastTags.{IsWriter, last_tag}
-use Rattle.prl_plan.specs.Operands.{operand_of}
-use Rattle.prl_plan.specs.Plans.{IsActionOf, IsHalfOf, cell_of, edge_at, high, low, place_on}
-use Rattle.prl_plan.specs.Precedence.{ComesFrom}
-use Rattle.prl_plan.specs.Rules.{IsFree}
-use Rattle.prl_plan.specs.Runs.{RunConstants, ExecState, action_at, opening}
-use Rattle.prl_plan.specs.States.{IsTagged}
+use Rattle.prl_rule.specs.Vocabulary.{run_of, values_of, reached, RunValues, word_of}
 use Rattle.prl_rule.specs.declared.views.Constants.{Constants}
 use Rattle.prl_rule.specs.declared.views.Gate.{Gate}
 use Rattle.prl_rule.specs.declared.views.Gate.TheVariants as gates
-use Rattle.prl_rule.specs.Known.{run_of, values_of}
-use Rattle.prl_rule.specs.Rule.{reached}
-use Rattle.prl_rule.specs.RunValues.{RunValues, word_of}
 use Rattle.prl_seats.specs.JobSeats.{JobSeatView}
-use Rattle.prl_board.specs.Closings.{ClosedView, IsClosed}
-use Rattle.prl_board.specs.Lones.{LoneView, StandAs}
-use Rattle.prl_exec.specs.declared.overruns.Missed.{Missed}
-use Rattle.prl_exec.specs.declared.runs.Stopped.{Stopped}
-use Rattle.prl_exec.specs.Runs.{HasStopped, IsGivenTo}
-use Rattle.prl_exec.specs.Standing.{RunLaws}
-use Rattle.prl_exec.specs.code.Overruns.{IsOverrunIn}
+use Rattle.prl_board.specs.Vocabulary.{ClosedView, IsClosed, LoneView, StandAs}
+use Rattle.prl_exec.specs.Vocabulary.{Missed, Stopped, HasStopped, IsGivenTo, RunLaws, IsOverrunIn}
 use Rattle.prl_board.proofs.Lists.{seat_there}
 
 half_of_cell : (cell slot : ℕ) → IsHalfOf cell slot → slot / 2 ≡ cell

@@ -4,3 +4,4 @@ pub mod Standing
 pub mod Runs
 -- what private functions say to one another
 pub mod code
+pub mod Vocabulary

@@ -2,16 +2,13 @@
 
 ghost use Rattle.std.specs.Prelude.{◌≡◌, ◌+◌, ◌*◌, ◌<◌, ◌≤◌, ◌++◌, List, [], ◌∷◌, IfOk, Some, length};
 ghost use Rattle.std.specs.Bool.{OnFalse, OnTrue};
+ghost use Rattle.prl_plan.specs.Vocabulary.{IsHorizon, KeepsGated};
 ghost use Rattle.prl_plan.specs.declared.events.Event.{Event};
 ghost use Rattle.prl_plan.specs.declared.events.Event.TheVariants as events;
-ghost use Rattle.prl_plan.specs.Horizons.{IsHorizon};
-ghost use Rattle.prl_plan.specs.Rules.{KeepsGated};
 ghost use Rattle.prl_values.specs.Fitting.{HaveTaskBodies, HaveTypedRows};
+ghost use Rattle.prl_rule.specs.Vocabulary.{known, run_of, reached};
 ghost use Rattle.prl_rule.specs.declared.views.ClockPart.{ClockPart};
-ghost use Rattle.prl_rule.specs.Known.{known, run_of};
-ghost use Rattle.prl_rule.specs.Rule.{reached};
-ghost use Rattle.prl_board.specs.Lones.{IsLoneOf, IsPlacedAt};
-ghost use Rattle.prl_board.specs.TaskSeats.{MayRead};
+ghost use Rattle.prl_board.specs.Vocabulary.{IsLoneOf, IsPlacedAt, MayRead};
 ghost use Rattle.prl_exec.specs.Runs.{HasEnded};
 ghost use Rattle.prl_exec.specs.Standing.{HasSeen, StandsIn, TellsPoll};
 ghost use Rattle.prl_exec.specs.code.Alone.{HasActed, HasGoneOn, IsIdle, IsLeftOver, IsOver, MayAct};

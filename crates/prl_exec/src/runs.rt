@@ -4,10 +4,9 @@ ghost use Rattle.std.specs.Prelude.{◌≡◌, ◌+◌, ◌<◌, ◌≤◌, [], 
 ghost use Rattle.std.specs.Vec.{vec_items};
 ghost use Rattle.prl_plan.specs.Horizons.{IsHorizon};
 ghost use Rattle.prl_values.specs.Fitting.{HaveTaskBodies, HaveTypedRows};
-ghost use Rattle.prl_rule.specs.declared.views.ClockPart.{ClockPart};
 ghost use Rattle.prl_rule.specs.Known.{known, run_of};
-ghost use Rattle.prl_board.specs.ClockSeats.{IsClockOf};
-ghost use Rattle.prl_board.specs.Lones.{AreSeatsOf, IsLoneOf};
+ghost use Rattle.prl_rule.specs.declared.views.ClockPart.{ClockPart};
+ghost use Rattle.prl_board.specs.Vocabulary.{IsClockOf, AreSeatsOf, IsLoneOf};
 ghost use Rattle.prl_exec.specs.Runs.{HasEnded, IsRunFault, HasStopped};
 ghost use Rattle.prl_exec.specs.code.Alone.{IsOver};
 ghost use Rattle.prl_exec.specs.code.Hands.{AreDealt, AreHeld, HasOwn};

@@ -1,44 +1,31 @@
 -- What a run needs, from what the texts mean.
 use Rattle.std.proofs.Common.{◌≡◌, ◌∙◌, ◌++◌, ℕ, List, Some, Ok, length, refl, sym, ap, subst}
 use Rattle.prl_body.specs.declared.bodies.CheckedBody.{CheckedBody}
-use Rattle.prl_flow.specs.Rows.{Rows}
+use Rattle.prl_flow.specs.Vocabulary.{Rows, AreUpTo, actuator_text}
+use Rattle.prl_flow.specs.declared.programs.OutFlow.{OutFlow}
+use Rattle.prl_plan.specs.Vocabulary.{PlanView, IsPlan, IsHorizon, Placement, alone, constants_of, IsComplete, IsGated, ExecState, after_events, opening}
+use Rattle.prl_plan.specs.declared.events.Event.{Event}
 use Rattle.prl_plan.specs.declared.horizons.Horizon.{Horizon}
-use Rattle.prl_plan.specs.Plans.{PlanView, IsPlan}
 use Rattle.prl_board.specs.Closings.{ClosedView, IsClosed, IsLastState}
 use Rattle.prl_exec.specs.Runs.{HasEnded, HasStopped}
 use Rattle.prl_exec.specs.declared.runs.Stopped.{Stopped}
 use Rattle.prl_core.specs.Cores.{opened, opened_on}
-use Rattle.prl_flow.specs.declared.programs.OutFlow.{OutFlow}
-use Rattle.prl_flow.specs.Actuators.{AreUpTo, actuator_text}
-use Rattle.prl_plan.specs.declared.events.Event.{Event}
-use Rattle.prl_plan.specs.Horizons.{IsHorizon, Placement, alone, constants_of}
-use Rattle.prl_plan.specs.Rules.{IsComplete, IsGated}
-use Rattle.prl_plan.specs.Runs.{ExecState, after_events, opening}
 use Rattle.prl_replay.specs.Replays.{AreFlowsBelow, IsTrace, after_all}
 use Rattle.prl_results.specs.Shown.{AreShown, core_in}
+use Rattle.prl_rule.specs.Known.{known, run_of}
 use Rattle.prl_rule.specs.declared.views.Constants.{Constants}
 use Rattle.prl_rule.specs.declared.views.Gate.{Gate}
-use Rattle.prl_rule.specs.Known.{known, run_of}
 use Rattle.prl_values.specs.Fitting.{HaveTaskBodies, HaveTypedRows}
 use Rattle.prl_rule.specs.declared.views.Gate.TheVariants as gates
 use Rattle.prl_stages.specs.declared.faults.InputFile.TheVariants as files
+use Rattle.prl_stages.specs.Vocabulary.{HasOverrun, HasRun, IsCycleText, list_of, Given, text_of, HasPlan, HasPlacement, IsCoresText, Lists, Execution, IsReplayText, HasHorizon, meant_flows}
 use Rattle.prl_stages.specs.declared.ran.Ran.{Ran}
 use Rattle.prl_stages.specs.declared.ran.Ran.TheVariants as runs
-use Rattle.prl_stages.specs.Ran.{HasOverrun, HasRun, IsCycleText, list_of}
-use Rattle.prl_stages.specs.Given.{Given, text_of}
-use Rattle.prl_stages.specs.Planned.{HasPlan}
-use Rattle.prl_schedules.specs.ReadTexts.{text_of_reads}
-use Rattle.prl_schedules.specs.Schedules.{schedule_of}
-use Rattle.prl_schedules.specs.ScheduleTexts.{task_names}
+use Rattle.prl_schedules.specs.Vocabulary.{text_of_reads, schedule_of, task_names}
 use Rattle.prl_track.specs.declared.seen.Seen.{Seen}
-use Rattle.prl_stages.specs.Placed.{HasPlacement, IsCoresText, Lists}
-use Rattle.prl_stages.specs.Replayed.{Execution, IsReplayText}
-use Rattle.prl_stages.specs.Scheduled.{HasHorizon}
+use Rattle.prl_tables.specs.Vocabulary.{IsGood, entries_of}
 use Rattle.prl_tables.specs.declared.tables.Entry.{Entry}
-use Rattle.prl_tables.specs.Tables.{IsGood}
-use Rattle.prl_tables.specs.TableTexts.{entries_of}
 use Rattle.prl_executions.specs.declared.ready.Ready.{Ready}
-use Rattle.prl_stages.specs.Runs.{meant_flows}
 use Rattle.prl_executions.specs.Ready.{IsReady, IsTextOf, ready_of}
 
 abbrev parts : PlanView → List CheckedBody → Rows → Horizon → Ready

@@ -3,11 +3,11 @@ use Rattle.std.proofs.Common.{◌≢◌, ℕ, List, length}
 use Rattle.prl_body.specs.declared.bodies.CheckedBody.{CheckedBody}
 use Rattle.prl_flow.specs.Rows.{Rows}
 use Rattle.prl_core.specs.Cores.{opened}
-use Rattle.prl_plan.specs.declared.horizons.Horizon.{Horizon}
 use Rattle.prl_plan.specs.Plans.{PlanView}
+use Rattle.prl_plan.specs.declared.horizons.Horizon.{Horizon}
+use Rattle.prl_replay.specs.Replays.{IsReplayFault}
 use Rattle.prl_replay.specs.declared.faults.ReplayFault.{ReplayFault}
 use Rattle.prl_replay.specs.declared.faults.ReplayFault.TheVariants as causes
-use Rattle.prl_replay.specs.Replays.{IsReplayFault}
 use Rattle.prl_stages.specs.Replayed.{bare}
 use Rattle.prl_executions.specs.code.Faults.{IsOfTask}
 

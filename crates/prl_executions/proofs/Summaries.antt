@@ -7,21 +7,17 @@ use Rattle.prl_board.specs.Closings.{ClosedView, IsClosed}
 use Rattle.prl_core.specs.Cores.{CoreView, constants, opened, opened_on}
 use Rattle.prl_exec.specs.Runs.{HasEnded}
 use Rattle.prl_flow.specs.declared.programs.OutFlow.{OutFlow}
+use Rattle.prl_plan.specs.Vocabulary.{Placement, alone, constants_of, after_events, opening, IsLegal, IsComplete}
 use Rattle.prl_plan.specs.declared.events.Event.{Event}
 use Rattle.prl_plan.specs.declared.events.Rule.{Rule}
-use Rattle.prl_plan.specs.Horizons.{Placement, alone, constants_of}
-use Rattle.prl_plan.specs.Runs.{after_events, opening}
-use Rattle.prl_plan.specs.Rules.{IsLegal, IsComplete}
+use Rattle.prl_replay.specs.Replays.{FailsWith, IsRunFault, IsTrace, after_all}
 use Rattle.prl_replay.specs.declared.faults.ReplayFault.{ReplayFault}
 use Rattle.prl_replay.specs.declared.faults.ReplayFault.TheVariants as faults
-use Rattle.prl_replay.specs.Replays.{FailsWith, IsRunFault, IsTrace, after_all}
 use Rattle.prl_results.specs.Shown.{AreShown}
 use Rattle.prl_rule.specs.declared.views.Gate.TheVariants as gates
 use Rattle.prl_schedules.specs.Dispatches.{IsDispatched}
 use Rattle.prl_stages.specs.declared.ran.Ran.TheVariants as runs
-use Rattle.prl_stages.specs.Given.{Given}
-use Rattle.prl_stages.specs.Ran.{IsSummary, sum_of, summary_line}
-use Rattle.prl_stages.specs.Runs.{meant_flows}
+use Rattle.prl_stages.specs.Vocabulary.{Given, IsSummary, sum_of, summary_line, meant_flows}
 use Rattle.prl_track.specs.declared.seen.Seen.{Seen}
 use Rattle.prl_calls.proofs.Joined.{joined}
 use Rattle.prl_executions.specs.declared.ready.Ready.{Ready}

@@ -1,20 +1,17 @@
 -- What reading and checking the text of a table tell.
 use Rattle.std.proofs.Common.{◌≡◌, ◌≢◌, ◌+◌, if◌then◌else◌, ℕ, Bool, true, false, List, [], ◌∷◌, length, Option, Some, None, Result, Ok, Err, refl, subst, inl, inr}
-use Rattle.prl_base.specs.Lines.{lines_of}
-use Rattle.prl_base.specs.Reading.{◌>>=◌}
+use Rattle.prl_base.specs.Vocabulary.{lines_of, ◌>>=◌}
 use Rattle.prl_plan.specs.Plans.{PlanView}
 use Rattle.prl_stages.specs.declared.faults.Fault.TheVariants as faults
 use Rattle.prl_stages.specs.declared.faults.InputFile.TheVariants as files
+use Rattle.prl_stages.specs.Vocabulary.{Given, text_of, HasPlan, IsTableFault, table_refusal}
 use Rattle.prl_stages.specs.declared.faults.TableRefusal.{TableRefusal}
 use Rattle.prl_stages.specs.declared.stages.Stage.TheVariants as stages
 use Rattle.prl_stages.specs.declared.stages.Stop.TheVariants as stops
-use Rattle.prl_stages.specs.Given.{Given, text_of}
-use Rattle.prl_stages.specs.Planned.{HasPlan}
-use Rattle.prl_stages.specs.Tabled.{IsTableFault, table_refusal}
-use Rattle.prl_tables.specs.declared.reading.TableFault.{TableFault}
-use Rattle.prl_tables.specs.declared.reading.TableFault.TheVariants as checking
-use Rattle.prl_tables.specs.declared.tables.Entry.{Entry}
 use Rattle.prl_tables.specs.TableTexts.{after_line, entries_from, entries_of, is_header, next_entry, no_more, or_line, tells_hyper}
+use Rattle.prl_tables.specs.declared.reading.TableFault.{TableFault}
+use Rattle.prl_tables.specs.declared.tables.Entry.{Entry}
+use Rattle.prl_tables.specs.declared.reading.TableFault.TheVariants as checking
 use Rattle.prl_executions.specs.code.Faults.{AreOfTask}
 use Rattle.prl_calls.specs.Stops.{StopsAt}
 

@@ -2,19 +2,14 @@
 
 ghost use Rattle.std.specs.Prelude.{◌≡◌, ◌≤◌, ◌++◌, IfOk, IfErr, [], ◌∷◌, length, map};
 ghost use Rattle.prl_ast.specs.Trees.{program_tree};
-ghost use Rattle.prl_body.specs.Checks.{body_tree};
-ghost use Rattle.prl_body.specs.Used.{HaveBodiesOf};
+ghost use Rattle.prl_body.specs.Vocabulary.{body_tree, HaveBodiesOf};
 ghost use Rattle.prl_expand.specs.Expanding.{IsExpanded};
 ghost use Rattle.prl_flow.specs.Uses.{IsOrder};
 ghost use Rattle.prl_graph.specs.TaskGraphs.{IsGraphOf};
 ghost use Rattle.prl_names.specs.Uses.{used_imports};
 ghost use Rattle.prl_types.specs.Typing.{IsTyped};
-ghost use Rattle.prl_stages.specs.Flattened.{HasClocks};
-ghost use Rattle.prl_stages.specs.Parts.{AreBodies, IsMain};
-ghost use Rattle.prl_stages.specs.Planned.{HasWords};
-ghost use Rattle.prl_stages.specs.Runs.{HasRows};
-ghost use Rattle.prl_stages.specs.Scheduled.{HasHorizon};
-ghost use Rattle.prl_stages.specs.Stages.{front, graphed, planned, ran};
+ghost use Rattle.prl_stages.specs.Vocabulary.{HasClocks, AreBodies, IsMain, HasWords, HasRows};
+ghost use Rattle.prl_stages.specs.Vocabulary.{HasHorizon, front, graphed, planned, ran};
 ghost use Rattle.prl_calls.specs.Stops.{given_of, AllHold, StopsIn};
 ghost use Rattle.prl_executions.specs.Ready.{IsReady};
 

@@ -1,8 +1,7 @@
 //! The last stage of mode `replay`: the schedule is done on the machine of the plan, and what this tells is written.
 
 ghost use Rattle.std.specs.Prelude.{◌≡◌, ◌≤◌, Some, IfOk, IfErr, IfSome, length};
-ghost use Rattle.prl_stages.specs.Replayed.{schedule_refusal};
-ghost use Rattle.prl_stages.specs.Stages.{Holds, IsText, stages_after};
+ghost use Rattle.prl_stages.specs.Vocabulary.{schedule_refusal, Holds, IsText, stages_after};
 ghost use Rattle.prl_executions.specs.Ready.{IsReady};
 ghost use Rattle.prl_calls.specs.Stops.{given_of, AllHold, StopsAt, StopsIn};
 ghost use Rattle.prl_executions.specs.code.Faults.{IsOfTask};

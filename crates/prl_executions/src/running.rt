@@ -4,8 +4,7 @@ ghost use Rattle.std.specs.Prelude.{◌≡◌, ◌<◌, ◌≤◌, ◌++◌, IfO
 ghost use Rattle.prl_exec.specs.Runs.{HasEnded};
 ghost use Rattle.prl_plan.specs.Horizons.{IsHorizon};
 ghost use Rattle.prl_rule.specs.Known.{known};
-ghost use Rattle.prl_stages.specs.Ran.{IsRunText};
-ghost use Rattle.prl_stages.specs.Stages.{front, ran};
+ghost use Rattle.prl_stages.specs.Vocabulary.{IsRunText, front, ran};
 ghost use Rattle.prl_values.specs.Fitting.{HaveTaskBodies, HaveTypedRows};
 ghost use Rattle.prl_executions.specs.Ready.{IsOutcome, IsReady, IsTextOf};
 ghost use Rattle.prl_calls.specs.Stops.{given_of, AllHold, StopsIn};

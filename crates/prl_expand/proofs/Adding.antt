@@ -9,20 +9,14 @@ use Rattle.prl_ast.specs.declared.declarations.Port.{Port}
 use Rattle.prl_ast.specs.declared.expressions.PlacedOp.{PlacedOp}
 use Rattle.prl_flow.specs.declared.programs.App.{App}
 use Rattle.prl_flow.specs.declared.programs.Arg.{Arg}
-use Rattle.prl_flow.specs.declared.programs.Def.TheVariants as definitions
 use Rattle.prl_flow.specs.declared.programs.Flow.{Flow}
+use Rattle.prl_flow.specs.declared.programs.Def.TheVariants as definitions
 use Rattle.prl_behaviours.specs.Asked.{first_of as first_given, last_of}
-use Rattle.prl_expand.specs.Flats.{Numbered, flow_no, made_flow, operator_flows, output_flows}
-use Rattle.prl_expand.specs.declared.counts.ExpandFault.{ExpandFault}
+use Rattle.prl_expand.specs.Vocabulary.{Numbered, flow_no, made_flow, operator_flows, output_flows, ExpandFault, Next, Made, Adds, IsFew, IsPast, first_type, head_of, operated_flows, operated_given}
+use Rattle.prl_expand.specs.Vocabulary.{operated_types, types_of, arg_of, flow_of, flows_of, number_of, operators_made, operators_over, output_terms, outputs_made, placed_at}
 use Rattle.prl_expand.specs.declared.counts.ExpandFault.TheVariants as faults
-use Rattle.prl_expand.specs.declared.counts.Next.{Next}
-use Rattle.prl_expand.specs.declared.nodes.Made.{Made}
 use Rattle.prl_expand.specs.declared.terms.Term as given
-use Rattle.prl_expand.specs.code.Adding.{Adds}
-use Rattle.prl_expand.specs.code.Limits.{IsFew, IsPast}
-use Rattle.prl_expand.specs.code.Made.{first_type, head_of, operated_flows, operated_given, operated_types, types_of}
 use Rattle.prl_expand.proofs.TermLists.{range_suc}
-use Rattle.prl_expand.specs.code.Terms.{arg_of, flow_of, flows_of, number_of, operators_made, operators_over, output_terms, outputs_made, placed_at}
 
 pub past_more : (m n : ℕ) (e : ExpandFault) → m ≤ n → IsPast m e → IsPast n e
 past_more m n (faults.Limit limit) below h = (h.0, omega (arith, below, h.1))

@@ -5,18 +5,15 @@ use Rattle.std.specs.Str.{bytes_eq}
 use Rattle.std.specs.Cmp.Lexicographic.{bytes_decides}
 use Rattle.std.proofs.lemmas.Bool.{or_cases, eqb-true}
 use Rattle.std.proofs.lemmas.Option.{slice_get-map, slice_get_within}
+use Rattle.prl_ast.specs.Trees.{NodeTree, ProgramTree}
 use Rattle.prl_ast.specs.declared.declarations.Import.{Import}
 use Rattle.prl_ast.specs.declared.declarations.Port.{Port}
-use Rattle.prl_ast.specs.Trees.{NodeTree, ProgramTree}
 use Rattle.prl_body.specs.Checks.{import_named}
-use Rattle.prl_flow.specs.Applications.{HaveTypes}
-use Rattle.prl_flow.specs.Programs.{FlatProgram}
+use Rattle.prl_flow.specs.Vocabulary.{HaveTypes, FlatProgram}
 use Rattle.prl_flow.specs.declared.programs.Arg.{Arg}
 use Rattle.prl_flow.proofs.Lists.{slice_get_append_left}
-use Rattle.prl_names.specs.Applications.{applies, Reaches, once, then, reaches}
-use Rattle.prl_names.specs.Lookups.{index_of}
-use Rattle.prl_names.specs.Named.{AreApart}
-use Rattle.prl_names.specs.Uses.{node_applied, is_expanded, expanded_from, expanded_names, used_among, used_imports}
+use Rattle.prl_names.specs.Vocabulary.{applies, once, then, reaches, index_of, AreApart, node_applied, is_expanded, expanded_from, expanded_names, used_among, used_imports}
+use Rattle.prl_names.specs.Applications.{Reaches}
 use Rattle.prl_names.proofs.Reaching.{reached, reaching}
 use Rattle.prl_types.specs.Flows as flows
 use Rattle.prl_expand.specs.Flats.{Types, flow_no}

@@ -5,22 +5,15 @@ use Rattle.std.proofs.lemmas.List.{length-map}
 use Rattle.prl_ast.specs.Trees.{ProgramTree}
 use Rattle.prl_base.specs.declared.values.Ty.{Ty}
 use Rattle.prl_body.specs.declared.bodies.CheckedBody.{CheckedBody}
+use Rattle.prl_flow.specs.Vocabulary.{FlatProgram, Rows, Rule, mark_rule, flows_rules, app_rule, apps_rules, flat_rules, Timed, State, IsTimed, Holds, IsSolution, flow_at, registers_at}
 use Rattle.prl_flow.specs.declared.programs.App.{App}
-use Rattle.prl_flow.specs.Programs.{FlatProgram}
-use Rattle.prl_flow.specs.Rows.{Rows}
-use Rattle.prl_flow.specs.Rules.{Rule, mark_rule, flows_rules, app_rule, apps_rules, flat_rules}
-use Rattle.prl_flow.specs.States.{Timed, State, IsTimed, Holds, IsSolution, flow_at, registers_at}
 use Rattle.prl_names.proofs.Right.{named}
 use Rattle.prl_types.specs.Typing.{IsTyped}
-use Rattle.prl_behaviours.specs.Annotations.{flows_in, imports_in}
-use Rattle.prl_behaviours.specs.Asked.{inputs_of, program_rules, sensed_rules, entered_rules}
-use Rattle.prl_behaviours.specs.Behaviours.{Behaviour, Satisfies, behaviour_of, state_in}
+use Rattle.prl_behaviours.specs.Vocabulary.{flows_in, imports_in, inputs_of, program_rules, sensed_rules, entered_rules, Behaviour, Satisfies, behaviour_of, state_in}
 use Rattle.prl_behaviours.proofs.Marks.{program-map}
 use Rattle.prl_behaviours.proofs.Shapes.{one_behaviour}
 use Rattle.prl_behaviours.proofs.States.{made, own, flow_places, import_places}
-use Rattle.prl_expand.specs.Correspondence.{IsOneToOne}
-use Rattle.prl_expand.specs.Expansions.{Expansion, IsExpansion}
-use Rattle.prl_expand.specs.Flats.{Numbered, all_numbered, entered_apps, flat_of, sensors_from}
+use Rattle.prl_expand.specs.Vocabulary.{IsOneToOne, Expansion, IsExpansion, Numbered, all_numbered, entered_apps, flat_of, sensors_from}
 use Rattle.prl_expand.proofs.FlatRules.{sensors_count, Tells, numbered_rules, zipped_rules, entered_tells, definitions_sensors}
 use Rattle.prl_expand.proofs.Lists.{head_same, tail_same, to_mapped, of_mapped, all_both, all_first, all_second}
 use Rattle.prl_expand.proofs.Numbers.{entered_numbered, numbers_of}

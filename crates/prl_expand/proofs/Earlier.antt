@@ -9,21 +9,18 @@ use Rattle.prl_base.specs.Names.{IsName}
 use Rattle.prl_base.specs.declared.places.Span.{Span}
 use Rattle.prl_base.specs.declared.values.Ty.{Ty}
 use Rattle.prl_ast.specs.InRange as ranges
+use Rattle.prl_ast.specs.Trees.{Tree, Root, const, var, apply, group, Trees, none, more, EquationTree, NodeTree, ProgramTree}
 use Rattle.prl_ast.specs.declared.declarations.Param.{Param}
 use Rattle.prl_ast.specs.declared.declarations.Port.{Port}
 use Rattle.prl_ast.specs.declared.expressions.PlacedOp.{PlacedOp}
-use Rattle.prl_ast.specs.Trees.{Tree, tree, Root, const, var, apply, group, Trees, none, more, EquationTree, NodeTree, ProgramTree}
+use Rattle.prl_ast.specs.Trees.{tree}
+use Rattle.prl_flow.specs.Vocabulary.{FlatProgram, Rule, IsArgument, NamesInside, NamesNow, is_made}
 use Rattle.prl_flow.specs.declared.programs.App.{App}
 use Rattle.prl_flow.specs.declared.programs.Arg.{Arg}
 use Rattle.prl_flow.specs.declared.programs.Def.{Def}
-use Rattle.prl_flow.specs.Programs.{FlatProgram}
-use Rattle.prl_flow.specs.Rules.{Rule}
-use Rattle.prl_flow.specs.Uses.{IsArgument, NamesInside, NamesNow, is_made}
-use Rattle.prl_names.specs.Lookups.{callee_of, param_of, params_of}
-use Rattle.prl_names.specs.Named.{IsKnown, IsKnownRoot, AreKnown, AreKnownEquations}
-use Rattle.prl_types.specs.Arity.{equations_faults, faults_in, root_faults, all_faults}
+use Rattle.prl_names.specs.Vocabulary.{callee_of, param_of, params_of, IsKnown, IsKnownRoot, AreKnown, AreKnownEquations}
+use Rattle.prl_types.specs.Vocabulary.{equations_faults, faults_in, root_faults, all_faults, first_of}
 use Rattle.prl_types.specs.Flows as flows
-use Rattle.prl_types.specs.Parameters.{first_of}
 use Rattle.prl_behaviours.specs.Annotations.{Entered, entered, Rights, done, next, Part, part, Core, Parts, imports_in, right_imports, part_imports, core_imports, parts_imports}
 use Rattle.prl_behaviours.specs.Annotations as notes
 use Rattle.prl_behaviours.specs.Asked.{inputs_of, outputs_of, one, at_index, at_variable, last_of, first_of as first_flow, given, root_given, all_given}

@@ -3,34 +3,24 @@ use Rattle.std.proofs.Common.{◌≡◌, ◌+◌, ℕ, zero, suc, List, [], ◌�
 use Rattle.std.specs.List.{range_with_len}
 use Rattle.std.proofs.lemmas.List.{map-append, length-append, length-map}
 use Rattle.std.proofs.lemmas.List.FromFn.{length-range_with_len}
-use Rattle.prl_ast.specs.declared.declarations.Program.{Program}
 use Rattle.prl_ast.specs.Trees.{NodeTree, ProgramTree, program_tree}
+use Rattle.prl_ast.specs.declared.declarations.Param.{Param}
+use Rattle.prl_ast.specs.declared.declarations.Program.{Program}
 use Rattle.prl_flow.specs.declared.programs.App.{App}
+use Rattle.prl_flow.specs.declared.programs.Def.{Def}
 use Rattle.prl_flow.specs.declared.programs.Flow.{Flow}
 use Rattle.prl_types.specs.Flows as types
-use Rattle.prl_behaviours.specs.Annotations.{Entered, Rights}
+use Rattle.prl_behaviours.specs.Vocabulary.{Entered, Rights, outputs_of, node_at}
 use Rattle.prl_behaviours.specs.Annotations as notes
-use Rattle.prl_behaviours.specs.Asked.{outputs_of}
-use Rattle.prl_behaviours.specs.Texts.{node_at}
 use Rattle.prl_expand.specs.Flats as flats
-use Rattle.prl_expand.specs.Flats.{Numbered, Types, equated, resolved}
-use Rattle.prl_expand.specs.declared.counts.ExpandFault.{ExpandFault}
-use Rattle.prl_expand.specs.declared.counts.Next.{Next}
+use Rattle.prl_expand.specs.Vocabulary.{Numbered, Types, equated, resolved, ExpandFault, Next, IsPast, a_node, all_resolved, the_rights, types_of, past_entered, past_rights, flow_of, flows_of}
+use Rattle.prl_expand.specs.Vocabulary.{have_types, copies, type_at, variable_flow, variable_flows, variables_made}
 use Rattle.prl_expand.specs.declared.terms.Term as given_term
-use Rattle.prl_expand.specs.code.Limits.{IsPast}
-use Rattle.prl_expand.specs.code.Made.{a_node, all_resolved, the_rights, types_of}
-use Rattle.prl_expand.specs.code.Numbering.{past_entered, past_rights}
-use Rattle.prl_expand.specs.code.Terms.{flow_of, flows_of}
 use Rattle.prl_terms.specs.declared.terms.Term.TheVariants as terms
 use Rattle.prl_types.specs.Parameters.{first_of as first_param}
-use Rattle.prl_expand.specs.code.Made.{have_types}
 use Rattle.prl_expand.proofs.Adding.{past_more}
-use Rattle.prl_flow.specs.declared.programs.Def.{Def}
-use Rattle.prl_ast.specs.declared.declarations.Param.{Param}
 use Rattle.prl_names.specs.Lookups.{params_of}
 use Rattle.prl_behaviours.proofs.Lists.{head_same, tail_same}
-use Rattle.prl_expand.specs.Flats.{copies, type_at, variable_flow, variable_flows}
-use Rattle.prl_expand.specs.code.Variables.{variables_made}
 use Rattle.prl_expand.proofs.Existence.{ranges}
 use Rattle.prl_expand.proofs.Expressions.{next_of}
 

@@ -9,11 +9,10 @@ use Rattle.std.proofs.lemmas.List.FromFn.{length-range_with_len}
 use Rattle.prl_ast.specs.declared.declarations.Import.{Import}
 use Rattle.prl_ast.specs.Trees.{Tree, tree, Root, const, var, apply, group, Trees, none, more, EquationTree, NodeTree, ProgramTree}
 use Rattle.prl_flow.proofs.Lists.{element_at}
-use Rattle.prl_names.specs.Applications.{is_node, applied_in, applied_root, applied_trees, applied_equations, applied_by, applies}
+use Rattle.prl_names.specs.Vocabulary.{is_node, applied_in, applied_root, applied_trees, applied_equations, applied_by, applies, callee_of, index_of, node_names, import_names, node_or, IsNamed}
+use Rattle.prl_names.specs.Vocabulary.{IsKnown, IsKnownRoot, AreKnown, AreKnownEquations}
 use Rattle.prl_names.specs.declared.lookups.Callee.{Callee}
 use Rattle.prl_names.specs.declared.lookups.Callee.TheVariants as callees
-use Rattle.prl_names.specs.Lookups.{callee_of, index_of, node_names, import_names, node_or}
-use Rattle.prl_names.specs.Named.{IsNamed, IsKnown, IsKnownRoot, AreKnown, AreKnownEquations}
 use Rattle.prl_names.proofs.Marking.{callee_below, index_below}
 use Rattle.prl_behaviours.specs.Annotations.{Entered, entered, Rights, done, next, Part, part, Core, Parts, flows_in, right_flows, part_flows, core_flows, parts_flows, imports_in, right_imports, part_imports, core_imports, parts_imports, nodes_in, right_nodes, part_nodes, core_nodes, parts_nodes}
 use Rattle.prl_behaviours.specs.Annotations as notes

@@ -8,26 +8,18 @@ use Rattle.prl_base.specs.declared.places.Span.{Span}
 use Rattle.prl_ast.specs.declared.declarations.Import.{Import}
 use Rattle.prl_ast.specs.Trees.{Tree, tree, Root, const, var, apply, group, Trees, none, more, EquationTree, NodeTree, ProgramTree}
 use Rattle.prl_flow.proofs.Lists.{element_at}
-use Rattle.prl_names.specs.Applications.{is_node, applied_in, applied_root, applied_trees, applied_equations, applied_by, applies}
+use Rattle.prl_names.specs.Vocabulary.{is_node, applied_in, applied_root, applied_trees, applied_equations, applied_by, applies, callee_of, IsNamed, IsKnown, IsKnownRoot, AreKnown, AreKnownEquations}
 use Rattle.prl_names.specs.declared.lookups.Callee.{Callee}
 use Rattle.prl_names.specs.declared.lookups.Callee.TheVariants as callees
-use Rattle.prl_names.specs.Lookups.{callee_of}
-use Rattle.prl_names.specs.Named.{IsNamed, IsKnown, IsKnownRoot, AreKnown, AreKnownEquations}
 use Rattle.prl_names.proofs.Marking.{callee_below}
 use Rattle.prl_behaviours.specs.Annotations.{Entered, Rights, Part, Core, Parts, flows_in, right_flows, part_flows, core_flows, parts_flows, imports_in, right_imports, part_imports, core_imports, parts_imports, nodes_in, right_nodes, part_nodes, core_nodes, parts_nodes}
 use Rattle.prl_behaviours.specs.Texts as texts
 use Rattle.prl_behaviours.specs.Texts.{node_at, node_of, IsNodeCall, IsImportCall, HasVariables, IsText, AreRights, IsPart, IsCore, AreParts}
-use Rattle.prl_expand.specs.Expansions.{IsExpansion}
-use Rattle.prl_expand.specs.Flats.{ports_of}
+use Rattle.prl_expand.specs.Vocabulary.{IsExpansion, ports_of, Next, ExpandFault, IsPast, a_node, Enter, all_from, called, entered_from, node_from, part_from, past_part, past_parts, rights_from}
+use Rattle.prl_expand.specs.Vocabulary.{root_from, IsExpandFault}
 use Rattle.prl_expand.proofs.Existence.{From, both_from, range_from, true_or, or_true, same_node, import_found, no_callee}
 use Rattle.prl_expand.proofs.Ranks.{one_if, passing, rank, rank_falls}
-use Rattle.prl_expand.specs.declared.counts.Next.{Next}
-use Rattle.prl_expand.specs.declared.counts.ExpandFault.{ExpandFault}
 use Rattle.prl_expand.specs.declared.counts.ExpandFault.TheVariants as faults
-use Rattle.prl_expand.specs.code.Limits.{IsPast}
-use Rattle.prl_expand.specs.code.Made.{a_node}
-use Rattle.prl_expand.specs.code.Numbering.{Enter, all_from, called, entered_from, node_from, part_from, past_part, past_parts, rights_from, root_from}
-use Rattle.prl_expand.specs.Expanding.{IsExpandFault}
 
 -- with numbers from these on
 record IsBuilt (X : Type 0) (fs rs ns : X → List ℕ) (Good : X → Type 0) (s : Next) (value : X) : Type 0 where

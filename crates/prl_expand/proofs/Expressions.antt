@@ -4,49 +4,36 @@ use Rattle.std.specs.Prelude.{reverse, Result, Ok, Err, OnOk, IfOk, IfErr}
 use Rattle.std.specs.Option.{option_map}
 use Rattle.std.specs.Result.{IsErrAnd}
 use Rattle.std.proofs.lemmas.Option.{slice_get_within}
-use Rattle.prl_types.specs.Parameters.{parameter_or}
+use Rattle.prl_types.specs.Parameters.{parameter_or, first_of as first_param}
 use Rattle.prl_expand.proofs.Lists.{some_inner}
 use Rattle.std.specs.List.{range_with_len}
 use Rattle.std.proofs.lemmas.List.{append-nil, length-append, reverse-reverse, drop_more}
 use Rattle.std.proofs.lemmas.List.FromFn.{length-range_with_len}
 use Rattle.prl_base.specs.declared.places.Span.{Span}
 use Rattle.prl_base.specs.declared.values.Ty.{Ty}
+use Rattle.prl_ast.specs.Trees.{Root, var, apply, Trees, NodeTree, ProgramTree, equation_tree}
 use Rattle.prl_ast.specs.declared.declarations.Equation.{Equation}
 use Rattle.prl_ast.specs.declared.declarations.Import.{Import}
 use Rattle.prl_ast.specs.declared.declarations.Port.{Port}
 use Rattle.prl_ast.specs.declared.expressions.PlacedOp.{PlacedOp}
-use Rattle.prl_ast.specs.Trees.{tree, Root, var, apply, Trees, NodeTree, ProgramTree, equation_tree}
+use Rattle.prl_ast.specs.Trees.{tree}
 use Rattle.prl_flow.specs.declared.programs.App.{App}
 use Rattle.prl_flow.specs.declared.programs.Arg.{Arg}
+use Rattle.prl_names.specs.Lookups.{callee_of, param_at, param_of}
 use Rattle.prl_names.specs.declared.lookups.Callee.{Callee}
 use Rattle.prl_names.specs.declared.lookups.Callee.TheVariants as callees
-use Rattle.prl_names.specs.Lookups.{callee_of}
 use Rattle.prl_terms.specs.declared.terms.Term.{Term}
 use Rattle.prl_types.specs.Flows as types
-use Rattle.prl_behaviours.specs.Annotations.{Entered, next, Part, Core, Parts}
+use Rattle.prl_behaviours.specs.Vocabulary.{Entered, next, Part, Core, Parts, all_given, last_of, outputs_of, root_given, node_at, node_of, at_index, at_variable, one, node_or}
 use Rattle.prl_behaviours.specs.Annotations as notes
-use Rattle.prl_behaviours.specs.Asked.{all_given, last_of, outputs_of, root_given}
-use Rattle.prl_behaviours.specs.Texts.{node_at, node_of}
 use Rattle.prl_expand.specs.Flats as flats
-use Rattle.prl_expand.specs.Flats.{Numbered, Types, arguments, copy_of, flow_no, import_at, ports_of, operator_flows, output_flows, resolved}
+use Rattle.prl_expand.specs.Vocabulary.{Numbered, Types, arguments, copy_of, flow_no, import_at, ports_of, operator_flows, output_flows, resolved, ExpandFault, Next, Made, Adds, IsPast, a_call}
+use Rattle.prl_expand.specs.Vocabulary.{a_core, a_node, a_part, all_parts, all_resolved, called_apps, called_flows, called_given, first_type, operated_flows, types_of, called, entered_from, past}
+use Rattle.prl_expand.specs.Vocabulary.{past_core, past_entered, past_part, past_parts, arg_of, flow_of, copied, def_of, have_types}
 use Rattle.prl_expand.proofs.FlatRules.{arguments_are}
-use Rattle.prl_expand.specs.declared.counts.ExpandFault.{ExpandFault}
-use Rattle.prl_expand.specs.declared.counts.Next.{Next}
-use Rattle.prl_expand.specs.declared.nodes.Made.{Made}
 use Rattle.prl_expand.specs.declared.terms.Term as given_term
-use Rattle.prl_expand.specs.code.Adding.{Adds}
-use Rattle.prl_expand.specs.code.Limits.{IsPast}
-use Rattle.prl_expand.specs.code.Made.{a_call, a_core, a_node, a_part, all_parts, all_resolved, called_apps, called_flows, called_given, first_type, operated_flows, types_of}
-use Rattle.prl_expand.specs.code.Numbering.{called, entered_from, past, past_core, past_entered, past_part, past_parts}
-use Rattle.prl_expand.specs.code.Terms.{arg_of, flow_of}
-use Rattle.prl_expand.specs.code.Variables.{copied, def_of}
-use Rattle.prl_behaviours.specs.Asked.{at_index, at_variable, one}
-use Rattle.prl_behaviours.specs.Texts.{node_or}
-use Rattle.prl_names.specs.Lookups.{param_at, param_of}
 use Rattle.prl_terms.specs.declared.terms.Term.TheVariants as terms
-use Rattle.prl_types.specs.Parameters.{first_of as first_param}
 use Rattle.prl_expand.proofs.Sound.{param_known}
-use Rattle.prl_expand.specs.code.Made.{have_types}
 use Rattle.prl_expand.proofs.Adding.{adds_as, adds_then, past_more}
 use Rattle.prl_expand.proofs.Remaining.{past_both}
 

@@ -7,27 +7,23 @@ use Rattle.std.proofs.lemmas.Option.{slice_get-map}
 use Rattle.prl_base.specs.declared.numbers.FlowNo.{FlowNo}
 use Rattle.prl_base.specs.declared.places.Span.{Span}
 use Rattle.prl_base.specs.declared.values.Ty.{Ty}
+use Rattle.prl_ast.specs.Trees.{Tree, Root, const, var, apply, group, Trees, none, more, EquationTree, NodeTree, ProgramTree}
 use Rattle.prl_ast.specs.declared.declarations.Import.{Import}
 use Rattle.prl_ast.specs.declared.declarations.Port.{Port}
-use Rattle.prl_ast.specs.Trees.{Tree, tree, Root, const, var, apply, group, Trees, none, more, EquationTree, NodeTree, ProgramTree}
+use Rattle.prl_ast.specs.Trees.{tree}
+use Rattle.prl_body.specs.Vocabulary.{import_named, HaveBodiesOf}
 use Rattle.prl_body.specs.declared.bodies.CheckedBody.{CheckedBody}
-use Rattle.prl_body.specs.Checks.{import_named}
-use Rattle.prl_body.specs.Used.{HaveBodiesOf}
-use Rattle.prl_flow.specs.Applications.{HaveTypes, HasBody, argument_numbers}
-use Rattle.prl_flow.specs.Programs.{FlatProgram}
+use Rattle.prl_flow.specs.Vocabulary.{HaveTypes, HasBody, argument_numbers, FlatProgram}
 use Rattle.prl_flow.specs.declared.programs.App.{App}
 use Rattle.prl_flow.specs.declared.programs.Def.{Def}
-use Rattle.prl_names.specs.Applications.{applied_in, applied_root, applied_trees, applied_equations, applied_by, is_node}
+use Rattle.prl_names.specs.Vocabulary.{applied_in, applied_root, applied_trees, applied_equations, applied_by, is_node, callee_of, index_of, import_names, node_names, node_or as either_callee}
+use Rattle.prl_names.specs.Vocabulary.{params_of, IsNamed, IsKnown, IsKnownRoot, AreKnown, AreKnownEquations, applied_names, root_names, all_applied, node_applied, is_expanded, used_imports}
 use Rattle.prl_names.specs.declared.lookups.Callee.{Callee}
 use Rattle.prl_names.specs.declared.lookups.Callee.TheVariants as callees
-use Rattle.prl_names.specs.Lookups.{callee_of, index_of, import_names, node_names, node_or as either_callee, params_of}
-use Rattle.prl_names.specs.Named.{IsNamed, IsKnown, IsKnownRoot, AreKnown, AreKnownEquations}
-use Rattle.prl_names.specs.Uses.{applied_names, root_names, all_applied, node_applied, is_expanded, used_imports}
 use Rattle.prl_names.proofs.Marking.{index_found}
-use Rattle.prl_types.specs.Arity.{equations_faults, faults_in, root_faults, all_faults}
+use Rattle.prl_types.specs.Vocabulary.{equations_faults, faults_in, root_faults, all_faults, first_of}
 use Rattle.prl_types.specs.Flows as flows
 use Rattle.prl_types.specs.Rules as typing
-use Rattle.prl_types.specs.Parameters.{first_of}
 use Rattle.prl_behaviours.specs.Annotations.{Entered, entered, Rights, done, next, Part, part, Core, Parts}
 use Rattle.prl_behaviours.specs.Annotations as notes
 use Rattle.prl_behaviours.specs.Asked.{inputs_of, last_of, root_given, all_given}

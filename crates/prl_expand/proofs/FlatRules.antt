@@ -6,19 +6,18 @@ use Rattle.std.proofs.lemmas.List.{length-map, map-append, append_assoc, append-
 use Rattle.prl_base.specs.declared.numbers.FlowNo.{FlowNo}
 use Rattle.prl_base.specs.declared.places.Span.{Span}
 use Rattle.prl_base.specs.declared.values.Ty.{Ty}
+use Rattle.prl_ast.specs.Trees.{Tree, Root, const, var, apply, group, Trees, none, more, EquationTree, NodeTree, ProgramTree}
 use Rattle.prl_ast.specs.declared.declarations.Param.{Param}
 use Rattle.prl_ast.specs.declared.declarations.Port.{Port}
 use Rattle.prl_ast.specs.declared.expressions.PlacedOp.{PlacedOp}
-use Rattle.prl_ast.specs.Trees.{Tree, tree, Root, const, var, apply, group, Trees, none, more, EquationTree, NodeTree, ProgramTree}
+use Rattle.prl_ast.specs.Trees.{tree}
+use Rattle.prl_flow.specs.Rules.{Rule, operator, applied, same, sensed, rate_rules, definition_rules, flow_rules, app_rule}
 use Rattle.prl_flow.specs.declared.programs.App.{App}
 use Rattle.prl_flow.specs.declared.programs.Arg.{Arg}
 use Rattle.prl_flow.specs.declared.programs.Def.{Def}
-use Rattle.prl_flow.specs.Rules.{Rule, operator, applied, same, sensed, rate_rules, definition_rules, flow_rules, app_rule}
-use Rattle.prl_names.specs.Lookups.{callee_of, params_of}
-use Rattle.prl_names.specs.Named.{IsKnown, IsKnownRoot, AreKnown, AreKnownEquations}
-use Rattle.prl_types.specs.Arity.{equations_faults, faults_in, root_faults, all_faults}
+use Rattle.prl_names.specs.Vocabulary.{callee_of, params_of, IsKnown, IsKnownRoot, AreKnown, AreKnownEquations}
+use Rattle.prl_types.specs.Vocabulary.{equations_faults, faults_in, root_faults, all_faults, first_of}
 use Rattle.prl_types.specs.Flows as flows
-use Rattle.prl_types.specs.Parameters.{first_of}
 use Rattle.prl_behaviours.specs.Annotations.{Entered, entered, Rights, done, next, Part, part, Core, Parts, imports_in, right_imports, part_imports, core_imports, parts_imports}
 use Rattle.prl_behaviours.specs.Annotations as notes
 use Rattle.prl_behaviours.specs.Asked.{inputs_of, last_of, given, root_given, all_given, constant_rules, all_same, operator_rules, declared_rules, entered_rules, rights_rules, part_rules, root_rules, all_rules, sensed_rules, at_lefts}

@@ -5,23 +5,22 @@ use Rattle.std.specs.List.{AllByRecursion}
 use Rattle.std.proofs.lemmas.List.{length-map, length-reverse, append_assoc, reverse-append}
 use Rattle.prl_base.specs.declared.places.Span.{Span}
 use Rattle.prl_base.specs.declared.values.Ty.{Ty}
+use Rattle.prl_ast.specs.Trees.{Tree, Root, const, var, apply, group, Trees, none, more, NodeTree, ProgramTree}
 use Rattle.prl_ast.specs.declared.declarations.Import.{Import}
 use Rattle.prl_ast.specs.declared.declarations.Param.{Param}
 use Rattle.prl_ast.specs.declared.declarations.Port.{Port}
 use Rattle.prl_ast.specs.declared.expressions.PlacedOp.{PlacedOp}
-use Rattle.prl_ast.specs.Trees.{Tree, tree, Root, const, var, apply, group, Trees, none, more, NodeTree, ProgramTree}
-use Rattle.prl_flow.specs.declared.programs.Def.{Def}
+use Rattle.prl_ast.specs.Trees.{tree}
 use Rattle.prl_flow.specs.Programs.{FlatProgram, HasType}
+use Rattle.prl_flow.specs.declared.programs.Def.{Def}
 use Rattle.prl_flow.proofs.Lists.{element_at, slice_get_append_left}
+use Rattle.prl_names.specs.Vocabulary.{callee_of, param_at, param_of, param_names, params_of, IsKnown, IsKnownRoot, AreKnown}
 use Rattle.prl_names.specs.declared.lookups.Callee.{Callee}
 use Rattle.prl_names.specs.declared.lookups.Callee.TheVariants as callees
-use Rattle.prl_names.specs.Lookups.{callee_of, param_at, param_of, param_names, params_of}
-use Rattle.prl_names.specs.Named.{IsKnown, IsKnownRoot, AreKnown}
-use Rattle.prl_types.specs.Arity.{faults_in, root_faults, all_faults}
+use Rattle.prl_types.specs.Vocabulary.{faults_in, root_faults, all_faults, first_of, parameter_or}
 use Rattle.prl_terms.specs.declared.terms.Term.{Term}
 use Rattle.prl_terms.specs.declared.terms.Term.TheVariants as terms
 use Rattle.prl_types.specs.Flows as flows
-use Rattle.prl_types.specs.Parameters.{first_of, parameter_or}
 use Rattle.prl_behaviours.specs.Annotations.{Entered, entered, Rights, Part, part, Core, Parts}
 use Rattle.prl_behaviours.specs.Annotations as notes
 use Rattle.prl_behaviours.specs.Asked.{inputs_of, outputs_of, one, at_index, last_of, first_of as first_flow, given, root_given, all_given}

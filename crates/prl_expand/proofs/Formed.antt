@@ -11,32 +11,26 @@ use Rattle.prl_base.specs.declared.numbers.FlowNo.{FlowNo}
 use Rattle.prl_base.specs.declared.values.Ty.{Ty}
 use Rattle.prl_base.specs.declared.values.Ty.TheVariants as kinds
 use Rattle.prl_ast.specs.InRange as ranges
+use Rattle.prl_ast.specs.Trees.{NodeTree, ProgramTree}
 use Rattle.prl_ast.specs.declared.declarations.Device.{Device}
 use Rattle.prl_ast.specs.declared.declarations.Param.{Param}
-use Rattle.prl_ast.specs.Trees.{NodeTree, ProgramTree}
+use Rattle.prl_flow.specs.Vocabulary.{FlatProgram, IsWellDefined, IsNoted, IsApplication, IsInput, IsFlat, IsFactor, Rule}
 use Rattle.prl_flow.specs.declared.programs.App.{App}
 use Rattle.prl_flow.specs.declared.programs.Def.{Def}
-use Rattle.prl_flow.specs.declared.programs.Def.TheVariants as definitions
 use Rattle.prl_flow.specs.declared.programs.Flow.{Flow}
-use Rattle.prl_flow.specs.Programs.{FlatProgram, IsWellDefined, IsNoted, IsApplication, IsInput, IsFlat, IsFactor}
+use Rattle.prl_flow.specs.declared.programs.Def.TheVariants as definitions
 use Rattle.prl_flow.specs.Programs as flats
-use Rattle.prl_flow.specs.Rules.{Rule}
 use Rattle.prl_flow.proofs.Lists.{element_at, slice_get_append_left}
-use Rattle.prl_names.specs.Checks.{device_names}
-use Rattle.prl_names.specs.Lookups.{param_names, params_of}
-use Rattle.prl_names.specs.Named.{AllAreAmong, IsNamed}
+use Rattle.prl_names.specs.Vocabulary.{device_names, param_names, params_of, AllAreAmong, IsNamed}
 use Rattle.prl_names.proofs.Right.{named}
 use Rattle.prl_terms.specs.Choices.{Choice, type_in, MeetsAll, FitsTerm, FitRules}
 use Rattle.prl_terms.specs.declared.terms.Rule.{Rule as TypeRule}
 use Rattle.prl_terms.specs.declared.terms.Term.{Term}
 use Rattle.prl_terms.specs.declared.terms.Term.TheVariants as terms
-use Rattle.prl_types.specs.Parameters.{first_of, count_of, parameters_of}
-use Rattle.prl_types.specs.Rules.{rules_of, declared_rules, nodes_rules, equations_rules}
-use Rattle.prl_types.specs.Typing.{IsTyped}
+use Rattle.prl_types.specs.Vocabulary.{first_of, count_of, parameters_of, rules_of, declared_rules, nodes_rules, equations_rules, IsTyped}
 use Rattle.prl_types.proofs.Fitting.{rules_fit}
-use Rattle.prl_behaviours.specs.Annotations.{entered, flows_in, imports_in}
-use Rattle.prl_behaviours.specs.Asked.{inputs_of}
-use Rattle.prl_behaviours.specs.Texts.{node_at, node_or, HasVariables}
+use Rattle.prl_behaviours.specs.Vocabulary.{flows_in, imports_in, inputs_of, node_at, node_or, HasVariables}
+use Rattle.prl_behaviours.specs.Annotations.{entered}
 use Rattle.prl_expand.specs.Expansions.{Expansion, IsExpansion}
 use Rattle.prl_expand.specs.Flats.{Numbered, Types, type_at, resolved, flow_no, variable_flows, equated, copies, right_flows, all_numbered, entered_apps, sensors_from, wcet_named, devices_of, flat_of}
 use Rattle.prl_expand.proofs.FlatRules.{sensors_count, entered_tells}

@@ -5,18 +5,13 @@ use Rattle.std.proofs.lemmas.List.{length-map}
 use Rattle.prl_ast.specs.InRange as ranges
 use Rattle.prl_ast.specs.Trees.{ProgramTree}
 use Rattle.prl_base.specs.declared.values.Ty.{Ty}
+use Rattle.prl_flow.specs.Vocabulary.{FlatProgram, Rule, IsCycleLabel, IsCyclic, Leads, NamesInside, NamesNow, UsesInside, UsesNow, is_made, named, once, then, unnamed}
 use Rattle.prl_flow.specs.declared.programs.App.{App}
 use Rattle.prl_flow.specs.declared.programs.Flow.{Flow}
-use Rattle.prl_flow.specs.Programs.{FlatProgram}
-use Rattle.prl_flow.specs.Rules.{Rule}
-use Rattle.prl_flow.specs.Uses.{IsCycleLabel, IsCyclic, Leads, NamesInside, NamesNow, UsesInside, UsesNow, is_made, named, once, then, unnamed}
 use Rattle.prl_names.proofs.Right as right_names
 use Rattle.prl_types.specs.Typing.{IsTyped}
-use Rattle.prl_behaviours.specs.Annotations.{flows_in, imports_in}
-use Rattle.prl_behaviours.specs.Asked.{inputs_of}
-use Rattle.prl_expand.specs.Cycles.{HasName, Passes, PassesName}
-use Rattle.prl_expand.specs.Expansions.{Expansion, IsExpansion}
-use Rattle.prl_expand.specs.Flats.{Numbered, all_numbered, entered_apps, flat_of, sensors_from}
+use Rattle.prl_behaviours.specs.Vocabulary.{flows_in, imports_in, inputs_of}
+use Rattle.prl_expand.specs.Vocabulary.{HasName, Passes, PassesName, Expansion, IsExpansion, Numbered, all_numbered, entered_apps, flat_of, sensors_from}
 use Rattle.prl_expand.proofs.Earlier.{Counted, UsesEarlier, counted_range, entered_use, no_start}
 use Rattle.prl_expand.proofs.FlatRules.{entered_tells, sensors_count}
 use Rattle.prl_expand.proofs.Formed.{apps_at, flows_there, number_at}

@@ -8,23 +8,23 @@ use Rattle.std.proofs.Common.{◌≡◌, ℕ, pos, List, [], ◌∷◌, ◌++◌
 use Rattle.std.specs.Prelude.{codes, decimal}
 use Rattle.prl_base.specs.declared.numbers.FlowNo.{FlowNo}
 use Rattle.prl_base.specs.declared.operators.Op.{Op}
-use Rattle.prl_base.specs.declared.operators.Op.TheVariants as ops
 use Rattle.prl_base.specs.declared.places.Span.{Span}
 use Rattle.prl_base.specs.declared.values.Ty.{Ty}
+use Rattle.prl_base.specs.declared.operators.Op.TheVariants as ops
 use Rattle.prl_base.specs.declared.values.Ty.TheVariants as kinds
 use Rattle.prl_base.specs.declared.values.Value.TheVariants as values
+use Rattle.prl_ast.specs.Trees.{Tree, const, var, apply, group, none, more, NodeTree, ProgramTree}
 use Rattle.prl_ast.specs.declared.declarations.Param.{Param}
 use Rattle.prl_ast.specs.declared.declarations.Placed.{Placed}
 use Rattle.prl_ast.specs.declared.declarations.Port.{Port}
 use Rattle.prl_ast.specs.declared.declarations.Rate.{Rate}
 use Rattle.prl_ast.specs.declared.expressions.PlacedOp.{PlacedOp}
-use Rattle.prl_ast.specs.Trees.{Tree, tree, const, var, apply, group, none, more, NodeTree, ProgramTree}
+use Rattle.prl_ast.specs.Trees.{tree}
 use Rattle.prl_flow.specs.declared.programs.Def.TheVariants as definitions
 use Rattle.prl_flow.specs.declared.programs.Flow.{Flow}
 use Rattle.prl_behaviours.specs.Annotations.{entered, done, next, Part, part}
 use Rattle.prl_behaviours.specs.Annotations as notes
-use Rattle.prl_expand.specs.Expansions.{Expansion, AreCounted}
-use Rattle.prl_expand.specs.Flats.{flat_of}
+use Rattle.prl_expand.specs.Vocabulary.{Expansion, AreCounted, flat_of}
 
 abbrev token : ℕ → Span
 token k = record { at = k; len = 1 }

@@ -4,19 +4,18 @@ use Rattle.std.specs.Prelude.{reverse}
 use Rattle.std.proofs.lemmas.List.{length-reverse, map-append, append_assoc}
 use Rattle.prl_base.specs.declared.places.Span.{Span}
 use Rattle.prl_base.specs.declared.values.Ty.{Ty}
+use Rattle.prl_ast.specs.Trees.{Tree, Root, const, var, apply, group, Trees, none, more, EquationTree, NodeTree, ProgramTree}
 use Rattle.prl_ast.specs.declared.declarations.Import.{Import}
 use Rattle.prl_ast.specs.declared.declarations.Param.{Param}
 use Rattle.prl_ast.specs.declared.declarations.Port.{Port}
 use Rattle.prl_ast.specs.declared.expressions.PlacedOp.{PlacedOp}
-use Rattle.prl_ast.specs.Trees.{Tree, tree, Root, const, var, apply, group, Trees, none, more, EquationTree, NodeTree, ProgramTree}
+use Rattle.prl_ast.specs.Trees.{tree}
 use Rattle.prl_flow.specs.declared.programs.Def.{Def}
+use Rattle.prl_names.specs.Vocabulary.{callee_of, params_of, IsKnown, IsKnownRoot, AreKnown, AreKnownEquations}
 use Rattle.prl_names.specs.declared.lookups.Callee.{Callee}
 use Rattle.prl_names.specs.declared.lookups.Callee.TheVariants as callees
-use Rattle.prl_names.specs.Lookups.{callee_of, params_of}
-use Rattle.prl_names.specs.Named.{IsKnown, IsKnownRoot, AreKnown, AreKnownEquations}
-use Rattle.prl_types.specs.Arity.{equations_faults, faults_in, root_faults, all_faults, prefix_fault, postfix_fault, last_at}
+use Rattle.prl_types.specs.Vocabulary.{equations_faults, faults_in, root_faults, all_faults, prefix_fault, postfix_fault, last_at, first_of}
 use Rattle.prl_types.specs.Flows as flows
-use Rattle.prl_types.specs.Parameters.{first_of}
 use Rattle.prl_behaviours.specs.Annotations.{Entered, entered, Rights, done, next, Part, part, Core, Parts}
 use Rattle.prl_behaviours.specs.Annotations as notes
 use Rattle.prl_behaviours.specs.Asked.{inputs_of, last_of, root_given, all_given}

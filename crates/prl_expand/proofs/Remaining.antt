@@ -7,24 +7,13 @@ use Rattle.prl_flow.specs.declared.programs.App.{App}
 use Rattle.prl_flow.specs.declared.programs.Arg.{Arg}
 use Rattle.prl_flow.specs.declared.programs.Flow.{Flow}
 use Rattle.prl_types.specs.Flows as types
-use Rattle.prl_behaviours.specs.Annotations.{Rights, next, Part, Parts}
+use Rattle.prl_behaviours.specs.Vocabulary.{Rights, next, Part, Parts, given, node_at}
 use Rattle.prl_behaviours.specs.Annotations as notes
-use Rattle.prl_behaviours.specs.Asked.{given}
-use Rattle.prl_behaviours.specs.Texts.{node_at}
 use Rattle.prl_expand.specs.Flats as flats
-use Rattle.prl_expand.specs.Flats.{Numbered, Types, arguments, equated, flow_no, paired, placed, resolved}
-use Rattle.prl_expand.specs.declared.counts.ExpandFault.{ExpandFault}
-use Rattle.prl_expand.specs.declared.counts.Next.{Next}
-use Rattle.prl_expand.specs.declared.nodes.Made.{Made}
+use Rattle.prl_expand.specs.Vocabulary.{Numbered, Types, arguments, equated, flow_no, paired, placed, resolved, ExpandFault, Next, Made, Adds, IsFew, IsPast, a_part, all_parts, all_resolved}
+use Rattle.prl_expand.specs.Vocabulary.{the_rights, types_given, types_of, past, past_part, past_parts, past_rights, arg_of, flow_of, flows_of, Pair, pairs_of}
 use Rattle.prl_expand.specs.declared.terms.Term as given_term
-use Rattle.prl_expand.specs.code.Adding.{Adds}
-use Rattle.prl_expand.specs.code.Limits.{IsFew, IsPast}
-use Rattle.prl_expand.specs.code.Made.{a_part, all_parts, all_resolved, the_rights, types_given, types_of}
-use Rattle.prl_expand.specs.code.Numbering.{past, past_part, past_parts, past_rights}
-use Rattle.prl_expand.specs.code.Terms.{arg_of, flow_of, flows_of}
 use Rattle.prl_expand.proofs.Adding.{past_more}
-use Rattle.prl_expand.specs.declared.variables.Pair.{Pair}
-use Rattle.prl_expand.specs.code.Variables.{pairs_of}
 
 abbrev next_of : ℕ → ℕ → ℕ → Next
 next_of f a n = record { flow = f; app = a; node = n }

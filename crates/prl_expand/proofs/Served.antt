@@ -2,19 +2,15 @@
 use Rattle.std.proofs.Common.{◌≡◌, ◌==◌, ℕ, true, List, Option, refl, []}
 use Rattle.std.proofs.lemmas.Bool.{eq-eqb}
 use Rattle.prl_base.specs.declared.values.Ty.{Ty}
-use Rattle.prl_ast.specs.InRange.{IsInRange}
-use Rattle.prl_ast.specs.Trees.{ProgramTree}
-use Rattle.prl_body.specs.declared.bodies.CheckedBody.{CheckedBody}
+use Rattle.prl_ast.specs.Vocabulary.{IsInRange, ProgramTree}
 use Rattle.prl_body.specs.Used.{HaveBodiesOf}
+use Rattle.prl_body.specs.declared.bodies.CheckedBody.{CheckedBody}
 use Rattle.prl_flow.specs.Applications.{HaveBodies}
-use Rattle.prl_names.specs.Applications.{reaches}
-use Rattle.prl_names.specs.Named.{IsNamed}
-use Rattle.prl_names.specs.Uses.{is_expanded, used_imports}
+use Rattle.prl_names.specs.Vocabulary.{reaches, IsNamed, is_expanded, used_imports}
 use Rattle.prl_names.proofs.Right.{named}
 use Rattle.prl_types.specs.Typing.{IsTyped}
 use Rattle.prl_behaviours.specs.Asked.{inputs_of}
-use Rattle.prl_expand.specs.Expansions.{Expansion, IsExpansion}
-use Rattle.prl_expand.specs.Flats.{entered_apps, flat_of, sensors_from}
+use Rattle.prl_expand.specs.Vocabulary.{Expansion, IsExpansion, entered_apps, flat_of, sensors_from}
 use Rattle.prl_expand.proofs.Existence.{true_or}
 use Rattle.prl_expand.proofs.Fitting.{IsOfUsed, entered_used, body_of}
 use Rattle.prl_expand.proofs.FlatRules.{sensors_count}

@@ -8,24 +8,17 @@ use Rattle.std.specs.Cmp.Lexicographic.{bytes_decides}
 use Rattle.std.proofs.lemmas.Bool.{cases_lt}
 use Rattle.std.proofs.lemmas.List.{length-append, length-map, map-append, append_assoc}
 use Rattle.std.proofs.lemmas.Option.{slice_get-map, slice_get_within}
+use Rattle.prl_ast.specs.Trees.{EquationTree, NodeTree, ProgramTree}
 use Rattle.prl_ast.specs.declared.declarations.Param.{Param}
 use Rattle.prl_ast.specs.declared.declarations.Placed.{Placed}
-use Rattle.prl_ast.specs.Trees.{EquationTree, NodeTree, ProgramTree}
 use Rattle.prl_flow.proofs.Lists.{element_at, slice_get_append_left}
-use Rattle.prl_flow.specs.Rules.{Rule, same}
+use Rattle.prl_flow.specs.Rules.{Rule, same, definition_rules}
 use Rattle.prl_flow.specs.declared.programs.Def.{Def}
-use Rattle.prl_flow.specs.Rules.{definition_rules}
-use Rattle.prl_names.specs.Lookups.{param_at, param_of, param_names, params_of, index_of, index_from}
-use Rattle.prl_names.specs.Mentions.{placed_param}
-use Rattle.prl_names.specs.Named.{AreApart, AreKnownLefts, AreKnownEquations, AllAreAmong, placed_names}
-use Rattle.prl_names.specs.Repeats.{is_among, is_flow, lefts_of, definition_space}
-use Rattle.prl_names.specs.Unknowns.{left_names}
+use Rattle.prl_names.specs.Vocabulary.{param_at, param_of, param_names, params_of, index_of, index_from, placed_param, AreApart, AreKnownLefts, AreKnownEquations, AllAreAmong, placed_names, is_among}
+use Rattle.prl_names.specs.Vocabulary.{is_flow, lefts_of, definition_space, left_names}
 use Rattle.prl_names.proofs.Marking.{index_found}
-use Rattle.prl_types.specs.Arity.{equations_faults, equation_faults, faults_in, unless_equal}
-use Rattle.prl_types.specs.Flows.{flows_of}
-use Rattle.prl_behaviours.specs.Annotations.{Rights, done, next}
-use Rattle.prl_behaviours.specs.Asked.{one, at_index, at_variable, at_lefts, all_same, given}
-use Rattle.prl_behaviours.specs.Texts.{AreRights}
+use Rattle.prl_types.specs.Vocabulary.{equations_faults, equation_faults, faults_in, unless_equal, flows_of}
+use Rattle.prl_behaviours.specs.Vocabulary.{Rights, done, next, one, at_index, at_variable, at_lefts, all_same, given, AreRights}
 use Rattle.prl_expand.specs.Flats.{copies, equated, paired, source_of}
 use Rattle.prl_expand.proofs.Lists.{at_place, some_inner, all_both, all_first, all_second, no_first, no_second, equal_unless}
 use Rattle.prl_expand.proofs.Sound.{IsRightNode, given_length, param_known, variable_length}

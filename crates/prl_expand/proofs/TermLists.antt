@@ -3,19 +3,16 @@ use Rattle.std.proofs.Common.{◌≡◌, ◌≤◌, ◌+◌, ℕ, zero, suc, Lis
 use Rattle.std.specs.List.{range_with_len}
 use Rattle.std.proofs.lemmas.List.{drop_all, append-nil, map-append}
 use Rattle.std.proofs.lemmas.Option.{get_or_from_slice_get}
+use Rattle.prl_ast.specs.Trees.{ProgramTree}
 use Rattle.prl_ast.specs.declared.declarations.Param.{Param}
 use Rattle.prl_ast.specs.declared.declarations.Placed.{Placed}
 use Rattle.prl_flow.specs.declared.programs.Def.{Def}
 use Rattle.prl_flow.specs.declared.programs.Flow.{Flow}
 use Rattle.prl_terms.specs.declared.terms.Term.TheVariants as terms
-use Rattle.prl_ast.specs.Trees.{ProgramTree}
 use Rattle.prl_base.specs.declared.values.Ty.TheVariants as kinds
 use Rattle.prl_types.specs.Parameters.{first_of}
-use Rattle.prl_expand.specs.Flats.{Numbered, Types, paired, resolved}
-use Rattle.prl_expand.specs.code.Made.{have_types, types_of}
+use Rattle.prl_expand.specs.Vocabulary.{Numbered, Types, paired, resolved, have_types, types_of, flow_of, flows_of, variables_made}
 use Rattle.prl_expand.specs.declared.terms.Term as given
-use Rattle.prl_expand.specs.code.Terms.{flow_of, flows_of}
-use Rattle.prl_expand.specs.code.Variables.{variables_made}
 
 pub range_suc : (a n : ℕ) → range_with_len a (suc n) ≡ range_with_len a n ++ (a + n) ∷ []
 range_suc a zero = let here : a ≡ a + 0 = omega arith in ap (λ b. b ∷ []) here

@@ -6,25 +6,24 @@ use Rattle.std.specs.Str.{bytes_eq}
 use Rattle.std.specs.Cmp.Lexicographic.{bytes_decides}
 use Rattle.prl_base.specs.Operators.{IsOperatorFor}
 use Rattle.prl_base.specs.declared.operators.Op.{Op}
-use Rattle.prl_base.specs.declared.operators.Op.TheVariants as ops
 use Rattle.prl_base.specs.declared.places.Span.{Span}
 use Rattle.prl_base.specs.declared.values.Ty.{Ty}
+use Rattle.prl_base.specs.declared.operators.Op.TheVariants as ops
 use Rattle.prl_ast.specs.InRange as ranges
+use Rattle.prl_ast.specs.Trees.{NodeTree, ProgramTree, Trees}
 use Rattle.prl_ast.specs.declared.declarations.Param.{Param}
 use Rattle.prl_ast.specs.declared.declarations.Placed.{Placed}
 use Rattle.prl_ast.specs.declared.declarations.Port.{Port}
 use Rattle.prl_ast.specs.declared.expressions.PlacedOp.{PlacedOp}
-use Rattle.prl_ast.specs.Trees.{NodeTree, ProgramTree, Trees}
+use Rattle.prl_flow.specs.Programs.{FlatProgram, HasType, IsWellDefined, IsNoted}
 use Rattle.prl_flow.specs.declared.programs.App.{App}
 use Rattle.prl_flow.specs.declared.programs.Def.{Def}
-use Rattle.prl_flow.specs.Programs.{FlatProgram, HasType, IsWellDefined, IsNoted}
 use Rattle.prl_names.specs.Lookups.{callee_of}
-use Rattle.prl_types.specs.Flows.{Flow as TermFlow}
+use Rattle.prl_types.specs.Vocabulary.{Flow as TermFlow, named}
 use Rattle.prl_terms.specs.declared.terms.Rule.{Rule as TypeRule}
 use Rattle.prl_terms.specs.declared.terms.Term.{Term}
 use Rattle.prl_types.specs.Flows as flows
 use Rattle.prl_types.specs.Rules as typing
-use Rattle.prl_types.specs.Parameters.{named}
 use Rattle.prl_types.proofs.Walking.{terms_placed_flows}
 use Rattle.prl_expand.specs.Flats.{Numbered, Types, type_at, resolved, flow_no, variable_flows, paired, source_of, operator_flows, output_flows}
 use Rattle.prl_expand.proofs.FlowTypes.{HasFlow, AreTyped, HaveKind}

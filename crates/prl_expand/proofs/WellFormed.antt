@@ -6,34 +6,30 @@ use Rattle.std.specs.Option.{option_map, is_some}
 use Rattle.std.proofs.lemmas.Bool.{cases_lt}
 use Rattle.std.proofs.lemmas.List.{length-map, length-reverse, append_assoc}
 use Rattle.std.proofs.lemmas.Option.{slice_get-map, slice_get_within}
+use Rattle.prl_base.specs.Operators.{IsOperatorFor}
 use Rattle.prl_base.specs.declared.numbers.FlowNo.{FlowNo}
 use Rattle.prl_base.specs.declared.places.Span.{Span}
 use Rattle.prl_base.specs.declared.values.Ty.{Ty}
 use Rattle.prl_ast.specs.InRange as ranges
+use Rattle.prl_ast.specs.Trees.{Tree, Root, const, var, apply, group, Trees, none, more, EquationTree, NodeTree, ProgramTree}
 use Rattle.prl_ast.specs.declared.declarations.Import.{Import}
 use Rattle.prl_ast.specs.declared.declarations.Param.{Param}
 use Rattle.prl_ast.specs.declared.declarations.Port.{Port}
 use Rattle.prl_ast.specs.declared.expressions.PlacedOp.{PlacedOp}
-use Rattle.prl_ast.specs.Trees.{Tree, tree, Root, const, var, apply, group, Trees, none, more, EquationTree, NodeTree, ProgramTree}
+use Rattle.prl_ast.specs.Trees.{tree}
+use Rattle.prl_flow.specs.Vocabulary.{FlatProgram, HasType, IsWellDefined, IsApplication, IsOutput, Rule}
 use Rattle.prl_flow.specs.declared.programs.App.{App}
 use Rattle.prl_flow.specs.declared.programs.Arg.{Arg}
 use Rattle.prl_flow.specs.declared.programs.Def.{Def}
-use Rattle.prl_base.specs.Operators.{IsOperatorFor}
-use Rattle.prl_flow.specs.Programs.{FlatProgram, HasType, IsWellDefined, IsApplication, IsOutput}
-use Rattle.prl_flow.specs.Rules.{Rule}
 use Rattle.prl_flow.proofs.Lists.{slice_get_append_left}
+use Rattle.prl_names.specs.Vocabulary.{callee_of, param_at, param_names, params_of, index_of, IsKnown, IsKnownRoot, AreKnown, AreKnownEquations, AllAreAmong, is_among, left_names}
 use Rattle.prl_names.specs.declared.lookups.Callee.{Callee}
 use Rattle.prl_names.specs.declared.lookups.Callee.TheVariants as callees
-use Rattle.prl_names.specs.Lookups.{callee_of, param_at, param_names, params_of, index_of}
-use Rattle.prl_names.specs.Named.{IsKnown, IsKnownRoot, AreKnown, AreKnownEquations, AllAreAmong}
-use Rattle.prl_names.specs.Repeats.{is_among}
-use Rattle.prl_names.specs.Unknowns.{left_names}
 use Rattle.prl_names.proofs.Marking.{index_found}
-use Rattle.prl_types.specs.Arity.{equations_faults, faults_in, root_faults, all_faults, prefix_fault, postfix_fault, last_at}
+use Rattle.prl_types.specs.Vocabulary.{equations_faults, faults_in, root_faults, all_faults, prefix_fault, postfix_fault, last_at, first_of, parameter_or}
 use Rattle.prl_terms.specs.declared.terms.Term.{Term}
 use Rattle.prl_types.specs.Flows as flows
 use Rattle.prl_types.specs.Rules as typing
-use Rattle.prl_types.specs.Parameters.{first_of, parameter_or}
 use Rattle.prl_behaviours.specs.Annotations.{Entered, entered, Rights, done, next, Part, part, Core, Parts, imports_in, right_imports, part_imports, core_imports, parts_imports}
 use Rattle.prl_behaviours.specs.Annotations as notes
 use Rattle.prl_behaviours.specs.Asked.{inputs_of, last_of, given, root_given, all_given}

@@ -3,31 +3,21 @@ use Rattle.std.proofs.Common.{◌≡◌, ◌<◌, ◌+◌, ◌++◌, ◌∷◌, 
 use Rattle.std.specs.List.{range_with_len}
 use Rattle.prl_base.specs.declared.numbers.FlowNo.{FlowNo}
 use Rattle.prl_base.specs.declared.values.Ty.{Ty}
+use Rattle.prl_ast.specs.Vocabulary.{NodeTree, ProgramTree, program_tree, IsInRange}
 use Rattle.prl_ast.specs.declared.declarations.Program.{Program}
-use Rattle.prl_ast.specs.Trees.{NodeTree, ProgramTree, program_tree}
-use Rattle.prl_flow.specs.declared.programs.App.{App}
-use Rattle.prl_flow.specs.declared.programs.Flow.{Flow}
 use Rattle.prl_flow.specs.Programs.{FlatProgram}
+use Rattle.prl_flow.specs.declared.programs.App.{App}
+use Rattle.prl_flow.specs.declared.programs.Def.{Def}
+use Rattle.prl_flow.specs.declared.programs.Flow.{Flow}
 use Rattle.prl_flow.specs.Programs as flat_programs
-use Rattle.prl_names.specs.Named.{IsNamed}
+use Rattle.prl_names.specs.Vocabulary.{IsNamed, applies}
 use Rattle.prl_names.proofs.Right.{named}
 use Rattle.prl_types.specs.Typing.{IsRight}
-use Rattle.prl_behaviours.specs.Annotations.{flows_in}
-use Rattle.prl_behaviours.specs.Asked.{outputs_of}
-use Rattle.prl_behaviours.specs.Texts.{node_at, node_or}
-use Rattle.prl_expand.specs.Expansions.{Expansion, IsExpansion}
-use Rattle.prl_expand.specs.Flats.{devices_of, entered_apps, entered_flows, flat_of, flow_no, sensors_from}
+use Rattle.prl_behaviours.specs.Vocabulary.{flows_in, outputs_of, node_at, node_or}
+use Rattle.prl_expand.specs.Vocabulary.{Expansion, IsExpansion, devices_of, entered_apps, entered_flows, flat_of, flow_no, sensors_from, ExpandFault, IsExpandFault, IsPast, a_node, flows_of, IsSound}
+use Rattle.prl_expand.specs.Vocabulary.{MayApply}
 use Rattle.prl_flow.specs.declared.programs.Def.TheVariants as definitions
-use Rattle.prl_flow.specs.declared.programs.Def.{Def}
-use Rattle.prl_expand.specs.declared.counts.ExpandFault.{ExpandFault}
-use Rattle.prl_expand.specs.Expanding.{IsExpandFault}
-use Rattle.prl_expand.specs.code.Limits.{IsPast}
-use Rattle.prl_expand.specs.code.Made.{a_node}
-use Rattle.prl_expand.specs.code.Terms.{flows_of}
-use Rattle.prl_expand.specs.code.Within.{IsSound, MayApply}
 use Rattle.prl_expand.proofs.Within.{all_levels}
-use Rattle.prl_ast.specs.InRange.{IsInRange}
-use Rattle.prl_names.specs.Applications.{applies}
 use Rattle.prl_expand.proofs.Adding.{past_more}
 use Rattle.prl_expand.proofs.Entering.{node_found, variables_past}
 use Rattle.prl_expand.proofs.Expanded.{first, is_expansion, past_is}

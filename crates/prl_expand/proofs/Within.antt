@@ -2,25 +2,19 @@
 use Rattle.std.proofs.Common.{◌≡◌, ◌+◌, ◌-◌, ◌<◌, ◌≤◌, ℕ, zero, suc, Bool, true, false, List, [], ◌∷◌, length, map, slice_get, Option, Some, None, IsSome, refl, sym, ap, ◌∙◌, subst, arith}
 use Rattle.std.specs.List.{AllByRecursion}
 use Rattle.prl_base.specs.declared.places.Span.{Span}
+use Rattle.prl_ast.specs.Vocabulary.{IsImportInRange, IsNodeInRange, Tree, tree_of, apply, group, Trees, none, more, equation_tree, NodeTree, ProgramTree}
 use Rattle.prl_ast.specs.declared.declarations.Equation.{Equation}
 use Rattle.prl_ast.specs.declared.declarations.Import.{Import}
-use Rattle.prl_ast.specs.declared.expressions.Expr.{Expr}
-use Rattle.prl_ast.specs.InRange.{IsImportInRange, IsNodeInRange}
-use Rattle.prl_ast.specs.Trees.{Tree, tree_of, apply, group, Trees, none, more, equation_tree, NodeTree, ProgramTree}
-use Rattle.std.proofs.lemmas.Option.{slice_get_within}
-use Rattle.prl_names.specs.Applications.{is_node, applied_in, applied_trees, applied_equations, applied_by, applies, reaches}
-use Rattle.prl_names.specs.declared.lookups.Callee.TheVariants as callees
-use Rattle.prl_names.specs.ExprLists.{all_trees}
-use Rattle.prl_names.specs.Lookups.{callee_of, index_of, param_at, param_names, params_of}
-use Rattle.prl_names.specs.Named.{IsNamed}
-use Rattle.prl_names.proofs.Marking.{callee_below, index_below}
 use Rattle.prl_ast.specs.declared.declarations.Param.{Param}
+use Rattle.prl_ast.specs.declared.expressions.Expr.{Expr}
+use Rattle.std.proofs.lemmas.Option.{slice_get_within}
+use Rattle.prl_names.specs.Vocabulary.{is_node, applied_in, applied_trees, applied_equations, applied_by, applies, reaches, all_trees, callee_of, index_of, param_at, param_names, params_of, IsNamed}
+use Rattle.prl_names.specs.declared.lookups.Callee.TheVariants as callees
+use Rattle.prl_names.proofs.Marking.{callee_below, index_below}
 use Rattle.prl_behaviours.specs.Texts.{node_at, node_or}
 use Rattle.prl_expand.proofs.Existence.{true_or, or_true, same_node, import_found}
 use Rattle.prl_expand.proofs.Ranks.{rank, rank_falls, passing, one_if}
-use Rattle.prl_expand.specs.declared.counts.Next.{Next}
-use Rattle.prl_expand.specs.code.Limits.{IsFew, IsFewBefore}
-use Rattle.prl_expand.specs.code.Within.{CallFits, EquationsFit, IsSound, MayApply, MayEnter, RootFits, TreeFits, TreesFit}
+use Rattle.prl_expand.specs.Vocabulary.{Next, IsFew, IsFewBefore, CallFits, EquationsFit, IsSound, MayApply, MayEnter, RootFits, TreeFits, TreesFit}
 
 -- a node that reaches fewer nodes than there are levels
 ranked : (p : ProgramTree) (main : ℕ) → IsNamed p main → (levels k : ℕ) → rank p k < levels → MayEnter p levels k

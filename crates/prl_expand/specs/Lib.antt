@@ -12,3 +12,4 @@ pub mod Cycles
 pub mod Expanding
 -- what private functions say to one another
 pub mod code
+pub mod Vocabulary

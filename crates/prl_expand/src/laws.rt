@@ -2,13 +2,11 @@
 //! definitions alone.
 
 ghost use Rattle.std.specs.Prelude.{◌≡◌, ◌≤◌, ℕ, false, List, Option, length};
-ghost use Rattle.prl_ast.specs.InRange.{IsInRange};
-ghost use Rattle.prl_ast.specs.Trees.{ProgramTree};
+ghost use Rattle.prl_ast.specs.Vocabulary.{IsInRange, ProgramTree};
 ghost use Rattle.prl_base.specs.declared.numbers.FlowNo.{FlowNo};
 ghost use Rattle.prl_base.specs.declared.operators.Clock.{Clock};
 ghost use Rattle.prl_base.specs.declared.values.Ty.{Ty};
-ghost use Rattle.prl_behaviours.specs.Annotations.{flows_in};
-ghost use Rattle.prl_behaviours.specs.Behaviours.{Satisfies, state_in};
+ghost use Rattle.prl_behaviours.specs.Vocabulary.{flows_in, Satisfies, state_in};
 ghost use Rattle.prl_body.specs.Used.{HaveBodiesOf};
 ghost use Rattle.prl_body.specs.declared.bodies.CheckedBody.{CheckedBody};
 ghost use Rattle.prl_expand.specs.Clocks.{AreOnlyClocks};
@@ -16,15 +14,11 @@ ghost use Rattle.prl_expand.specs.Correspondence.{IsOneToOne};
 ghost use Rattle.prl_expand.specs.Cycles.{PassesName};
 ghost use Rattle.prl_expand.specs.Expansions.{Expansion, IsExpansion};
 ghost use Rattle.prl_expand.specs.Flats.{flat_of};
-ghost use Rattle.prl_flow.specs.Applications.{HaveBodies};
-ghost use Rattle.prl_flow.specs.Programs.{IsFlat, FlatProgram};
-ghost use Rattle.prl_flow.specs.Rows.{Rows};
-ghost use Rattle.prl_flow.specs.Solutions.{AreClocks, HasRows};
-ghost use Rattle.prl_flow.specs.States.{IsSolution};
-ghost use Rattle.prl_flow.specs.Uses.{IsCycleLabel, IsOrder, Leads, UsesInside, UsesNow, is_made};
+ghost use Rattle.prl_flow.specs.Vocabulary.{HaveBodies, IsFlat, FlatProgram, Rows, AreClocks};
+ghost use Rattle.prl_flow.specs.Vocabulary.{HasRows, IsSolution, IsCycleLabel, IsOrder, Leads};
+ghost use Rattle.prl_flow.specs.Vocabulary.{UsesInside, UsesNow, is_made};
 ghost use Rattle.prl_names.specs.Uses.{used_imports};
-ghost use Rattle.prl_solutions.specs.Conditions.{HaveTypedBodies};
-ghost use Rattle.prl_solutions.specs.Uniqueness.{ExactlyOne};
+ghost use Rattle.prl_solutions.specs.Vocabulary.{HaveTypedBodies, ExactlyOne};
 ghost use Rattle.prl_types.specs.Typing.{IsTyped};
 
 use prl_behaviours::solutions_are_of_their_clocks;

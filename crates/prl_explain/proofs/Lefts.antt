@@ -2,15 +2,13 @@
 use Rattle.std.proofs.Common.{◌≡◌, ℕ, List, [], Some, Ok, Err, inl, inr}
 use Rattle.prl_base.specs.Decimals.{decimal_of}
 use Rattle.prl_base.specs.declared.numbers.TaskNo.{TaskNo}
+use Rattle.prl_broken.specs.Vocabulary.{left_text, IsLeft}
 use Rattle.prl_broken.specs.declared.lefts.Left.{Left}
-use Rattle.prl_broken.specs.CauseTexts.{left_text}
-use Rattle.prl_broken.specs.Lefts.{IsLeft}
 use Rattle.prl_cores.specs.declared.texts.CoresFault.TheVariants as cores_faults
 use Rattle.prl_cores.specs.Processors.{processors_of}
-use Rattle.prl_plan.specs.declared.events.Event.{Event}
 use Rattle.prl_plan.specs.Plans.{PlanView}
-use Rattle.prl_schedules.specs.Schedules.{task_of, without_return}
-use Rattle.prl_schedules.specs.ScheduleTexts.{task_names}
+use Rattle.prl_plan.specs.declared.events.Event.{Event}
+use Rattle.prl_schedules.specs.Vocabulary.{task_of, without_return, task_names}
 use Rattle.prl_spots.specs.Places.{IsLineStart, line_rest}
 use Rattle.prl_explain.specs.Details.{IsLeftTold, IsPlacingTold}
 use Rattle.prl_explain.specs.Placings.{placing_text}

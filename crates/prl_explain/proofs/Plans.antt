@@ -1,11 +1,10 @@
 -- The plan of a program, by the same bytes and the same name.
 use Rattle.std.proofs.Common.{◌≡◌, ℕ, List, Option, Some, None, subst}
 use Rattle.prl_plan.specs.Plans.{PlanView}
+use Rattle.prl_stages.specs.Vocabulary.{HasPlan, IsNoPlan, program_alone}
 use Rattle.prl_stages.specs.declared.faults.Fault.{Fault}
 use Rattle.prl_stages.specs.declared.stages.Stage.{Stage}
 use Rattle.prl_stages.specs.declared.stages.Stop.TheVariants as stops
-use Rattle.prl_stages.specs.Planned.{HasPlan}
-use Rattle.prl_stages.specs.PlansAlone.{IsNoPlan, program_alone}
 use Rattle.prl_explain.specs.Details.{IsPlanOf}
 
 pub plan_is : (program bytes : List ℕ) (node name : Option (List ℕ)) (plan : PlanView) → bytes ≡ program → name ≡ node

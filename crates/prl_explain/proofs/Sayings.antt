@@ -2,9 +2,8 @@
 use Rattle.std.proofs.Common.{◌≡◌, ◌++◌, ◌∙◌, ℕ, ℤ, List, [], Option, Some, None, ap, inl, inr, refl}
 use Rattle.prl_base.specs.Decimals.{decimal_of}
 use Rattle.prl_flow.specs.Programs.{FlatProgram}
+use Rattle.prl_plan.specs.Vocabulary.{Job, PlanView}
 use Rattle.prl_plan.specs.declared.graphs.TaskGraph.{TaskGraph}
-use Rattle.prl_plan.specs.Jobs.{Job}
-use Rattle.prl_plan.specs.Plans.{PlanView}
 use Rattle.prl_clashes.specs.declared.clashes.Clash.{Clash}
 use Rattle.prl_clashes.specs.ClashTexts.{clash_text}
 use Rattle.prl_clashes.specs.ClockWays.{IsClash}

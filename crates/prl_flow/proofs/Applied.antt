@@ -2,17 +2,13 @@
 use Rattle.std.proofs.Common.{◌≡◌, ℕ, zero, suc, List, [], ◌∷◌, length, map, slice_get, slice_index_or, Option, Some, refl, ◌∙◌, ap, subst}
 use Rattle.std.specs.Prelude.{pos, unwrap_or}
 use Rattle.std.proofs.lemmas.Option.{unwrap_or-slice_get}
-use Rattle.prl_base.specs.Clocks.{IsClock, date_at}
-use Rattle.prl_base.specs.declared.operators.Clock.{Clock}
+use Rattle.prl_base.specs.Vocabulary.{IsClock, date_at, type_of}
 use Rattle.prl_base.specs.declared.numbers.FlowNo.{FlowNo}
+use Rattle.prl_base.specs.declared.operators.Clock.{Clock}
 use Rattle.prl_base.specs.declared.values.Ty.{Ty}
 use Rattle.prl_base.specs.declared.values.Value.{Value}
 use Rattle.prl_base.specs.declared.values.Value.TheVariants as any_value
-use Rattle.prl_base.specs.Values.{type_of}
-use Rattle.prl_flow.specs.Applications.{HaveTypes, values_at}
-use Rattle.prl_flow.specs.Flows.{value_at}
-use Rattle.prl_flow.specs.Instances.{instance_values}
-use Rattle.prl_flow.specs.Programs.{FlatProgram, HasType}
+use Rattle.prl_flow.specs.Vocabulary.{HaveTypes, values_at, value_at, instance_values, FlatProgram, HasType}
 use Rattle.prl_flow.proofs.ClockDates.{value_at_date}
 
 -- the n-th date has the n-th values

@@ -2,15 +2,12 @@
 use Rattle.std.proofs.Common.{◌≡◌, ◌+◌, ◌-◌, ◌*◌, ◌/◌, ◌<◌, ◌≤◌, ◌↔◌, ℕ, zero, suc, List, length, slice_get, refl, sym, ◌∙◌, ap, arith, inl, inr, nat_abs}
 use Rattle.std.proofs.Math.Nat.{le-div_iff_mul-le, mul-div_cancel, mul-div-mul_right, mul-le-mul_left, mul_comm, mul_assoc, mul-add, le_of_mul-le-mul_left}
 use Rattle.std.proofs.lemmas.Bool.{cases_lt, lt-leb, le-leb, ne_eqb, eq-eqb}
-use Rattle.prl_base.specs.Clocks.{IsClock, date_at}
+use Rattle.prl_base.specs.Vocabulary.{IsClock, date_at, IsResultClock}
 use Rattle.prl_base.specs.declared.operators.Clock.{Clock}
 use Rattle.prl_base.specs.declared.operators.Op.{Op}
-use Rattle.prl_base.specs.declared.operators.Op.TheVariants as operators
 use Rattle.prl_base.specs.declared.values.Value.{Value}
-use Rattle.prl_flow.specs.Counts.{dates_before}
-use Rattle.prl_base.specs.Operators.{IsResultClock}
-use Rattle.prl_flow.specs.Flows.{IsUpTo, value_at, delay, value_of_operator, OperatorByDate}
-use Rattle.prl_flow.specs.Instances.{instance_of_operator, AreFirst, IsDenominated}
+use Rattle.prl_base.specs.declared.operators.Op.TheVariants as operators
+use Rattle.prl_flow.specs.Vocabulary.{dates_before, IsUpTo, value_at, delay, value_of_operator, OperatorByDate, instance_of_operator, AreFirst, IsDenominated}
 
 -- a quotient that is rounded up
 pub below_ceiling : (d t k : ℕ) → 1 ≤ t → (k < (d + t - 1) / t) ↔ (k * t < d)

@@ -9,3 +9,4 @@ pub mod Uses
 pub mod Actuators
 pub mod Counts
 pub mod Instances
+pub mod Vocabulary

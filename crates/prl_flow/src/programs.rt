@@ -1,7 +1,6 @@
 //! Flat programs and the clocks of their flows.
 
-ghost use Rattle.std.specs.Prelude.{◌≡◌, ◌<◌, length};
-ghost use Rattle.std.specs.Bool.{OnTrue};
+ghost use Rattle.std.specs.Prelude.{◌≡◌, ◌<◌, ◌↔◌, IsTrue, length};
 ghost use Rattle.prl_flow.specs.Programs.{name_of, wcet_of, IsFlat};
 ghost use Rattle.prl_flow.specs.Uses.{HasArgument, IsArgument};
 
@@ -139,7 +138,7 @@ impl Flat {
 
     /// Whether a flow is an argument of the application of this number.
     pub fn is_argument(&self, app: u32, flow: u32) -> bool
-        ensures { OnTrue result (IsArgument self.now app flow) }
+        ensures { IsTrue result ↔ IsArgument self.now app flow }
     {
         match self.apps().get(app as usize) {
             None => false,
@@ -199,10 +198,10 @@ impl Flat {
 
 /// Whether a flow is among the arguments.
 pub fn has_argument(args: &[Arg], flow: u32) -> bool
-    ensures { OnTrue result (HasArgument args.now flow) }
+    ensures { IsTrue result ↔ HasArgument args.now flow }
 {
-    for arg in args {
-        if arg.flow.0 == flow {
+    for index in 0..args.len() {
+        if args[index].flow.0 == flow {
             return true;
         }
     }

@@ -1,9 +1,7 @@
 -- Worked rows of the draw and of the texts.
 use Rattle.std.proofs.Common.{◌≡◌, ◌/◌, ◌^◌, [], ◌∷◌, refl, codes}
 use Rattle.std.specs.Fmt.{digits}
-use Rattle.prl_gen.specs.Draws.{draw, next}
-use Rattle.prl_gen.specs.Lanes.{instances, periods_from}
-use Rattle.prl_gen.specs.Texts.{equations, generated_program}
+use Rattle.prl_gen.specs.Vocabulary.{draw, next, instances, periods_from, equations, generated_program}
 
 -- from the number 1: the first state, its upper bits, and the period of the one lane
 

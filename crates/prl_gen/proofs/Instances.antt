@@ -1,8 +1,7 @@
 -- The instances of a lane are those whose dates are before the end.
 use Rattle.std.proofs.Common.{ℕ, ◌+◌, ◌*◌, ◌<◌, ◌≤◌, ◌↔◌, arith}
 use Rattle.std.proofs.lemmas.Grind.{div_ceil_times}
-use Rattle.prl_gen.specs.declared.lanes.TheConstants.{UNTIL}
-use Rattle.prl_gen.specs.Lanes.{instances}
+use Rattle.prl_gen.specs.Vocabulary.{UNTIL, instances}
 
 earlier : (m count period end : ℕ) → count * period < end + period → m < count → m * period < end
 earlier m count period end below h = grind arith

@@ -10,17 +10,13 @@ use Rattle.std.proofs.lemmas.Nat.Gcd.{IsGcd-from_zero, IsGcd-swap}
 use Rattle.std.proofs.Math.Nat.{div-le_self}
 use Rattle.prl_base.specs.Names.{is_word}
 use Rattle.prl_base.specs.declared.operators.Op.TheVariants as ops
-use Rattle.prl_ast.specs.InRange.{IsCount, IsShift}
-use Rattle.prl_ast.specs.Trees.{Tree, ProgramTree}
+use Rattle.prl_ast.specs.Vocabulary.{IsCount, IsShift, Tree, ProgramTree}
 use Rattle.prl_syntax.specs.Words.{keyword_of}
 use Rattle.prl_print.specs.Printing.{printed}
 use Rattle.prl_print.specs.RoundTrip.{IsTextOf}
 use Rattle.prl_print.proofs.Own.{AreOwn, IsOwnDevice, IsOwnEquation, IsOwnImport, IsOwnName, IsOwnNode, IsOwnParam, IsOwnTree}
 use Rattle.prl_print.proofs.Printable.{own_reads_back}
-use Rattle.prl_gen.specs.Draws.{draw, next, state_after}
-use Rattle.prl_gen.specs.Lanes.{period_at, periods_from}
-use Rattle.prl_gen.specs.Numbered.{each}
-use Rattle.prl_gen.specs.Texts.{generated_program}
+use Rattle.prl_gen.specs.Vocabulary.{draw, next, state_after, period_at, periods_from, each, generated_program}
 use Rattle.prl_gen.proofs.Trees.{counted, converted_tree, delayed_tree, device_tree, equation_of_lane, feed_tree, generated_is, generated_tree, grouped_tree, import_tree, input_tree, main_tree, name_of_lane, one_of, output_tree}
 
 -- names

@@ -1,9 +1,7 @@
 -- The definitions by numbers, at the number after one.
 use Rattle.std.proofs.Common.{◌≡◌, ℕ, ◌+◌, ◌%◌, List, ◌++◌, refl, add-one, get_or, append_assoc}
 use Rattle.std.proofs.Math.Nat.{mod-add-mod}
-use Rattle.prl_gen.specs.Draws.{next, state_after}
-use Rattle.prl_gen.specs.Lanes.{instances, state_of_lane}
-use Rattle.prl_gen.specs.Numbered.{each}
+use Rattle.prl_gen.specs.Vocabulary.{next, state_after, instances, state_of_lane, each}
 
 pub each_more : {A : Type 0} (list : ℕ → List A) (count : ℕ) → each list (count + 1) ≡ each list count ++ list count
 each_more list count = rw add-one refl

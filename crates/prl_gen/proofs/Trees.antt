@@ -11,17 +11,17 @@ use Rattle.prl_base.specs.declared.operators.Op.{Op}
 use Rattle.prl_base.specs.declared.operators.Op.TheVariants as ops
 use Rattle.prl_base.specs.declared.values.Ty.TheVariants as types
 use Rattle.prl_base.specs.declared.values.Value.TheVariants as values
+use Rattle.prl_ast.specs.Trees.{Tree, var, apply, group, none, more, EquationTree, NodeTree, ProgramTree}
 use Rattle.prl_ast.specs.declared.declarations.Device.{Device}
 use Rattle.prl_ast.specs.declared.declarations.Import.{Import}
 use Rattle.prl_ast.specs.declared.declarations.Param.{Param}
 use Rattle.prl_ast.specs.declared.declarations.Placed.{Placed}
 use Rattle.prl_ast.specs.declared.declarations.Port.{Port}
 use Rattle.prl_ast.specs.declared.expressions.PlacedOp.{PlacedOp}
-use Rattle.prl_ast.specs.Trees.{Tree, tree, var, apply, group, none, more, EquationTree, NodeTree, ProgramTree}
+use Rattle.prl_ast.specs.Trees.{tree}
 use Rattle.prl_print.specs.Places.{nowhere}
 use Rattle.prl_print.specs.Printing.{printed, printed_device, printed_equation, printed_import, printed_node, printed_param, printed_params, printed_ports, printed_tree, printed_wcet, separated}
-use Rattle.prl_gen.specs.Numbered.{each}
-use Rattle.prl_gen.specs.Texts.{actuator_lines, converted, delayed, equation, equations, feed, import_lines, input, inputs, outputs, program, semicolon_before, sensor_lines}
+use Rattle.prl_gen.specs.Vocabulary.{each, actuator_lines, converted, delayed, equation, equations, feed, import_lines, input, inputs, outputs, program, semicolon_before, sensor_lines}
 
 -- a letter and the number of the lane
 abbrev pub name_of_lane : List ℕ → ℕ → List ℕ

@@ -6,3 +6,4 @@ pub mod Draws
 pub mod Lanes
 -- the program, its bodies and its sensor rows
 pub mod Texts
+pub mod Vocabulary

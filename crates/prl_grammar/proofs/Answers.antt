@@ -2,13 +2,11 @@
 use Rattle.std.proofs.Common.{◌≡◌, ◌==◌, ◌≤◌, ◌<◌, ◌&&◌, ◌||◌, not, ℕ, zero, suc, Bool, true, false, List, [], ◌∷◌, ◌++◌, length, Ok, Err, refl, sym, ap, ◌∙◌, subst, inl, inr, arith, append_assoc, length-append}
 use Rattle.std.proofs.lemmas.Bool.{cond_both, false≢true, and_parts, not-true, eqb-true, true≢false}
 use Rattle.prl_base.specs.Reading.{◌>>=◌}
-use Rattle.prl_grammar.specs.Lexemes.{Lexeme, first_place}
-use Rattle.prl_grammar.specs.Grammars.{One, Many}
-use Rattle.prl_grammar.specs.Productions.{Grammar, token, give, action, both, either, many, placed, inner, written}
-use Rattle.prl_grammar.specs.code.LookAhead.{IsApart, is_guarded}
-use Rattle.prl_grammar.specs.code.Readers.{Stuck, Deep, Read, next_in, one_at, many_up_to}
-use Rattle.prl_grammar.specs.code.Reads.{Shape, Begins}
-use Rattle.prl_grammar.specs.code.Shapes.{shape, read}
+use Rattle.prl_grammar.specs.Vocabulary.{Lexeme, first_place, One, Grammar, token, give, action, both, either, many, placed, inner, written, IsApart, is_guarded, Stuck, Deep, Read, next_in, one_at}
+use Rattle.prl_grammar.specs.Vocabulary.{many_up_to, Begins, shape}
+use Rattle.prl_grammar.specs.Grammars.{Many}
+use Rattle.prl_grammar.specs.code.Reads.{Shape}
+use Rattle.prl_grammar.specs.code.Shapes.{read}
 use Rattle.prl_grammar.proofs.Beginnings.{same_place, Some, begins, example}
 
 -- What was taken is the text of a tree.

@@ -1,11 +1,7 @@
 -- Facts on lists of tokens, on their classes, and on shapes.
 use Rattle.std.proofs.Common.{◌≡◌, ◌==◌, ℕ, Bool, true, false, ◌||◌, ◌&&◌, List, [], ◌∷◌, ◌++◌, length, refl, sym, ap, ◌∙◌, ⊎_elim, arith, length-append}
 use Rattle.std.proofs.lemmas.Bool.{cases_Bool, false≢true, and_parts, or_cases, or_parts, or_left, or_right, eqb-true, not-true}
-use Rattle.prl_grammar.specs.Lexemes.{Lexeme}
-use Rattle.prl_grammar.specs.Whole.{next_class}
-use Rattle.prl_grammar.specs.code.Readers.{is_in, next_in}
-use Rattle.prl_grammar.specs.code.Reads.{StopsBefore}
-use Rattle.prl_grammar.specs.code.LookAhead.{disjoint}
+use Rattle.prl_grammar.specs.Vocabulary.{Lexeme, next_class, is_in, next_in, StopsBefore, disjoint}
 
 -- after the same tokens the next one is of the same class
 pub next_class_append : (w rest other : List Lexeme) → next_class rest ≡ next_class other → next_class (w ++ rest) ≡ next_class (w ++ other)

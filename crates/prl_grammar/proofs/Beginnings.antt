@@ -1,12 +1,9 @@
 -- What texts of a grammar begin with, and that there are some.
 use Rattle.std.proofs.Common.{◌≡◌, false, List, [], ◌∷◌, ◌++◌, refl, sym, ap, ◌∙◌, subst, inl, inr, ⊎_elim}
 use Rattle.std.proofs.lemmas.Bool.{false≢true, cond-true, cond-false, cases_Bool, and_from, and_left, and_right, or_left, or_right, eq-eqb}
-use Rattle.prl_grammar.specs.Lexemes.{Lexeme, first_place}
-use Rattle.prl_grammar.specs.Productions.{Grammar, token, give, action, both, either, many, placed, inner, written}
-use Rattle.prl_grammar.specs.code.LookAhead.{is_founded}
-use Rattle.prl_grammar.specs.code.Readers.{is_in}
-use Rattle.prl_grammar.specs.code.Reads.{Shape, Begins, then_shape, either_shape, many_shape}
-use Rattle.prl_grammar.specs.code.Shapes.{shape}
+use Rattle.prl_grammar.specs.Vocabulary.{Lexeme, first_place, Grammar, token, give, action, both, either, many, placed, inner, written, is_founded, is_in, Begins, then_shape, either_shape, many_shape}
+use Rattle.prl_grammar.specs.Vocabulary.{shape}
+use Rattle.prl_grammar.specs.code.Reads.{Shape}
 use Rattle.prl_grammar.proofs.Basics.{in_left, in_right}
 
 then_begins : (s r : Shape) (u v : List Lexeme) → Begins s u → Begins r v → Begins (then_shape s r) (u ++ v)

@@ -3,13 +3,11 @@
 use Rattle.std.proofs.Common.{◌≡◌, ◌==◌, ℕ, zero, suc, Bool, true, false, cond, List, [], ◌∷◌, ◌++◌, length, Ok, Err, refl, sym, ap, ◌∙◌, subst, ◌⊎◌, inl, inr, append_assoc}
 use Rattle.std.proofs.lemmas.Bool.{cond-true, cond-false, cond_both, false≢true, and_parts, not-true, eq-eqb}
 use Rattle.prl_base.specs.Reading.{◌>>=◌}
-use Rattle.prl_grammar.specs.Lexemes.{Lexeme, first_place}
+use Rattle.prl_grammar.specs.Vocabulary.{Lexeme, first_place, Grammar, token, give, action, both, either, many, placed, inner, written, disjoint, IsApart, Deep, Read, next_in, one_at, many_up_to}
+use Rattle.prl_grammar.specs.Vocabulary.{StopsBefore, Begins, then_shape, either_shape, many_shape, shape, read_with}
 use Rattle.prl_grammar.specs.Grammars.{Many}
-use Rattle.prl_grammar.specs.Productions.{Grammar, token, give, action, both, either, many, placed, inner, written}
-use Rattle.prl_grammar.specs.code.LookAhead.{disjoint, IsApart}
-use Rattle.prl_grammar.specs.code.Readers.{Deep, Read, next_in, one_at, many_up_to}
-use Rattle.prl_grammar.specs.code.Reads.{Shape, StopsBefore, Begins, then_shape, either_shape, many_shape}
-use Rattle.prl_grammar.specs.code.Shapes.{shape, read_with, read}
+use Rattle.prl_grammar.specs.code.Reads.{Shape}
+use Rattle.prl_grammar.specs.code.Shapes.{read}
 use Rattle.prl_grammar.proofs.Basics.{stops_parts, apart}
 use Rattle.prl_grammar.proofs.Beginnings.{same_place, begins}
 

@@ -2,13 +2,10 @@
 use Rattle.std.proofs.Common.{◌≡◌, ◌==◌, ◌≤◌, ◌<◌, ◌+◌, ℕ, zero, suc, true, false, cond, List, [], ◌∷◌, ◌++◌, length, Option, Some, None, Ok, Err, refl, sym, ap, ◌∙◌, subst, ⊎_elim, arith, append_assoc, length-append}
 use Rattle.std.proofs.lemmas.Bool.{cond-true, cond-false, cases_Bool, false≢true, and_parts, not-true}
 use Rattle.prl_base.specs.Reading.{◌>>=◌}
-use Rattle.prl_grammar.specs.Lexemes.{Lexeme, first_place}
-use Rattle.prl_grammar.specs.Productions.{Grammar, token, give, action, both, either, many, placed, inner, written}
-use Rattle.prl_grammar.specs.Whole.{next_class}
-use Rattle.prl_grammar.specs.code.LookAhead.{IsApart}
-use Rattle.prl_grammar.specs.code.Readers.{Stuck, Deep, Read, next_in, choice, one_at, many_up_to, many_at, from_first}
-use Rattle.prl_grammar.specs.code.Reads.{Shape, Begins}
-use Rattle.prl_grammar.specs.code.Shapes.{shape, read_with, read}
+use Rattle.prl_grammar.specs.Vocabulary.{Lexeme, first_place, Grammar, token, give, action, both, either, many, placed, inner, written, next_class, IsApart, Stuck, Deep, Read, next_in, choice, one_at}
+use Rattle.prl_grammar.specs.Vocabulary.{many_up_to, many_at, from_first, Begins, shape, read_with}
+use Rattle.prl_grammar.specs.code.Reads.{Shape}
+use Rattle.prl_grammar.specs.code.Shapes.{read}
 use Rattle.prl_grammar.proofs.Answers.{Taken, Told, told_as, told, told_many, fewer}
 use Rattle.prl_grammar.proofs.Basics.{next_class_append, next_in_class, same_cut}
 use Rattle.prl_grammar.proofs.Beginnings.{Some as SomeText, begins}

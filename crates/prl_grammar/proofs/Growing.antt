@@ -1,8 +1,6 @@
 -- Grammars that grow with the depth of parentheses.
 use Rattle.std.proofs.Common.{◌≤◌, ◌+◌, ℕ, zero, suc, List, [], ◌∷◌, inl, inr, arith}
-use Rattle.prl_grammar.specs.Lexemes.{Lexeme}
-use Rattle.prl_grammar.specs.Productions.{Grammar, token, give, action, both, either, many, placed, inner, written}
-use Rattle.prl_grammar.specs.Language.{Language, within, nested}
+use Rattle.prl_grammar.specs.Vocabulary.{Lexeme, Grammar, token, give, action, both, either, many, placed, inner, written, Language, within, nested}
 
 module _ {R : Type 0} (E F : R → List Lexeme → Type 0) (grows : (t : R) (w : List Lexeme) → E t w → F t w) where
   pub written_grows : {A : Type 0} (g : Grammar R A) (a : A) (w : List Lexeme) → written E g a w → written F g a w

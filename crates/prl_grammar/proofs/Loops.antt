@@ -3,18 +3,9 @@ use Rattle.std.proofs.Common.{◌≡◌, ◌<◌, ℕ, true, false, List, [], �
 use Rattle.std.proofs.lemmas.Bool.{cond-true, cond-false, and_parts}
 use Rattle.std.proofs.lemmas.List.{append-nil, map_push}
 use Rattle.prl_base.specs.Reading.{◌>>=◌, FailsAs}
-use Rattle.prl_grammar.specs.Lexemes.{Lexeme}
-use Rattle.prl_grammar.specs.code.Readers.{Read, next_in, choice, many_at}
-use Rattle.prl_grammar.specs.code.Stops.{stop_of}
-use Rattle.prl_grammar.specs.declared.reading.Stop.{Stop}
+use Rattle.prl_grammar.specs.Vocabulary.{Lexeme, Read, next_in, choice, many_at, stop_of, Stop, Grammar, many, shape, read_with, Language, inner_of, read_at, with_front, IsApart}
 use Rattle.prl_grammar.specs.declared.reading.Stop.TheVariants as stops
 use Rattle.prl_grammar.proofs.Continuing.{many_step}
-use Rattle.prl_grammar.specs.Productions.{Grammar, many}
-use Rattle.prl_grammar.specs.code.Shapes.{shape, read_with}
-use Rattle.prl_grammar.specs.Language.{Language}
-use Rattle.prl_grammar.specs.code.Languages.{inner_of, read_at}
-use Rattle.prl_grammar.specs.code.Loops.{with_front}
-use Rattle.prl_grammar.specs.code.LookAhead.{IsApart}
 use Rattle.prl_grammar.proofs.Nesting.{IsRight, text_fewer}
 
 -- the reader of many reads one and the others

@@ -1,14 +1,9 @@
 -- Languages are read as deep as their tokens reach, and each list of tokens has an answer.
 use Rattle.std.proofs.Common.{◌≡◌, ◌<◌, ◌≤◌, true, false, ℕ, zero, suc, List, [], ◌∷◌, ◌++◌, length, Ok, refl, sym, ap, ◌∙◌, subst, inl, inr, ⊎_elim, arith, length-append}
 use Rattle.std.proofs.lemmas.Bool.{cases_lt, false≢true, true≢false}
-use Rattle.prl_grammar.specs.Lexemes.{Lexeme}
-use Rattle.prl_grammar.specs.Productions.{Grammar, placed}
-use Rattle.prl_grammar.specs.Language.{Language, within, nested, Text}
-use Rattle.prl_grammar.specs.code.Languages.{inner_of, read_within, read_nested, read_at}
-use Rattle.prl_grammar.specs.code.LookAhead.{IsApart, is_guarded, is_founded}
-use Rattle.prl_grammar.specs.code.Readers.{Read}
-use Rattle.prl_grammar.specs.code.Reads.{Shape, Begins, StopsBefore}
-use Rattle.prl_grammar.specs.code.Shapes.{shape}
+use Rattle.prl_grammar.specs.Vocabulary.{Lexeme, Grammar, placed, Language, within, nested, Text, inner_of, read_within, read_nested, read_at, IsApart, is_guarded, is_founded, Read, Begins}
+use Rattle.prl_grammar.specs.Vocabulary.{StopsBefore, shape}
+use Rattle.prl_grammar.specs.code.Reads.{Shape}
 use Rattle.prl_grammar.proofs.Answers.{Taken, Told, told_as, told}
 use Rattle.prl_grammar.proofs.Basics.{contained, inside, stops_inside}
 use Rattle.prl_grammar.proofs.Beginnings.{Some, begins, example}

@@ -2,8 +2,7 @@
 use Rattle.std.proofs.Common.{◌≡◌, ℕ, ◌+◌, ◌<◌, ◌≤◌, Bool, true, false, cond, List, ◌∷◌, length, drop, get_or, Option, Some, None, sym, ap, ◌∙◌}
 use Rattle.std.proofs.lemmas.Bool.{cond-true, cond-false}
 use Rattle.std.proofs.lemmas.List.{drop_more, drop_all}
-use Rattle.prl_grammar.specs.Lexemes.{Lexeme}
-use Rattle.prl_grammar.specs.Ranges.{Ranges, inside_after, is_fault, out_of_range}
+use Rattle.prl_grammar.specs.Vocabulary.{Lexeme, Ranges, inside_after, is_fault, out_of_range}
 
 module _ (r : Ranges) (inside : Bool) (last : ℕ) (ts : List Lexeme) (i : ℕ) where
   at_place : (t : Lexeme) → i < length ts → t ≡ get_or ts i t

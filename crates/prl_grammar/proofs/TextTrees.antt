@@ -1,22 +1,13 @@
 -- What is read of a text is the tree that the grammar gives it, or its first fault.
 use Rattle.std.proofs.Common.{◌≡◌, ℕ, false, List, length, Option, Some, None, Result, Ok, Err, refl, sym, ap, ◌∙◌}
 use Rattle.prl_base.specs.Reading.{◌>>=◌}
+use Rattle.prl_lex.specs.Lexing.{tokens_of}
 use Rattle.prl_lex.specs.declared.tokens.LexFault.{LexFault}
 use Rattle.prl_lex.specs.declared.tokens.Token.{Token}
-use Rattle.prl_lex.specs.Lexing.{tokens_of}
-use Rattle.prl_grammar.specs.declared.texts.TextFault.{TextFault}
+use Rattle.prl_grammar.specs.Vocabulary.{TextFault, Text, Lexeme, lexemes_of, out_of_range, Texts, IsRead, inner_of, read_at, IsApart, Stuck, Deep, shape, of_stop, ranged, tree_of_tokens}
+use Rattle.prl_grammar.specs.Vocabulary.{tree_of_text, told, all_at}
+use Rattle.prl_grammar.specs.code.Readers.{Stop}
 use Rattle.prl_grammar.specs.declared.texts.TextFault.TheVariants as faults
-use Rattle.prl_grammar.specs.Language.{Text}
-use Rattle.prl_grammar.specs.Lexemes.{Lexeme}
-use Rattle.prl_grammar.specs.Lexing.{lexemes_of}
-use Rattle.prl_grammar.specs.Ranges.{out_of_range}
-use Rattle.prl_grammar.specs.Texts.{Texts, IsRead}
-use Rattle.prl_grammar.specs.code.Languages.{inner_of, read_at}
-use Rattle.prl_grammar.specs.code.LookAhead.{IsApart}
-use Rattle.prl_grammar.specs.code.Readers.{Stop, Stuck, Deep}
-use Rattle.prl_grammar.specs.code.Shapes.{shape}
-use Rattle.prl_grammar.specs.code.Texts.{of_stop, ranged, tree_of_tokens, tree_of_text}
-use Rattle.prl_grammar.specs.code.Whole.{told, all_at}
 use Rattle.prl_grammar.proofs.Nesting.{IsRight, Reads, text_reads}
 use Rattle.prl_grammar.proofs.Whole.{IsAnswer, all_so, so_all}
 

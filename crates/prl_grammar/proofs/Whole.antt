@@ -3,11 +3,9 @@ use Rattle.std.proofs.Common.{◌≡◌, ◌<◌, ◌≤◌, ℕ, List, [], ◌�
 use Rattle.std.proofs.lemmas.Bool.{cases_lt}
 use Rattle.std.proofs.lemmas.List.{append-nil}
 use Rattle.prl_base.specs.Reading.{◌>>=◌}
-use Rattle.prl_grammar.specs.Lexemes.{Lexeme}
-use Rattle.prl_grammar.specs.Whole.{next_class, IsFirstUnexpected}
-use Rattle.prl_grammar.specs.code.Readers.{Stop, Stuck, Deep, Read}
+use Rattle.prl_grammar.specs.Vocabulary.{Lexeme, next_class, IsFirstUnexpected, Stuck, Deep, Read, ended, all_at}
+use Rattle.prl_grammar.specs.code.Readers.{Stop}
 use Rattle.prl_grammar.specs.code.Reads.{Shape}
-use Rattle.prl_grammar.specs.code.Whole.{ended, all_at}
 use Rattle.prl_grammar.proofs.Answers.{Told}
 use Rattle.prl_grammar.proofs.Continuing.{pair}
 use Rattle.prl_grammar.proofs.Nesting.{Reads}

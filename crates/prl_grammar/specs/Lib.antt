@@ -14,3 +14,4 @@ pub mod Ranges
 pub mod Texts
 -- What private functions say to one another.
 pub mod code
+pub mod Vocabulary

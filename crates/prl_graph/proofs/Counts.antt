@@ -5,11 +5,10 @@ use Rattle.std.proofs.Math.Nat.{mul-le-mul_right}
 use Rattle.std.proofs.lemmas.List.{take_all}
 use Rattle.std.proofs.lemmas.List.Sums.{sum-map, sum_by-append, sum_by-cons}
 use Rattle.prl_base.specs.declared.numbers.FlowNo.{FlowNo}
-use Rattle.prl_flow.specs.declared.programs.App.{App}
 use Rattle.prl_flow.specs.Programs.{FlatProgram}
+use Rattle.prl_flow.specs.declared.programs.App.{App}
 use Rattle.prl_plan.specs.declared.graphs.Task.{Task}
-use Rattle.prl_graph.specs.Ports.{actuator_no, actuator_ports, application_ports, argument_ports, node_no, ports_of}
-use Rattle.prl_graph.specs.TaskGraphs.{jobs_within}
+use Rattle.prl_graph.specs.Vocabulary.{actuator_no, actuator_ports, application_ports, argument_ports, node_no, ports_of, jobs_within}
 use Rattle.prl_graph.proofs.Edging.{arguments_length, one_application, take_one}
 
 outputs_length : (i : ℕ) (flows : List FlowNo) → length (actuator_ports i flows) ≡ length flows

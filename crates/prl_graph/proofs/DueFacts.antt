@@ -5,11 +5,10 @@ use Rattle.std.proofs.lemmas.Option.{slice_get_within}
 use Rattle.prl_base.specs.declared.numbers.FlowNo.{FlowNo}
 use Rattle.prl_base.specs.declared.operators.Clock.{Clock}
 use Rattle.prl_flow.specs.declared.programs.Def.TheVariants as definitions
+use Rattle.prl_flow.specs.Vocabulary.{FlatProgram, clock_of}
 use Rattle.prl_flow.specs.declared.programs.Flow.{Flow}
-use Rattle.prl_flow.specs.Programs.{FlatProgram}
 use Rattle.prl_graph.specs.Dues.{AllowsDue, AreDuesAllowed, AreDuesInRange, CopiesOutput, IsDueOnNonTask, IsDueOutOfRange, IsMainInput, IsMainOutput, IsWithinPeriod, NotesDue, input, output, copy}
 use Rattle.prl_graph.specs.code.Marks.{AreMarked, AreOutputMarks, IsBinding, IsLabelOf, IsMarked, IsMisplaced, IsPlaced, IsRanged, IsUnranged}
-use Rattle.prl_flow.specs.Solutions.{clock_of}
 use Rattle.prl_graph.proofs.Lists.{clear_at, clear_length, mark_cases, mark_kept, mark_set}
 
 -- no output is marked

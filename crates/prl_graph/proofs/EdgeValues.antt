@@ -1,35 +1,28 @@
 -- The value on an edge.
 use Rattle.std.proofs.Common.{◌≡◌, ◌<◌, ℕ, List, length, slice_get, Option, Some, refl, sym, ◌∙◌, ap, subst, arith}
 use Rattle.std.proofs.lemmas.Option.{slice_get_within}
-use Rattle.prl_base.specs.Clocks.{date_at}
-use Rattle.prl_base.specs.Operators.{IsOperatorFor, constant, instance, origin_of}
+use Rattle.prl_base.specs.Vocabulary.{date_at, IsOperatorFor, constant, instance, origin_of}
 use Rattle.prl_base.specs.declared.numbers.FlowNo.{FlowNo}
 use Rattle.prl_base.specs.declared.operators.Clock.{Clock}
 use Rattle.prl_base.specs.declared.operators.Op.{Op}
-use Rattle.prl_base.specs.declared.operators.Op.TheVariants as operators
 use Rattle.prl_base.specs.declared.values.Ty.{Ty}
 use Rattle.prl_base.specs.declared.values.Value.{Value}
+use Rattle.prl_base.specs.declared.operators.Op.TheVariants as operators
 use Rattle.prl_body.specs.declared.bodies.CheckedBody.{CheckedBody}
+use Rattle.prl_flow.specs.Vocabulary.{OperatorByDate, IsDenominated, value_from, FlatProgram, IsFlat, IsWellDefined, Rows, AgreesClock, AreClocks, MeetsDefinition, Solves, clock_of, values_of}
 use Rattle.prl_flow.specs.declared.programs.Def.{Def}
-use Rattle.prl_flow.specs.declared.programs.Def.TheVariants as definitions
 use Rattle.prl_flow.specs.declared.programs.Flow.{Flow}
-use Rattle.prl_flow.specs.Flows.{OperatorByDate}
-use Rattle.prl_flow.specs.Instances.{IsDenominated, value_from}
-use Rattle.prl_flow.specs.Programs.{FlatProgram, IsFlat, IsWellDefined}
-use Rattle.prl_flow.specs.Rows.{Rows}
-use Rattle.prl_flow.specs.Solutions.{AgreesClock, AreClocks, MeetsDefinition, Solves, clock_of, values_of}
+use Rattle.prl_flow.specs.declared.programs.Def.TheVariants as definitions
 use Rattle.prl_flow.proofs.ClockDates.{value_at_date, value_of_operator_date}
 use Rattle.prl_flow.proofs.Lists.{element_at}
+use Rattle.prl_plan.specs.Operands.{operand_at, operand_from, operand_of, walk}
 use Rattle.prl_plan.specs.declared.graphs.Edge.{Edge}
 use Rattle.prl_plan.specs.declared.graphs.Producer.{Producer}
-use Rattle.prl_plan.specs.declared.graphs.Producer.TheVariants as producers
 use Rattle.prl_plan.specs.declared.walks.Operand.{Operand}
+use Rattle.prl_plan.specs.declared.graphs.Producer.TheVariants as producers
 use Rattle.prl_plan.specs.declared.walks.Operand.TheVariants as operands
-use Rattle.prl_plan.specs.Operands.{operand_at, operand_from, operand_of, walk}
-use Rattle.prl_graph.specs.Edges.{IsEdgeOf, IsProducer, LeadsBack}
+use Rattle.prl_graph.specs.Vocabulary.{IsEdgeOf, IsProducer, LeadsBack, value_of_operand, value_on_date, InputPort}
 use Rattle.prl_graph.specs.Edges as ways
-use Rattle.prl_graph.specs.EdgeValues.{value_of_operand, value_on_date}
-use Rattle.prl_graph.specs.Ports.{InputPort}
 
 -- a value of a list, or the constant
 abbrev pub value_by : List Value → Operand → Option Value

@@ -5,15 +5,13 @@ use Rattle.std.proofs.lemmas.Option.{slice_get_within}
 use Rattle.prl_base.specs.declared.numbers.FlowNo.{FlowNo}
 use Rattle.prl_base.specs.declared.operators.Clock.{Clock}
 use Rattle.prl_base.specs.declared.operators.Op.{Op}
+use Rattle.prl_flow.specs.Vocabulary.{FlatProgram, clock_of}
 use Rattle.prl_flow.specs.declared.programs.App.{App}
 use Rattle.prl_flow.specs.declared.programs.Arg.{Arg}
 use Rattle.prl_flow.specs.declared.programs.Flow.{Flow}
-use Rattle.prl_flow.specs.Programs.{FlatProgram}
-use Rattle.prl_flow.specs.Solutions.{clock_of}
 use Rattle.prl_plan.specs.declared.graphs.Edge.{Edge}
-use Rattle.prl_graph.specs.Edges.{AreEdgesOf, IsEdgeOf, LeadsBack}
-use Rattle.prl_graph.specs.Ports.{InputPort, actuator_no, actuator_ports, node_no, ports_of, application_ports, argument_ports}
-use Rattle.prl_graph.specs.code.Steps.{AddsEdges, AreArgumentsOf, EndsAt, GivesValues}
+use Rattle.prl_graph.specs.Vocabulary.{AreEdgesOf, IsEdgeOf, LeadsBack, InputPort, actuator_no, actuator_ports, node_no, ports_of, application_ports, argument_ports, AddsEdges, AreArgumentsOf, EndsAt}
+use Rattle.prl_graph.specs.Vocabulary.{GivesValues}
 use Rattle.prl_graph.proofs.Lists.{push_cases}
 
 one_edge : (p : FlatProgram) (clocks : List Clock) (ports : List InputPort) (edges : List Edge) (port : InputPort) (edge : Edge) → AreEdgesOf p clocks ports edges → IsEdgeOf p clocks port edge

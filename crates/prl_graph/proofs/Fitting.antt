@@ -4,37 +4,28 @@ use Rattle.std.specs.Prelude.{decimal}
 use Rattle.std.specs.List.{AllByRecursion}
 use Rattle.std.proofs.lemmas.Int.{ints}
 use Rattle.std.proofs.lemmas.Option.{slice_get_within, slice_get-get_or}
-use Rattle.prl_base.specs.Clocks.{date_at}
-use Rattle.prl_base.specs.Values.{type_of}
+use Rattle.prl_base.specs.Vocabulary.{date_at, type_of}
 use Rattle.prl_base.specs.declared.numbers.FlowNo.{FlowNo}
 use Rattle.prl_base.specs.declared.operators.Clock.{Clock}
 use Rattle.prl_base.specs.declared.values.Ty.{Ty}
 use Rattle.prl_base.specs.declared.values.Value.{Value}
-use Rattle.prl_body.specs.declared.bodies.CheckedBody.{CheckedBody}
 use Rattle.prl_body.specs.Bodies.{IsWellTyped, body_named, input_types, output_types}
+use Rattle.prl_body.specs.declared.bodies.CheckedBody.{CheckedBody}
+use Rattle.prl_flow.specs.Vocabulary.{HasBody, HaveBodies, HaveTypes, argument_numbers, FlatProgram, HasType, IsFlat, IsWellDefined, Rows, rows_of, HasRows, clock_of}
 use Rattle.prl_flow.specs.declared.programs.App.{App}
 use Rattle.prl_flow.specs.declared.programs.Def.{Def}
-use Rattle.prl_flow.specs.declared.programs.Def.TheVariants as definitions
 use Rattle.prl_flow.specs.declared.programs.Flow.{Flow}
-use Rattle.prl_flow.specs.Applications.{HasBody, HaveBodies, HaveTypes, argument_numbers}
-use Rattle.prl_flow.specs.Programs.{FlatProgram, HasType, IsFlat, IsWellDefined}
-use Rattle.prl_flow.specs.Rows.{Rows, rows_of}
-use Rattle.prl_flow.specs.Solutions.{HasRows, clock_of}
+use Rattle.prl_flow.specs.declared.programs.Def.TheVariants as definitions
 use Rattle.prl_flow.proofs.Lists.{element_at}
+use Rattle.prl_plan.specs.Vocabulary.{IsHorizonJob, no_task, task_at, ComesFrom}
 use Rattle.prl_plan.specs.declared.graphs.Edge.{Edge}
-use Rattle.prl_plan.specs.declared.graphs.Kind.TheVariants as kinds
 use Rattle.prl_plan.specs.declared.graphs.Producer.{Producer}
-use Rattle.prl_plan.specs.declared.graphs.Producer.TheVariants as producers
 use Rattle.prl_plan.specs.declared.graphs.Task.{Task}
 use Rattle.prl_plan.specs.declared.graphs.TaskGraph.{TaskGraph}
-use Rattle.prl_plan.specs.Jobs.{IsHorizonJob, no_task, task_at}
-use Rattle.prl_plan.specs.Precedence.{ComesFrom}
-use Rattle.prl_values.specs.Fitting.{FitsTask, HasOutput, HaveTaskBodies, HaveTypedRows, IsTypedFrom, port_types}
-use Rattle.prl_values.specs.JobValues.{body_of_task, word_of}
-use Rattle.prl_graph.specs.Edges.{IsEdgeOf, IsProducer}
-use Rattle.prl_graph.specs.Ports.{InputPort, node_no, ports_of}
-use Rattle.prl_graph.specs.TaskGraphs.{IsGraphOf}
-use Rattle.prl_graph.specs.Tasks.{IsNodeTask, IsTaskOf, actuator, node, sensor}
+use Rattle.prl_plan.specs.declared.graphs.Kind.TheVariants as kinds
+use Rattle.prl_plan.specs.declared.graphs.Producer.TheVariants as producers
+use Rattle.prl_values.specs.Vocabulary.{FitsTask, HasOutput, HaveTaskBodies, HaveTypedRows, IsTypedFrom, port_types, body_of_task, word_of}
+use Rattle.prl_graph.specs.Vocabulary.{IsEdgeOf, IsProducer, InputPort, node_no, ports_of, IsGraphOf, IsNodeTask, IsTaskOf, actuator, node, sensor}
 use Rattle.prl_graph.proofs.Names.{word_of_node}
 use Rattle.prl_graph.proofs.Order.{Match}
 use Rattle.prl_graph.proofs.Ports.{port_within}

@@ -13,40 +13,31 @@ use Rattle.prl_base.specs.declared.numbers.FlowNo.{FlowNo}
 use Rattle.prl_base.specs.declared.operators.Clock.{Clock}
 use Rattle.prl_base.specs.declared.values.Value.{Value}
 use Rattle.prl_base.specs.declared.values.Value.TheVariants as values
-use Rattle.prl_body.specs.declared.bodies.CheckedBody.{CheckedBody}
 use Rattle.prl_body.specs.Bodies.{IsWellTyped, body_named, body_step, input_types, output_types, register_types, value_expressions}
+use Rattle.prl_body.specs.declared.bodies.CheckedBody.{CheckedBody}
 use Rattle.prl_body.proofs.Sound.{length_HaveTypes}
+use Rattle.prl_flow.specs.Vocabulary.{HaveBodies, HaveTypes, nth_step, registers_before, values_at, value_at, FlatProgram, IsFlat, IsWellDefined, Rows, rows_of, AreClocks, IsOutputFlow, Solves}
+use Rattle.prl_flow.specs.Vocabulary.{argument_flows, clock_of, values_of}
 use Rattle.prl_flow.specs.declared.programs.App.{App}
 use Rattle.prl_flow.specs.declared.programs.Arg.{Arg}
 use Rattle.prl_flow.specs.declared.programs.Def.{Def}
-use Rattle.prl_flow.specs.declared.programs.Def.TheVariants as definitions
 use Rattle.prl_flow.specs.declared.programs.Flow.{Flow}
-use Rattle.prl_flow.specs.Applications.{HaveBodies, HaveTypes, nth_step, registers_before, values_at}
-use Rattle.prl_flow.specs.Flows.{value_at}
-use Rattle.prl_flow.specs.Programs.{FlatProgram, IsFlat, IsWellDefined}
-use Rattle.prl_flow.specs.Rows.{Rows, rows_of}
-use Rattle.prl_flow.specs.Solutions.{AreClocks, IsOutputFlow, Solves, argument_flows, clock_of, values_of}
+use Rattle.prl_flow.specs.declared.programs.Def.TheVariants as definitions
 use Rattle.prl_flow.proofs.Applied as applied
 use Rattle.prl_flow.proofs.ClockDates.{value_at_date}
 use Rattle.prl_flow.proofs.Lists.{element_at, same_from_elements, slice_get_take}
+use Rattle.prl_plan.specs.Vocabulary.{IsTaskName, IsWellFormed, IsHorizonJob, no_task, task_at, operand_from, operand_of, walk}
 use Rattle.prl_plan.specs.declared.graphs.Edge.{Edge}
 use Rattle.prl_plan.specs.declared.graphs.Kind.{Kind}
-use Rattle.prl_plan.specs.declared.graphs.Kind.TheVariants as kinds
-use Rattle.prl_plan.specs.declared.graphs.Producer.TheVariants as producers
 use Rattle.prl_plan.specs.declared.graphs.Task.{Task}
 use Rattle.prl_plan.specs.declared.graphs.TaskGraph.{TaskGraph}
 use Rattle.prl_plan.specs.declared.walks.Operand.{Operand}
+use Rattle.prl_plan.specs.declared.graphs.Kind.TheVariants as kinds
+use Rattle.prl_plan.specs.declared.graphs.Producer.TheVariants as producers
 use Rattle.prl_plan.specs.declared.walks.Operand.TheVariants as operands
-use Rattle.prl_plan.specs.Graphs.{IsTaskName, IsWellFormed}
-use Rattle.prl_plan.specs.Jobs.{IsHorizonJob, no_task, task_at}
-use Rattle.prl_plan.specs.Operands.{operand_from, operand_of, walk}
 use Rattle.prl_values.specs.JobValues.{AreJobValues, at_most_one, body_of_task, given, gives, read_on, reads_of_job, step_outputs, value_from, value_on, word_of}
-use Rattle.prl_graph.specs.Edges.{IsProducer}
-use Rattle.prl_graph.specs.EdgeValues.{value_of_operand, value_on_date}
-use Rattle.prl_graph.specs.JobDates.{given_flows, no_flow, outputs_of, value_or_none, values_on_dates}
-use Rattle.prl_graph.specs.Ports.{InputPort, actuator_no, node_no, ports_of}
-use Rattle.prl_graph.specs.TaskGraphs.{AreSmallClocks, IsGraphOf}
-use Rattle.prl_graph.specs.Tasks.{IsTaskOf, application_clock, sensor, node, actuator}
+use Rattle.prl_graph.specs.Vocabulary.{IsProducer, value_of_operand, value_on_date, given_flows, no_flow, outputs_of, value_or_none, values_on_dates, InputPort, actuator_no, node_no, ports_of}
+use Rattle.prl_graph.specs.Vocabulary.{AreSmallClocks, IsGraphOf, IsTaskOf, application_clock, sensor, node, actuator}
 use Rattle.prl_graph.proofs.EdgeValues.{clock_there, met, on_edge, value_there}
 use Rattle.prl_graph.proofs.Names.{word_of_node}
 use Rattle.prl_graph.proofs.Ports.{port_within}

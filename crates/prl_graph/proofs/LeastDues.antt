@@ -5,13 +5,10 @@ use Rattle.std.proofs.lemmas.List.{get_or_append_left, get_or_push}
 use Rattle.std.proofs.lemmas.Option.{slice_get_within, get_or_from_slice_get}
 use Rattle.prl_base.specs.declared.numbers.FlowNo.{FlowNo}
 use Rattle.prl_base.specs.declared.operators.Clock.{Clock}
+use Rattle.prl_flow.specs.Vocabulary.{FlatProgram, IsFlat, IsWellDefined, AreClocks}
 use Rattle.prl_flow.specs.declared.programs.App.{App}
-use Rattle.prl_flow.specs.Programs.{FlatProgram, IsFlat, IsWellDefined}
-use Rattle.prl_flow.specs.Solutions.{AreClocks}
 use Rattle.prl_flow.proofs.Lists.{element_at}
-use Rattle.prl_graph.specs.Dues.{BindsApplication, IsLeastDue}
-use Rattle.prl_graph.specs.Tasks.{application_clock}
-use Rattle.prl_graph.specs.code.Marks.{AreLeastDues, HasClock, IsBinding, IsLeastOfFirst}
+use Rattle.prl_graph.specs.Vocabulary.{BindsApplication, IsLeastDue, application_clock, AreLeastDues, HasClock, IsBinding, IsLeastOfFirst}
 use Rattle.prl_graph.proofs.Lists.{equal_or_not}
 
 -- the first output of an application has a clock

@@ -7,9 +7,8 @@ use Rattle.std.proofs.lemmas.Nat.Gcd.{dvd_antisymm}
 use Rattle.std.specs.Int.{IsGcd}
 use Rattle.prl_base.proofs.Coprime.{divides_other, quotients_coprime}
 use Rattle.prl_plan.specs.Graphs.{Divides}
-use Rattle.prl_graph.specs.code.Multiples.{IsLeastMultiple}
-use Rattle.prl_graph.specs.Hyperperiods.{IsHyperperiod, IsPastHyperperiod}
 use Rattle.prl_plan.specs.declared.limits.TheConstants.{MAX_HYPER}
+use Rattle.prl_graph.specs.Vocabulary.{IsLeastMultiple, IsHyperperiod, IsPastHyperperiod}
 use Rattle.prl_base.specs.declared.operators.Clock.{Clock}
 use Rattle.prl_flow.proofs.Lists.{slice_get_take}
 use Rattle.std.proofs.lemmas.List.{take_all}

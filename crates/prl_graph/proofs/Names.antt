@@ -10,15 +10,13 @@ use Rattle.prl_base.specs.Names.{IsName, is_word_byte, is_word_start}
 use Rattle.prl_base.specs.declared.operators.Clock.{Clock}
 use Rattle.prl_flow.specs.Programs.{FlatProgram, IsFlat, name_of}
 use Rattle.prl_flow.proofs.Lists.{element_at}
+use Rattle.prl_plan.specs.Vocabulary.{IsTaskName, no_task, task_at}
 use Rattle.prl_plan.specs.declared.graphs.Kind.{Kind}
-use Rattle.prl_plan.specs.declared.graphs.Kind.TheVariants as kinds
 use Rattle.prl_plan.specs.declared.graphs.Task.{Task}
 use Rattle.prl_plan.specs.declared.graphs.TaskGraph.{TaskGraph}
-use Rattle.prl_plan.specs.Graphs.{IsTaskName}
-use Rattle.prl_plan.specs.Jobs.{no_task, task_at}
+use Rattle.prl_plan.specs.declared.graphs.Kind.TheVariants as kinds
 use Rattle.prl_values.specs.JobValues.{word_of}
-use Rattle.prl_graph.specs.Ports.{task_count}
-use Rattle.prl_graph.specs.Tasks.{AreTasks, IsActuatorTask, IsSensorTask, IsTaskOf, sensor, node, actuator}
+use Rattle.prl_graph.specs.Vocabulary.{task_count, AreTasks, IsActuatorTask, IsSensorTask, IsTaskOf, sensor, node, actuator}
 use Rattle.prl_graph.proofs.TaskFacts.{actuator_device, sensor_device}
 
 -- `@` is no byte of a word

@@ -3,32 +3,27 @@ use Rattle.std.proofs.Common.{◌≡◌, ◌<◌, ◌≤◌, ◌+◌, ℕ, List,
 use Rattle.std.proofs.lemmas.Bool.{cases_lt}
 use Rattle.std.proofs.lemmas.Nat.Gcd.{le_of_dvd}
 use Rattle.prl_base.specs.declared.limits.What.{What}
-use Rattle.prl_base.specs.declared.limits.What.TheVariants as limits
 use Rattle.prl_base.specs.declared.numbers.FlowNo.{FlowNo}
 use Rattle.prl_base.specs.declared.numbers.TaskNo.{TaskNo}
 use Rattle.prl_base.specs.declared.operators.Clock.{Clock}
 use Rattle.prl_base.specs.declared.operators.Op.{Op}
+use Rattle.prl_base.specs.declared.limits.What.TheVariants as limits
+use Rattle.prl_flow.specs.Vocabulary.{FlatProgram, clock_of}
 use Rattle.prl_flow.specs.declared.programs.Def.{Def}
-use Rattle.prl_flow.specs.declared.programs.Def.TheVariants as definitions
 use Rattle.prl_flow.specs.declared.programs.Flow.{Flow}
-use Rattle.prl_flow.specs.Programs.{FlatProgram}
-use Rattle.prl_flow.specs.Solutions.{clock_of}
+use Rattle.prl_flow.specs.declared.programs.Def.TheVariants as definitions
 use Rattle.prl_flow.proofs.Lists.{element_at, same_from_elements, slice_get_take}
+use Rattle.prl_plan.specs.Graphs.{Divides}
 use Rattle.prl_plan.specs.declared.graphs.Edge.{Edge}
 use Rattle.prl_plan.specs.declared.graphs.Producer.{Producer}
 use Rattle.prl_plan.specs.declared.graphs.Task.{Task}
 use Rattle.prl_plan.specs.declared.graphs.TaskGraph.{TaskGraph}
 use Rattle.prl_plan.specs.declared.limits.TheConstants.{MAX_HYPER}
-use Rattle.prl_plan.specs.Graphs.{Divides}
-use Rattle.prl_graph.specs.declared.faults.GraphFault.{GraphFault}
+use Rattle.prl_graph.specs.Vocabulary.{GraphFault, IsDueOnNonTask, IsDueOutOfRange, IsLeastDue, AreEdges, IsEdgeOf, IsProducer, LeadsBack, IsCommonMultiple, IsHyperperiod, IsPastHyperperiod}
+use Rattle.prl_graph.specs.Vocabulary.{InputPort, ports_of, task_count, IsGraphFault, IsGraphOf, IsOfProgram, IsPassedLimit, IsPastJobs, jobs_within, told, AreTasks, IsTaskOf, application_clock}
+use Rattle.prl_graph.specs.Vocabulary.{node_task, sensor, node, actuator}
 use Rattle.prl_graph.specs.declared.faults.GraphFault.TheVariants as faults
-use Rattle.prl_graph.specs.Dues.{IsDueOnNonTask, IsDueOutOfRange, IsLeastDue}
-use Rattle.prl_graph.specs.Edges.{AreEdges, IsEdgeOf, IsProducer, LeadsBack}
 use Rattle.prl_graph.specs.Edges as ways
-use Rattle.prl_graph.specs.Hyperperiods.{IsCommonMultiple, IsHyperperiod, IsPastHyperperiod}
-use Rattle.prl_graph.specs.Ports.{InputPort, ports_of, task_count}
-use Rattle.prl_graph.specs.TaskGraphs.{IsGraphFault, IsGraphOf, IsOfProgram, IsPassedLimit, IsPastJobs, jobs_within, told}
-use Rattle.prl_graph.specs.Tasks.{AreTasks, IsTaskOf, application_clock, node_task, sensor, node, actuator}
 use Rattle.prl_graph.proofs.Multiples.{divides_both, take_get, to_dvd}
 use Rattle.prl_graph.proofs.TaskFacts.{actuator_found, node_found, sensor_found}
 use Rattle.prl_graph.proofs.Ways.{same_flow}

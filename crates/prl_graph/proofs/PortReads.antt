@@ -4,13 +4,12 @@ use Rattle.std.proofs.lemmas.Bool.{eqb-true, eq-eqb, ne_eqb}
 use Rattle.prl_base.specs.declared.numbers.FlowNo.{FlowNo}
 use Rattle.prl_base.specs.declared.operators.Clock.{Clock}
 use Rattle.prl_base.specs.declared.values.Value.{Value}
+use Rattle.prl_flow.specs.Programs.{FlatProgram}
 use Rattle.prl_flow.specs.declared.programs.App.{App}
 use Rattle.prl_flow.specs.declared.programs.Arg.{Arg}
-use Rattle.prl_flow.specs.Programs.{FlatProgram}
 use Rattle.prl_plan.specs.declared.graphs.Edge.{Edge}
 use Rattle.prl_values.specs.JobValues.{JobValues, read_on, reads_over}
-use Rattle.prl_graph.specs.Ports.{InputPort, actuator_no, actuator_ports, application_ports, argument_ports, node_no, ports_of}
-use Rattle.prl_graph.specs.JobDates.{value_or_none}
+use Rattle.prl_graph.specs.Vocabulary.{InputPort, actuator_no, actuator_ports, application_ports, argument_ports, node_no, ports_of, value_or_none}
 use Rattle.prl_graph.proofs.Order.{Match}
 
 -- the flows that task `i` reads, in the order of its ports

@@ -9,29 +9,21 @@ use Rattle.prl_base.specs.declared.limits.What.TheVariants as limits
 use Rattle.prl_base.specs.declared.numbers.FlowNo.{FlowNo}
 use Rattle.prl_base.specs.declared.operators.Clock.{Clock}
 use Rattle.prl_base.specs.declared.operators.Op.{Op}
+use Rattle.prl_flow.specs.Vocabulary.{FlatProgram, IsFlat, AreClocks, clock_of, HasNoCycle}
 use Rattle.prl_flow.specs.declared.programs.Def.{Def}
-use Rattle.prl_flow.specs.declared.programs.Def.TheVariants as definitions
 use Rattle.prl_flow.specs.declared.programs.Flow.{Flow}
-use Rattle.prl_flow.specs.Programs.{FlatProgram, IsFlat}
-use Rattle.prl_flow.specs.Solutions.{AreClocks, clock_of}
-use Rattle.prl_flow.specs.Uses.{HasNoCycle}
+use Rattle.prl_flow.specs.declared.programs.Def.TheVariants as definitions
 use Rattle.prl_flow.proofs.Lists.{element_at}
 use Rattle.prl_plan.specs.declared.graphs.Edge.{Edge}
-use Rattle.prl_plan.specs.declared.graphs.Producer.TheVariants as producers
 use Rattle.prl_plan.specs.declared.graphs.Task.{Task}
 use Rattle.prl_plan.specs.declared.graphs.TaskGraph.{TaskGraph}
 use Rattle.prl_plan.specs.declared.limits.TheConstants.{MAX_EDGES, MAX_HYPER, MAX_PERIOD_JOBS, MAX_TASKS}
-use Rattle.prl_graph.specs.declared.faults.GraphFault.{GraphFault}
+use Rattle.prl_plan.specs.declared.graphs.Producer.TheVariants as producers
+use Rattle.prl_graph.specs.Vocabulary.{GraphFault, AllowsDue, AreDuesAllowed, BindsApplication, CopiesOutput, NotesDue, input, output, copy, AreEdges, IsEdgeOf, LeadsBack, IsHyperperiod}
+use Rattle.prl_graph.specs.Vocabulary.{IsPastHyperperiod, InputPort, actuator_no, node_no, ports_of, sensor_no, task_count, HasDues, IsGraphFault, IsGraphOf, IsOfProgram, jobs_within, told, AreTasks}
+use Rattle.prl_graph.specs.Vocabulary.{IsTaskOf, actuator_task, application_clock, node_task, sensor, node, actuator, sensor_task, IsLabelOf, IsLeastOfFirst, IsMisplaced, IsPlaced, IsRanged}
+use Rattle.prl_graph.specs.Vocabulary.{IsUnranged, IsLeastMultiple, HasProducer, StepsBack}
 use Rattle.prl_graph.specs.declared.faults.GraphFault.TheVariants as faults
-use Rattle.prl_graph.specs.Dues.{AllowsDue, AreDuesAllowed, BindsApplication, CopiesOutput, NotesDue, input, output, copy}
-use Rattle.prl_graph.specs.Edges.{AreEdges, IsEdgeOf, LeadsBack}
-use Rattle.prl_graph.specs.Hyperperiods.{IsHyperperiod, IsPastHyperperiod}
-use Rattle.prl_graph.specs.Ports.{InputPort, actuator_no, node_no, ports_of, sensor_no, task_count}
-use Rattle.prl_graph.specs.TaskGraphs.{HasDues, IsGraphFault, IsGraphOf, IsOfProgram, jobs_within, told}
-use Rattle.prl_graph.specs.Tasks.{AreTasks, IsTaskOf, actuator_task, application_clock, node_task, sensor, node, actuator, sensor_task}
-use Rattle.prl_graph.specs.code.Marks.{IsLabelOf, IsLeastOfFirst, IsMisplaced, IsPlaced, IsRanged, IsUnranged}
-use Rattle.prl_graph.specs.code.Multiples.{IsLeastMultiple}
-use Rattle.prl_graph.specs.code.Steps.{HasProducer, StepsBack}
 use Rattle.prl_graph.specs.code.Steps as steps
 use Rattle.prl_graph.proofs.DueFacts.{all_placed, all_ranged, no_due, non_task, nowhere_allowed, of_noted, one_copied, out_of_range}
 use Rattle.prl_graph.proofs.LeastDues.{least_more, least_of_all}

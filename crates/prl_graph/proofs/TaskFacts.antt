@@ -5,20 +5,15 @@ use Rattle.std.proofs.lemmas.Bool.{cases_lt}
 use Rattle.std.proofs.lemmas.Option.{slice_get_within, get_or_from_slice_get}
 use Rattle.prl_base.specs.declared.numbers.FlowNo.{FlowNo}
 use Rattle.prl_base.specs.declared.operators.Clock.{Clock}
+use Rattle.prl_flow.specs.Vocabulary.{Device, FlatProgram, IsFlat, AreClocks, clock_of}
 use Rattle.prl_flow.specs.declared.programs.App.{App}
-use Rattle.prl_flow.specs.Programs.{Device, FlatProgram, IsFlat}
-use Rattle.prl_flow.specs.Solutions.{AreClocks, clock_of}
 use Rattle.prl_flow.proofs.Lists.{element_at, slice_get_append_left}
-use Rattle.prl_plan.specs.declared.graphs.Kind.{Kind}
-use Rattle.prl_plan.specs.declared.graphs.Kind.TheVariants as kinds
-use Rattle.prl_plan.specs.declared.graphs.Task.{Task}
 use Rattle.prl_plan.specs.Graphs.{AreNumbered}
-use Rattle.prl_graph.specs.Dues.{IsLeastDue}
-use Rattle.prl_graph.specs.Ports.{actuator_no, node_no}
-use Rattle.prl_graph.specs.TaskGraphs.{AreSmallClocks}
-use Rattle.prl_graph.specs.Tasks.{AreTasks, IsTaskOf, actuator_task, application_clock, node_task, sensor, node, actuator, sensor_task}
-use Rattle.prl_graph.specs.code.Made.{AreFirstTasks, HavePeriods}
-use Rattle.prl_graph.specs.code.Multiples.{HaveSmallPeriods}
+use Rattle.prl_plan.specs.declared.graphs.Kind.{Kind}
+use Rattle.prl_plan.specs.declared.graphs.Task.{Task}
+use Rattle.prl_plan.specs.declared.graphs.Kind.TheVariants as kinds
+use Rattle.prl_graph.specs.Vocabulary.{IsLeastDue, actuator_no, node_no, AreSmallClocks, AreTasks, IsTaskOf, actuator_task, application_clock, node_task, sensor, node, actuator, sensor_task}
+use Rattle.prl_graph.specs.Vocabulary.{AreFirstTasks, HavePeriods, HaveSmallPeriods}
 use Rattle.prl_graph.proofs.Lists.{append_right}
 
 -- the kind of task `i`, by numbers of sensors and of applications

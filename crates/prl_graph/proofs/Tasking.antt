@@ -2,15 +2,12 @@
 use Rattle.std.proofs.Common.{◌≡◌, ◌≤◌, ◌+◌, ℕ, List, [], ◌∷◌, ◌++◌, length, get_or, slice_get, Some, refl, sym, ◌∙◌, ap, subst, arith, ⊎_elim}
 use Rattle.std.proofs.lemmas.List.{length_push}
 use Rattle.prl_base.specs.declared.operators.Clock.{Clock}
-use Rattle.prl_flow.specs.declared.programs.App.{App}
 use Rattle.prl_flow.specs.Programs.{FlatProgram}
+use Rattle.prl_flow.specs.declared.programs.App.{App}
 use Rattle.std.specs.Prelude.{decimal}
 use Rattle.prl_plan.specs.declared.graphs.Kind.TheVariants as kinds
 use Rattle.prl_plan.specs.declared.graphs.Task.{Task}
-use Rattle.prl_graph.specs.Ports.{actuator_no, node_no}
-use Rattle.prl_graph.specs.Tasks.{IsTaskOf, application_clock, sensor, node, actuator}
-use Rattle.prl_graph.specs.code.Made.{AreFirstTasks, MakesActuator, MakesNode, MakesSensor}
-use Rattle.prl_graph.specs.code.Marks.{AreLeastDues}
+use Rattle.prl_graph.specs.Vocabulary.{actuator_no, node_no, IsTaskOf, application_clock, sensor, node, actuator, AreFirstTasks, MakesActuator, MakesNode, MakesSensor, AreLeastDues}
 use Rattle.prl_graph.proofs.LeastDues.{least_of_all}
 use Rattle.prl_graph.proofs.Lists.{push_cases}
 

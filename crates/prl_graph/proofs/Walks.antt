@@ -4,17 +4,13 @@ use Rattle.std.proofs.lemmas.Bool.{false≢true}
 use Rattle.std.proofs.lemmas.Option.{slice_get_within}
 use Rattle.prl_base.specs.declared.numbers.FlowNo.{FlowNo}
 use Rattle.prl_base.specs.declared.operators.Op.{Op}
+use Rattle.prl_flow.specs.Vocabulary.{FlatProgram, IsFlat, IsWellDefined, HasNoCycle, Leads, NamesInside, UsesInside, once, then}
 use Rattle.prl_flow.specs.declared.programs.Def.{Def}
-use Rattle.prl_flow.specs.declared.programs.Def.TheVariants as definitions
 use Rattle.prl_flow.specs.declared.programs.Flow.{Flow}
-use Rattle.prl_flow.specs.Programs.{FlatProgram, IsFlat, IsWellDefined}
-use Rattle.prl_flow.specs.Uses.{HasNoCycle, Leads, NamesInside, UsesInside, once, then}
-use Rattle.prl_graph.specs.code.Marks.{IsMarked}
+use Rattle.prl_flow.specs.declared.programs.Def.TheVariants as definitions
+use Rattle.prl_graph.specs.Vocabulary.{IsMarked, IsProducer, HasProducer, StepsBack, LeadsBack}
 use Rattle.prl_plan.specs.declared.graphs.Producer.{Producer}
-use Rattle.prl_graph.specs.Edges.{IsProducer}
-use Rattle.prl_graph.specs.code.Steps.{HasProducer, StepsBack}
 use Rattle.prl_graph.specs.code.Steps as steps
-use Rattle.prl_graph.specs.Edges.{LeadsBack}
 use Rattle.prl_graph.specs.Edges as ways
 use Rattle.prl_graph.proofs.Lists.{clear_at, clear_count, clear_length, count_most, mark_cases, mark_counted, marked_count, push_cases}
 

@@ -4,15 +4,13 @@ use Rattle.std.proofs.lemmas.Option.{slice_get_within, slice_get-get_or}
 use Rattle.prl_base.specs.Operators.{IsOperatorFor}
 use Rattle.prl_base.specs.declared.operators.Clock.{Clock}
 use Rattle.prl_base.specs.declared.operators.Op.{Op}
-use Rattle.prl_base.specs.declared.operators.Op.TheVariants as operators
 use Rattle.prl_base.specs.declared.values.Ty.{Ty}
+use Rattle.prl_base.specs.declared.operators.Op.TheVariants as operators
+use Rattle.prl_flow.specs.Vocabulary.{FlatProgram, IsFlat, IsWellDefined, AgreesClock, AreClocks, clock_of}
 use Rattle.prl_flow.specs.declared.programs.Flow.{Flow}
-use Rattle.prl_flow.specs.Programs.{FlatProgram, IsFlat, IsWellDefined}
-use Rattle.prl_flow.specs.Solutions.{AgreesClock, AreClocks, clock_of}
 use Rattle.prl_plan.specs.Graphs.{TakeClock}
-use Rattle.prl_graph.specs.Edges.{LeadsBack}
+use Rattle.prl_graph.specs.Vocabulary.{LeadsBack, IsCommonMultiple}
 use Rattle.prl_graph.specs.Edges as ways
-use Rattle.prl_graph.specs.Hyperperiods.{IsCommonMultiple}
 
 module _ (p : FlatProgram) (clocks : List Clock) (flat : IsFlat p) (are : AreClocks p clocks) where
   pub clock_found : (i : ℕ) → i < length p.flows → slice_get clocks i ≡ Some (clock_of clocks i)

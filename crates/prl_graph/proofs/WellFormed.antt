@@ -6,25 +6,19 @@ use Rattle.std.proofs.lemmas.Option.{slice_get_within, get_or_from_slice_get}
 use Rattle.prl_base.specs.Values.{IsOfType}
 use Rattle.prl_base.specs.declared.numbers.FlowNo.{FlowNo}
 use Rattle.prl_base.specs.declared.operators.Clock.{Clock}
+use Rattle.prl_flow.specs.Vocabulary.{FlatProgram, IsFlat, IsWellDefined, AreClocks, clock_of, HasNoCycle}
 use Rattle.prl_flow.specs.declared.programs.App.{App}
 use Rattle.prl_flow.specs.declared.programs.Arg.{Arg}
 use Rattle.prl_flow.specs.declared.programs.Def.{Def}
-use Rattle.prl_flow.specs.declared.programs.Def.TheVariants as definitions
 use Rattle.prl_flow.specs.declared.programs.Flow.{Flow}
-use Rattle.prl_flow.specs.Programs.{FlatProgram, IsFlat, IsWellDefined}
-use Rattle.prl_flow.specs.Solutions.{AreClocks, clock_of}
-use Rattle.prl_flow.specs.Uses.{HasNoCycle}
+use Rattle.prl_flow.specs.declared.programs.Def.TheVariants as definitions
 use Rattle.prl_flow.proofs.Lists.{element_at}
+use Rattle.prl_plan.specs.Vocabulary.{Divides, HasOnePort, IsEdge, IsSource, IsTask, IsTaskName, IsWellFormed, TakeClock, is_actuator, is_sensor, no_task, task_at}
 use Rattle.prl_plan.specs.declared.graphs.Edge.{Edge}
 use Rattle.prl_plan.specs.declared.graphs.Task.{Task}
 use Rattle.prl_plan.specs.declared.graphs.TaskGraph.{TaskGraph}
-use Rattle.prl_plan.specs.Graphs.{Divides, HasOnePort, IsEdge, IsSource, IsTask, IsTaskName, IsWellFormed, TakeClock, is_actuator, is_sensor}
-use Rattle.prl_plan.specs.Jobs.{no_task, task_at}
-use Rattle.prl_graph.specs.Dues.{IsLeastDue, IsWithinPeriod}
-use Rattle.prl_graph.specs.Edges.{IsProducer}
-use Rattle.prl_graph.specs.Ports.{InputPort, actuator_no, actuator_ports, application_ports, node_no, ports_of, task_count}
-use Rattle.prl_graph.specs.TaskGraphs.{AreSmallClocks, IsGraphOf}
-use Rattle.prl_graph.specs.Tasks.{IsTaskOf, actuator_task, application_clock, device_due, node_task, sensor, node, actuator, sensor_task}
+use Rattle.prl_graph.specs.Vocabulary.{IsLeastDue, IsWithinPeriod, IsProducer, InputPort, actuator_no, actuator_ports, application_ports, node_no, ports_of, task_count, AreSmallClocks, IsGraphOf}
+use Rattle.prl_graph.specs.Vocabulary.{IsTaskOf, actuator_task, application_clock, device_due, node_task, sensor, node, actuator, sensor_task}
 use Rattle.prl_graph.proofs.Lists.{append_right}
 use Rattle.prl_graph.proofs.Names.{named_rightly, names_differ}
 use Rattle.prl_graph.proofs.Order.{Match, edges_in_order}

@@ -2,21 +2,14 @@
 use Rattle.std.proofs.Common.{◌≡◌, ◌<◌, ◌≤◌, ℕ, List, length, sym, subst}
 use Rattle.prl_base.specs.declared.limits.What.TheVariants as limits
 use Rattle.prl_base.specs.declared.operators.Clock.{Clock}
-use Rattle.prl_flow.specs.Programs.{FlatProgram, IsFlat}
-use Rattle.prl_flow.specs.Solutions.{AreClocks}
-use Rattle.prl_flow.specs.Uses.{HasNoCycle}
+use Rattle.prl_flow.specs.Vocabulary.{FlatProgram, IsFlat, AreClocks, HasNoCycle}
+use Rattle.prl_plan.specs.Graphs.{IsWellFormed}
 use Rattle.prl_plan.specs.declared.graphs.Edge.{Edge}
 use Rattle.prl_plan.specs.declared.graphs.Task.{Task}
 use Rattle.prl_plan.specs.declared.graphs.TaskGraph.{TaskGraph}
 use Rattle.prl_plan.specs.declared.limits.TheConstants.{MAX_EDGES, MAX_HYPER, MAX_PERIOD_JOBS, MAX_TASKS}
-use Rattle.prl_plan.specs.Graphs.{IsWellFormed}
-use Rattle.prl_graph.specs.declared.faults.GraphFault.{GraphFault}
+use Rattle.prl_graph.specs.Vocabulary.{GraphFault, IsHyperperiod, ports_of, task_count, AreSmallClocks, HasDues, IsGraphFault, IsGraphOf, jobs_within, AreEdgesOf, AreFirstTasks}
 use Rattle.prl_graph.specs.declared.faults.GraphFault.TheVariants as faults
-use Rattle.prl_graph.specs.Hyperperiods.{IsHyperperiod}
-use Rattle.prl_graph.specs.Ports.{ports_of, task_count}
-use Rattle.prl_graph.specs.TaskGraphs.{AreSmallClocks, HasDues, IsGraphFault, IsGraphOf, jobs_within}
-use Rattle.prl_graph.specs.Edges.{AreEdgesOf}
-use Rattle.prl_graph.specs.code.Made.{AreFirstTasks}
 use Rattle.prl_graph.proofs.WellFormed.{well_formed}
 
 module _ (p : FlatProgram) (clocks : List Clock) (flat : IsFlat p) (are : AreClocks p clocks) (small : AreSmallClocks clocks) (causal : HasNoCycle p) (dues : HasDues p clocks)

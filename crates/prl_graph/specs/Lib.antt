@@ -11,3 +11,4 @@ pub mod Hyperperiods
 pub mod TaskGraphs
 -- what private functions say to one another
 pub mod code
+pub mod Vocabulary

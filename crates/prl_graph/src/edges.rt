@@ -1,8 +1,7 @@
 //! The edges: from each input port back to what gives its values.
 
 ghost use Rattle.std.specs.Prelude.{◌≡◌, ◌+◌, ◌<◌, ◌≤◌, ◌∷◌, [], IfOk, length};
-ghost use Rattle.prl_flow.specs.Solutions.{AreClocks};
-ghost use Rattle.prl_flow.specs.Uses.{HasNoCycle};
+ghost use Rattle.prl_flow.specs.Vocabulary.{AreClocks, HasNoCycle};
 ghost use Rattle.prl_plan.specs.declared.limits.TheConstants.{MAX_EDGES, MAX_TASKS};
 ghost use Rattle.prl_graph.specs.Edges.{AreEdgesOf, IsEdgeOf};
 ghost use Rattle.prl_graph.specs.Ports.{InputPort, actuator_no, actuator_ports, application_ports, argument_ports, node_no, ports_of, task_count};

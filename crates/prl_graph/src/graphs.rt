@@ -4,14 +4,11 @@ ghost use Rattle.std.specs.Prelude.{◌≡◌, ◌≤◌, ℕ, List, IfErr, IfOk
 ghost use Rattle.std.specs.List.{AllByRecursion};
 ghost use Rattle.prl_base.specs.declared.operators.Clock.{Clock};
 ghost use Rattle.prl_base.specs.declared.values.Value.{Value};
-ghost use Rattle.prl_body.specs.declared.bodies.CheckedBody.{CheckedBody};
 ghost use Rattle.prl_body.specs.Bodies.{IsWellTyped};
-ghost use Rattle.prl_flow.specs.Applications.{HaveBodies};
-ghost use Rattle.prl_flow.specs.Rows.{Rows};
-ghost use Rattle.prl_flow.specs.Solutions.{AreClocks, Solves};
-ghost use Rattle.prl_flow.specs.Uses.{HasNoCycle};
-ghost use Rattle.prl_plan.specs.declared.limits.TheConstants.{MAX_EDGES, MAX_HYPER, MAX_TASKS};
+ghost use Rattle.prl_body.specs.declared.bodies.CheckedBody.{CheckedBody};
+ghost use Rattle.prl_flow.specs.Vocabulary.{HaveBodies, Rows, AreClocks, Solves, HasNoCycle};
 ghost use Rattle.prl_plan.specs.Graphs.{IsWellFormed};
+ghost use Rattle.prl_plan.specs.declared.limits.TheConstants.{MAX_EDGES, MAX_HYPER, MAX_TASKS};
 ghost use Rattle.prl_graph.specs.declared.faults.GraphFault.TheVariants as faults;
 ghost use Rattle.prl_values.specs.JobValues.{AreJobValues};
 ghost use Rattle.prl_graph.specs.JobDates.{values_on_dates};

@@ -6,17 +6,12 @@ use Rattle.std.proofs.lemmas.List.Elements.{All-from_recursion}
 use Rattle.std.proofs.lemmas.List.Sums.{AllPass-from_list_all}
 use Rattle.std.specs.Char.{is_ascii_digit}
 use Rattle.std.specs.List.{AllPass, AllByRecursion}
-use Rattle.prl_base.specs.Names.{is_word, IsName}
-use Rattle.prl_base.specs.Reading.{◌>>=◌, GivesBut}
-use Rattle.prl_lex.specs.declared.tokens.Kind.{Kind}
+use Rattle.prl_base.specs.Vocabulary.{is_word, IsName, ◌>>=◌, GivesBut}
+use Rattle.prl_lex.specs.Vocabulary.{Kind, Token, LexFault, Piece, is_number, kind_of, piece_of, FitsPiece, token_text, token_at, depth_after, checked, with_piece, tokens_from}
 use Rattle.prl_lex.specs.declared.tokens.Kind.TheVariants.{Word, Number, Symbol}
+use Rattle.prl_lex.specs.Lexing.{tokens_of, IsTokenOf, AreInOrder}
 use Rattle.prl_lex.specs.declared.tokens.LexFault.TheVariants as faults
-use Rattle.prl_lex.specs.declared.tokens.Token.{Token}
-use Rattle.prl_lex.specs.declared.tokens.LexFault.{LexFault}
-use Rattle.prl_lex.specs.declared.pieces.Piece.{Piece}
 use Rattle.prl_lex.specs.declared.pieces.Piece.TheVariants as pieces
-use Rattle.prl_lex.specs.Tokens.{is_number, kind_of, piece_of, FitsPiece}
-use Rattle.prl_lex.specs.Lexing.{token_text, token_at, depth_after, checked, with_piece, tokens_from, tokens_of, IsTokenOf, AreInOrder}
 use Rattle.prl_lex.proofs.Fits.{piece_of_fits}
 
 kind_by_tests : Bool → Bool → Kind

@@ -7,11 +7,10 @@ use Rattle.std.proofs.lemmas.List.Folds.{list_all_at}
 use Rattle.std.specs.List.{list_all, prefix_len}
 use Rattle.std.specs.Char.{is_ascii_digit}
 use Rattle.prl_base.specs.Names.{is_word_start, is_word_byte, is_word}
-use Rattle.prl_lex.specs.declared.tokens.Kind.{Kind}
+use Rattle.prl_lex.specs.Vocabulary.{Kind, is_one_byte_symbol, is_two_byte_symbol, is_symbol, is_number, is_token, kind_of, longest_up_to, longest, token_of_len, one_byte_symbol}
 use Rattle.prl_lex.specs.declared.tokens.Kind.TheVariants.{Word, Number, Symbol}
+use Rattle.prl_lex.specs.FirstByte.{symbol_by_bytes, token_by_first}
 use Rattle.prl_lex.specs.declared.pieces.Piece.TheVariants as pieces
-use Rattle.prl_lex.specs.Tokens.{is_one_byte_symbol, is_two_byte_symbol, is_symbol, is_number, is_token, kind_of, longest_up_to, longest, token_of_len}
-use Rattle.prl_lex.specs.FirstByte.{one_byte_symbol, symbol_by_bytes, token_by_first}
 
 -- fronts that are no tokens do not count
 shrink : (n m : ℕ) (text : List ℕ) → m ≤ n → ((j : ℕ) → m < j → j ≤ n → is_token (take j text) ≡ false) → longest_up_to n text ≡ longest_up_to m text

@@ -2,15 +2,10 @@
 use Rattle.std.proofs.Common.{◌≡◌, ◌+◌, ◌-◌, ℕ, zero, suc, Bool, true, false, cond, List, [], ◌∷◌, length, Result, Ok, Err, ap}
 use Rattle.prl_base.specs.Reading.{◌>>=◌}
 use Rattle.prl_base.specs.declared.limits.What.TheVariants as limits
-use Rattle.prl_lex.specs.declared.tokens.Kind.{Kind}
+use Rattle.prl_lex.specs.Vocabulary.{Kind, Token, LexFault, Piece, piece_of, token_at, checked, with_piece, tokens_from}
 use Rattle.prl_lex.specs.declared.tokens.Kind.TheVariants.{Word, Number, Symbol}
-use Rattle.prl_lex.specs.declared.tokens.Token.{Token}
-use Rattle.prl_lex.specs.declared.tokens.LexFault.{LexFault}
 use Rattle.prl_lex.specs.declared.tokens.LexFault.TheVariants as faults
-use Rattle.prl_lex.specs.declared.pieces.Piece.{Piece}
 use Rattle.prl_lex.specs.declared.pieces.Piece.TheVariants as pieces
-use Rattle.prl_lex.specs.Tokens.{piece_of}
-use Rattle.prl_lex.specs.Lexing.{token_at, checked, with_piece, tokens_from}
 
 bind_memory : {A B : Type 0} (r : Result A LexFault) (f : A → Result B LexFault) → (r ≡ Err faults.Memory → ⊥) → ((a : A) → f a ≡ Err faults.Memory → ⊥) → (r >>= f) ≡ Err faults.Memory → ⊥
 bind_memory (Ok a) f one two h = two a h

@@ -2,14 +2,9 @@
 use Rattle.std.proofs.Common.{◌≡◌, ℕ, zero, suc, ◌+◌, ◌-◌, ◌<◌, ◌≤◌, List, [], ◌∷◌, ◌++◌, length, take, drop, Result, Ok, Err, refl, sym, ap, ◌∙◌, arith, append_assoc, length-drop}
 use Rattle.std.proofs.lemmas.List.{drop-drop, drop_all, append-nil}
 use Rattle.prl_base.specs.Reading.{◌>>=◌}
-use Rattle.prl_lex.specs.declared.tokens.Kind.{Kind}
-use Rattle.prl_lex.specs.declared.tokens.Token.{Token}
-use Rattle.prl_lex.specs.declared.tokens.LexFault.{LexFault}
+use Rattle.prl_lex.specs.Vocabulary.{Kind, Token, LexFault, Piece, piece_of, FitsPiece, depth_after, checked, with_piece, tokens_from}
 use Rattle.prl_lex.specs.declared.tokens.LexFault.TheVariants as faults
-use Rattle.prl_lex.specs.declared.pieces.Piece.{Piece}
 use Rattle.prl_lex.specs.declared.pieces.Piece.TheVariants as pieces
-use Rattle.prl_lex.specs.Tokens.{piece_of, FitsPiece}
-use Rattle.prl_lex.specs.Lexing.{depth_after, checked, with_piece, tokens_from}
 
 -- the bytes that are passed over
 skip : (n at depth : ℕ) (text : List ℕ) → n ≤ length text → tokens_from at depth n text ≡ tokens_from (at + n) depth 0 (drop n text)

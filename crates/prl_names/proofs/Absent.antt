@@ -2,14 +2,10 @@
 use Rattle.std.proofs.Common.{◌≡◌, ℕ, Bool, List, [], ◌∷◌, ◌++◌, map, refl, sym, ap, ◌∙◌, Some, None, Option}
 use Rattle.std.proofs.lemmas.Simd.{map-map}
 use Rattle.std.specs.Option.{is_some}
+use Rattle.prl_ast.specs.Trees.{NodeTree}
 use Rattle.prl_ast.specs.declared.declarations.Param.{Param}
 use Rattle.prl_ast.specs.declared.declarations.Placed.{Placed}
-use Rattle.prl_ast.specs.Trees.{NodeTree}
-use Rattle.prl_names.specs.declared.mentions.Mention.{Mention}
-use Rattle.prl_names.specs.Mentions.{names_in, all_placed, placed_of}
-use Rattle.prl_names.specs.Repeats.{is_among, lefts_of}
-use Rattle.prl_names.specs.Tables.{found, AreIndices}
-use Rattle.prl_names.specs.Unknowns.{either_name, unless, absent_by, absent_from, left_names, undefined_in}
+use Rattle.prl_names.specs.Vocabulary.{Mention, names_in, all_placed, placed_of, is_among, lefts_of, found, AreIndices, either_name, unless, absent_by, absent_from, left_names, undefined_in}
 use Rattle.prl_names.proofs.Params.{Table}
 
 absent_same : (f g : List ℕ → Bool) → ((n : List ℕ) → f n ≡ g n) → (ps : List Param) → absent_by f ps ≡ absent_by g ps

@@ -7,9 +7,7 @@ use Rattle.std.specs.Option.{is_some}
 use Rattle.std.specs.Cmp.Lexicographic.{bytes_decides}
 use Rattle.std.specs.Str.{bytes_eq}
 use Rattle.prl_ast.specs.declared.declarations.Placed.{Placed}
-use Rattle.prl_names.specs.Lookups.{index_of}
-use Rattle.prl_names.specs.Named.{AreApart, placed_names}
-use Rattle.prl_names.specs.Repeats.{is_among, repeat_after, repeat_in, first_of, earliest_repeat}
+use Rattle.prl_names.specs.Vocabulary.{index_of, AreApart, placed_names, is_among, repeat_after, repeat_in, first_of, earliest_repeat}
 use Rattle.prl_names.proofs.FirstIndices.{either, index_push}
 
 -- a name stays among the names when one is added

@@ -5,8 +5,7 @@ use Rattle.std.specs.List.{slice_get}
 use Rattle.std.specs.Cmp.Lexicographic.{bytes_decides}
 use Rattle.std.specs.Str.{bytes_eq}
 use Rattle.prl_ast.specs.declared.declarations.Placed.{Placed}
-use Rattle.prl_names.specs.Named.{AreApart, placed_names}
-use Rattle.prl_names.specs.Repeats.{is_among, repeat_after, repeat_in, front_before, rest_from, merged}
+use Rattle.prl_names.specs.Vocabulary.{AreApart, placed_names, is_among, repeat_after, repeat_in, front_before, rest_from, merged}
 use Rattle.prl_names.proofs.Apart.{no_repeat, among_more, among_last}
 
 -- how often the name stands in the list

@@ -7,10 +7,7 @@ use Rattle.std.specs.Cmp.Lexicographic.{slice_cmp, bytes_decides}
 use Rattle.std.specs.Ordering.{nat_cmp}
 use Rattle.std.specs.Option.{is_some}
 use Rattle.std.specs.Str.{bytes_eq}
-use Rattle.prl_names.specs.declared.mentions.Mention.{Mention}
-use Rattle.prl_names.specs.Lookups.{index_from, index_of}
-use Rattle.prl_names.specs.Mentions.{names_in}
-use Rattle.prl_names.specs.Tables.{found, AreIndices}
+use Rattle.prl_names.specs.Vocabulary.{Mention, index_from, index_of, names_in, found, AreIndices}
 
 abbrev pub either : Option ℕ → Option ℕ → Option ℕ
 either (Some k) other = Some k

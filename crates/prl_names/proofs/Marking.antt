@@ -7,14 +7,11 @@ use Rattle.std.specs.List.{slice_get}
 use Rattle.std.specs.Option.{option_map}
 use Rattle.std.specs.Str.{bytes_eq}
 use Rattle.std.specs.Cmp.Lexicographic.{bytes_decides}
+use Rattle.prl_ast.specs.Trees.{NodeTree, ProgramTree, EquationTree, equation_tree, tree_of}
 use Rattle.prl_ast.specs.declared.declarations.Equation.{Equation}
 use Rattle.prl_ast.specs.declared.expressions.Expr.{Expr}
-use Rattle.prl_ast.specs.Trees.{NodeTree, ProgramTree, EquationTree, equation_tree, tree_of}
 use Rattle.prl_names.specs.declared.lookups.Callee.TheVariants as callees
-use Rattle.prl_names.specs.Applications.{is_node, applied_in, applied_trees, applied_equations}
-use Rattle.prl_names.specs.ExprLists.{all_trees}
-use Rattle.prl_names.specs.Lookups.{index_from, index_of, node_names, import_names, node_or, callee_of}
-use Rattle.prl_names.specs.Marks.{mark_of, Adds}
+use Rattle.prl_names.specs.Vocabulary.{is_node, applied_in, applied_trees, applied_equations, all_trees, index_from, index_of, node_names, import_names, node_or, callee_of, mark_of, Adds}
 
 or_assoc : (a b c : Bool) → ((a || b) || c) ≡ (a || (b || c))
 or_assoc true b c = refl

@@ -5,13 +5,10 @@ use Rattle.std.proofs.lemmas.Simd.{map-map}
 use Rattle.std.specs.BTreeMap.{BTreeMap}
 use Rattle.std.specs.List.{slice_get}
 use Rattle.std.specs.Option.{option_and_then}
+use Rattle.prl_ast.specs.Trees.{NodeTree, node_tree}
 use Rattle.prl_ast.specs.declared.declarations.Node.{Node}
 use Rattle.prl_ast.specs.declared.declarations.Placed.{Placed}
-use Rattle.prl_ast.specs.Trees.{NodeTree, node_tree}
-use Rattle.prl_names.specs.declared.mentions.Mention.{Mention}
-use Rattle.prl_names.specs.Lookups.{param_of, params_of, param_names}
-use Rattle.prl_names.specs.Mentions.{names_in, all_placed, placed_of, placed_param}
-use Rattle.prl_names.specs.Tables.{found, AreIndices, AreParams}
+use Rattle.prl_names.specs.Vocabulary.{Mention, param_of, params_of, param_names, names_in, all_placed, placed_of, placed_param, found, AreIndices, AreParams}
 
 abbrev pub Table : Type 0
 Table = BTreeMap (Bor (List ℕ)) ℕ

@@ -3,14 +3,12 @@ use Rattle.std.proofs.Common.{◌≡◌, ◌<◌, ℕ, ◌+◌, Bool, true, fals
 use Rattle.std.specs.List.{flat_map, slice_get}
 use Rattle.std.specs.Option.{is_some, option_map, option_and_then}
 use Rattle.std.proofs.lemmas.Option.{slice_get-map, slice_get_read}
+use Rattle.prl_ast.specs.Trees.{EquationTree, NodeTree, ProgramTree, equation_tree, node_tree}
 use Rattle.prl_ast.specs.declared.declarations.Equation.{Equation}
 use Rattle.prl_ast.specs.declared.declarations.Node.{Node}
 use Rattle.prl_ast.specs.declared.declarations.Placed.{Placed}
-use Rattle.prl_ast.specs.Trees.{EquationTree, NodeTree, ProgramTree, equation_tree, node_tree}
-use Rattle.prl_names.specs.Lookups.{param_of, param_at}
-use Rattle.prl_names.specs.declared.mentions.Mention.{Mention}
-use Rattle.prl_names.specs.Mentions.{names_in, all_placed, placed_of, placed_param}
-use Rattle.prl_names.specs.Repeats.{is_among, repeat_after, first_of, repeat_in, earliest_repeat, lefts_of, definition_space, global_spaces, port_space, flow_space, repeat_of}
+use Rattle.prl_names.specs.Vocabulary.{param_of, param_at, Mention, names_in, all_placed, placed_of, placed_param, is_among, repeat_after, first_of, repeat_in, earliest_repeat, lefts_of}
+use Rattle.prl_names.specs.Vocabulary.{definition_space, global_spaces, port_space, flow_space, repeat_of}
 use Rattle.prl_names.proofs.FirstIndices.{names_with}
 
 pub placed_from : (ms : List Mention) (k : ℕ) (x : Mention) → k < length ms → x ≡ get_or ms k x → all_placed (drop k ms) ≡ placed_of x ∷ all_placed (drop (k + 1) ms)

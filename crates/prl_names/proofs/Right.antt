@@ -4,18 +4,15 @@ use Rattle.std.proofs.lemmas.Simd.{map-map}
 use Rattle.std.specs.List.{slice_get}
 use Rattle.std.specs.Option.{is_some}
 use Rattle.prl_base.specs.Reading.{◌>>=◌, GivesBut}
+use Rattle.prl_ast.specs.Trees.{Tree, Root, const, var, apply, group, Trees, none, more, EquationTree, NodeTree, ProgramTree}
 use Rattle.prl_ast.specs.declared.declarations.Param.{Param}
 use Rattle.prl_ast.specs.declared.declarations.Placed.{Placed}
-use Rattle.prl_ast.specs.Trees.{Tree, tree, Root, const, var, apply, group, Trees, none, more, EquationTree, NodeTree, ProgramTree}
-use Rattle.prl_names.specs.declared.checks.NameFault.{NameFault}
+use Rattle.prl_ast.specs.Trees.{tree}
+use Rattle.prl_names.specs.Vocabulary.{NameFault, recursive_of, refused, name_of, main_or, last_index, main_of, device_names, without_device, names_of, params_of, param_at, callee_of, placed_param}
+use Rattle.prl_names.specs.Vocabulary.{placed_device, placed_import, placed_node, AreApart, IsKnown, IsKnownRoot, AreKnown, AreKnownLefts, AreKnownEquations, AllAreAmong, HasDevices, IsNamed}
+use Rattle.prl_names.specs.Vocabulary.{is_among, repeat_of, global_spaces, port_space, flow_space, definition_space, either_name, unless, unknown_in, unknown_root, unknown_trees, unknown_lefts}
+use Rattle.prl_names.specs.Vocabulary.{unknown_equations, unknown_from, unknown_of, absent_by, absent_from, left_names, undefined_in, undefined_among, undefined_of}
 use Rattle.prl_names.specs.declared.checks.NameFault.TheVariants as faults
-use Rattle.prl_names.specs.Applications.{recursive_of}
-use Rattle.prl_names.specs.Checks.{refused, name_of, main_or, last_index, main_of, device_names, without_device, names_of}
-use Rattle.prl_names.specs.Lookups.{params_of, param_at, callee_of}
-use Rattle.prl_names.specs.Mentions.{placed_param, placed_device, placed_import, placed_node}
-use Rattle.prl_names.specs.Named.{AreApart, IsKnown, IsKnownRoot, AreKnown, AreKnownLefts, AreKnownEquations, AllAreAmong, HasDevices, IsNamed}
-use Rattle.prl_names.specs.Repeats.{is_among, repeat_of, global_spaces, port_space, flow_space, definition_space}
-use Rattle.prl_names.specs.Unknowns.{either_name, unless, unknown_in, unknown_root, unknown_trees, unknown_lefts, unknown_equations, unknown_from, unknown_of, absent_by, absent_from, left_names, undefined_in, undefined_among, undefined_of}
 use Rattle.prl_names.proofs.Apart.{NoRepeats, no_repeats, repeats_split, space_of, apart}
 use Rattle.prl_names.proofs.Counts.{apart_merged}
 use Rattle.prl_names.proofs.Marking.{index_below}

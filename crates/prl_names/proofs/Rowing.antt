@@ -3,10 +3,9 @@ use Rattle.std.proofs.Common.{◌≡◌, ◌<◌, ◌||◌, ◌&&◌, ℕ, ◌+�
 use Rattle.std.proofs.Math.Seq.{take-append_seam}
 use Rattle.std.proofs.lemmas.List.{length-map}
 use Rattle.std.specs.List.{slice_get}
-use Rattle.prl_ast.specs.declared.declarations.Node.{Node}
 use Rattle.prl_ast.specs.Trees.{NodeTree, ProgramTree, node_tree}
-use Rattle.prl_names.specs.Applications.{applied_by, applied_equations, reaches_by, reaches, recursive_from}
-use Rattle.prl_names.specs.Marks.{mark_of, Adds, IsRow, AreRows, or_marks, led_through, row_of, all_led_through}
+use Rattle.prl_ast.specs.declared.declarations.Node.{Node}
+use Rattle.prl_names.specs.Vocabulary.{applied_by, applied_equations, reaches_by, reaches, recursive_from, mark_of, Adds, IsRow, AreRows, or_marks, led_through, row_of, all_led_through}
 
 unmarked : (n j : ℕ) → mark_of (replicate n false) j ≡ false
 unmarked zero j = refl

@@ -9,3 +9,4 @@ pub mod Repeats
 pub mod Tables
 pub mod Unknowns
 pub mod Uses
+pub mod Vocabulary

@@ -2,8 +2,8 @@
 
 ghost use Rattle.std.specs.Prelude.{◌≡◌, ◌≤◌, ◌++◌, length, drop, take, IfOk, OnOk, map, filter, None};
 ghost use Rattle.std.specs.Option.{option_map, is_some};
-ghost use Rattle.prl_ast.specs.declared.declarations.Placed.{Placed};
 ghost use Rattle.prl_ast.specs.Trees.{node_tree, program_tree};
+ghost use Rattle.prl_ast.specs.declared.declarations.Placed.{Placed};
 ghost use Rattle.prl_names.specs.Lookups.{param_at};
 ghost use Rattle.prl_names.specs.Mentions.{placed_of, placed_device, placed_param, all_placed};
 ghost use Rattle.prl_names.specs.Repeats.{repeat_in, front_before, rest_from, merged, first_of, callee_space, earliest_repeat, port_space, flow_space, lefts_of, definition_space, global_spaces, repeat_of};

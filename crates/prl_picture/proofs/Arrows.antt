@@ -2,14 +2,11 @@
 use Rattle.std.proofs.Common.{◌≡◌, ◌+◌, ◌*◌, ◌<◌, ◌↔◌, ◌∙◌, ℕ, length, max, sym, subst, arith}
 use Rattle.std.specs.Prelude.{pos, ◌+ℤ◌, ◌*ℤ◌, ◌<ℤ◌}
 use Rattle.std.proofs.lemmas.Int.{ints}
+use Rattle.prl_plan.specs.Vocabulary.{IsHorizonJob, job_count, task_at, operand_of, PlanView, edge_at, ComesFrom}
 use Rattle.prl_plan.specs.declared.graphs.Producer.{Producer}
-use Rattle.prl_plan.specs.declared.graphs.Producer.TheVariants as producers
 use Rattle.prl_plan.specs.declared.graphs.TaskGraph.{TaskGraph}
+use Rattle.prl_plan.specs.declared.graphs.Producer.TheVariants as producers
 use Rattle.prl_plan.specs.declared.walks.Operand.TheVariants as operands
-use Rattle.prl_plan.specs.Jobs.{IsHorizonJob, job_count, task_at}
-use Rattle.prl_plan.specs.Operands.{operand_of}
-use Rattle.prl_plan.specs.Plans.{PlanView, edge_at}
-use Rattle.prl_plan.specs.Precedence.{ComesFrom}
 use Rattle.prl_picture.specs.Ranges.{IsArrow, IsEndOfReading, IsReleasedIn, IsShortest}
 
 -- an edge comes from one task

@@ -5,8 +5,8 @@ use Rattle.std.proofs.lemmas.List.{map-id}
 use Rattle.std.proofs.lemmas.List.FromFn.{map-range_with_len_more}
 use Rattle.std.specs.Prelude.{All}
 use Rattle.std.proofs.lemmas.List.Elements.{All-get_or}
-use Rattle.prl_plan.specs.declared.limits.TheConstants.{MAX_TASKS}
 use Rattle.prl_plan.specs.Plans.{PlanView}
+use Rattle.prl_plan.specs.declared.limits.TheConstants.{MAX_TASKS}
 use Rattle.prl_views.specs.Views.{AreTasks}
 
 pub are_tasks : (plan : PlanView) (rows : List ℕ) → All (λ k. k < length plan.graph.tasks) rows → length rows ≤ MAX_TASKS → AreTasks plan rows

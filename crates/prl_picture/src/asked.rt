@@ -5,8 +5,7 @@ ghost use Rattle.std.specs.String.{string_bytes};
 ghost use Rattle.prl_cores.specs.Spreads.{IsSpreadOf, LeavesRoom};
 ghost use Rattle.prl_cores.specs.Processors.{IsOfTasks};
 ghost use Rattle.prl_picture.specs.Asked.{IsAsked, IsDispatchedList, IsListed, IsPlacedEvents, IsPlacedOrListed, IsPlacedRun, IsSchedule, IsTableOf, IsUpTo, TellsProcessors};
-ghost use Rattle.prl_tables.specs.TableTexts.{entries_of};
-ghost use Rattle.prl_tables.specs.Tables.{IsGood};
+ghost use Rattle.prl_tables.specs.Vocabulary.{entries_of, IsGood};
 ghost use Rattle.prl_views.specs.Shown.{IsOfPlan};
 
 use crate::ranges::MAX_UNTIL;

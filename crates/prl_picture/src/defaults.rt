@@ -2,9 +2,7 @@
 //! precedence has an arrow.
 
 ghost use Rattle.std.specs.Prelude.{◌≡◌, ◌<◌, ◌≤◌, ◌^◌, ◌⊎◌, ℕ, IfNone, IfSome, MatchOption, length, min, slice_index, true};
-ghost use Rattle.prl_plan.specs.Jobs.{task_at};
-ghost use Rattle.prl_plan.specs.Plans.{edge_at};
-ghost use Rattle.prl_plan.specs.Precedence.{ComesFrom};
+ghost use Rattle.prl_plan.specs.Vocabulary.{task_at, edge_at, ComesFrom};
 ghost use Rattle.prl_picture.specs.Ranges.{EndsFirst, HasArrow, IsArrow, IsDefaultEnd, IsEndOf, IsEndOfReading, IsReleasedIn};
 ghost use Rattle.prl_views.specs.Acts.{is_in};
 ghost use Rattle.prl_views.specs.Views.{AreTasks};

@@ -2,10 +2,7 @@
 use Rattle.std.proofs.Common.{◌≡◌, ◌+◌, ◌<◌, ℕ, [], length, take, refl, ap, arith}
 use Rattle.std.specs.Prelude.{is_some, if◌then◌else◌}
 use Rattle.std.proofs.lemmas.List.{take_all}
-use Rattle.prl_plan.specs.Horizons.{sum_below}
-use Rattle.prl_plan.specs.Operands.{operand_of}
-use Rattle.prl_plan.specs.Precedence.{ComesFrom}
-use Rattle.prl_plan.specs.Plans.{PlanView, edge_at, place_on, both_writes, reading, reads_of, writes_of, actions_of}
+use Rattle.prl_plan.specs.Vocabulary.{sum_below, operand_of, ComesFrom, PlanView, edge_at, place_on, both_writes, reading, reads_of, writes_of, actions_of}
 use Rattle.prl_plan.proofs.ActionLists.{reads_more, reads_same, writes_more, writes_same, all_actions_long}
 use Rattle.prl_plan.proofs.SumLaws.{sum_plus, sum_same, sum_none, sum_ones}
 

@@ -1,14 +1,9 @@
 -- The actions of a job, edge by edge: those on the first edges stand first.
 use Rattle.std.proofs.Common.{◌≡◌, ◌+◌, ◌<◌, ◌≤◌, ◌++◌, ℕ, zero, suc, Bool, List, [], ◌∷◌, Some, length, length-append, take, drop, get_or, refl, sym, ◌∙◌, ap, arith, append_assoc, append-nil}
 use Rattle.std.specs.Prelude.{if◌then◌else◌, ◌==◌, is_some, slice_get}
-use Rattle.prl_plan.specs.declared.events.Action.{Action}
+use Rattle.prl_plan.specs.Vocabulary.{Action, Edge, Producer, operand_of, ComesFrom, PlanView, edge_at, no_edge, place_on, both_writes, reading, reads_of, writing, writes_of, actions_of}
 use Rattle.prl_plan.specs.declared.events.Action.TheVariants as actions
-use Rattle.prl_plan.specs.declared.graphs.Edge.{Edge}
-use Rattle.prl_plan.specs.declared.graphs.Producer.{Producer}
 use Rattle.prl_plan.specs.declared.graphs.Producer.TheVariants as producers
-use Rattle.prl_plan.specs.Operands.{operand_of}
-use Rattle.prl_plan.specs.Precedence.{ComesFrom}
-use Rattle.prl_plan.specs.Plans.{PlanView, edge_at, no_edge, place_on, both_writes, reading, reads_of, writing, writes_of, actions_of}
 use Rattle.prl_plan.proofs.UsedLaws.{test_same, test_differs}
 
 pub get_left : (xs ys : List Action) (k : ℕ) (a : Action) → slice_get xs k ≡ Some a → slice_get (xs ++ ys) k ≡ Some a

@@ -3,16 +3,11 @@ use Rattle.std.proofs.Common.{◌≡◌, ◌+◌, ◌*◌, ◌<◌, ◌≤◌, �
 use Rattle.std.specs.Prelude.{is_some, slice_get}
 use Rattle.std.proofs.lemmas.Bool.{cases_eq}
 use Rattle.std.proofs.lemmas.List.{get_or_append_left, get_or-append-add}
-use Rattle.prl_plan.specs.declared.events.Action.{Action}
+use Rattle.prl_plan.specs.Vocabulary.{Action, Edge, Producer, Operand, operand_of, ComesFrom, PlanView, place_on, cell_of, low, high, both_writes, IsHalfOf, reading, reads_of, writing, writes_of}
+use Rattle.prl_plan.specs.Vocabulary.{actions_of}
 use Rattle.prl_plan.specs.declared.events.Action.TheVariants as actions
-use Rattle.prl_plan.specs.declared.graphs.Edge.{Edge}
-use Rattle.prl_plan.specs.declared.graphs.Producer.{Producer}
 use Rattle.prl_plan.specs.declared.graphs.Producer.TheVariants as producers
-use Rattle.prl_plan.specs.declared.walks.Operand.{Operand}
 use Rattle.prl_plan.specs.declared.walks.Operand.TheVariants as operands
-use Rattle.prl_plan.specs.Operands.{operand_of}
-use Rattle.prl_plan.specs.Precedence.{ComesFrom}
-use Rattle.prl_plan.specs.Plans.{PlanView, place_on, cell_of, low, high, both_writes, IsHalfOf, reading, reads_of, writing, writes_of, actions_of}
 use Rattle.prl_plan.proofs.UsedLaws.{test_same}
 
 -- the action is no end; it is a write to edge f and slot h

@@ -2,16 +2,11 @@
 use Rattle.std.proofs.Common.{◌≡◌, ◌+◌, ◌<◌, ◌++◌, ℕ, zero, suc, Bool, true, false, List, [], ◌∷◌, length, get_or, inl, inr, refl, sym, ◌∙◌, ap, subst, arith, cond, eqb}
 use Rattle.std.specs.Prelude.{is_some}
 use Rattle.std.proofs.lemmas.Bool.Decides.{nat_tests}
-use Rattle.prl_plan.specs.declared.events.Action.{Action}
+use Rattle.prl_plan.specs.Vocabulary.{Action, Edge, Producer, Operand, operand_of, ComesFrom, PlanView, edge_at, no_edge, place_on, cell_of, low, high, both_writes, reading, reads_of, writing}
+use Rattle.prl_plan.specs.Vocabulary.{writes_of, actions_of, IsActionOf}
 use Rattle.prl_plan.specs.declared.events.Action.TheVariants as actions
-use Rattle.prl_plan.specs.declared.graphs.Edge.{Edge}
-use Rattle.prl_plan.specs.declared.graphs.Producer.{Producer}
 use Rattle.prl_plan.specs.declared.graphs.Producer.TheVariants as producers
-use Rattle.prl_plan.specs.declared.walks.Operand.{Operand}
 use Rattle.prl_plan.specs.declared.walks.Operand.TheVariants as operands
-use Rattle.prl_plan.specs.Operands.{operand_of}
-use Rattle.prl_plan.specs.Precedence.{ComesFrom}
-use Rattle.prl_plan.specs.Plans.{PlanView, edge_at, no_edge, place_on, cell_of, low, high, both_writes, reading, reads_of, writing, writes_of, actions_of, IsActionOf}
 
 -- what holds of the end and of each element of two lists holds of what stands in one after the other
 each_append : (P : Action → Type 0) → (xs ys : List Action) → P actions.End → ((k : ℕ) → P (get_or xs k actions.End)) → ((k : ℕ) → P (get_or ys k actions.End)) →

@@ -4,18 +4,9 @@ use Rattle.std.specs.Prelude.{ℤ, pos, negsuc, ◌+ℤ◌, ◌-ℤ◌, ◌≤�
 use Rattle.std.proofs.Math.Nat.{mul-div_cancel}
 use Rattle.std.proofs.lemmas.Int.{ints}
 use Rattle.prl_base.specs.declared.operators.Clock.{Clock}
-use Rattle.prl_plan.specs.declared.graphs.Edge.{Edge}
-use Rattle.prl_plan.specs.declared.graphs.TaskGraph.{TaskGraph}
-use Rattle.prl_plan.specs.declared.graphs.Producer.{Producer}
+use Rattle.prl_plan.specs.Vocabulary.{Edge, TaskGraph, Producer, Used, task_at, preceding, ComesFrom, IsWellFormed, IsEdge, IsSource, Family, used_at, EnumeratesUsed, Fits, first_reader}
+use Rattle.prl_plan.specs.Vocabulary.{first_instance, IsAsked, IsAskedFrom, ListsGaps, FitsInPeriod, span_of}
 use Rattle.prl_plan.specs.declared.graphs.Producer.TheVariants as producers
-use Rattle.prl_plan.specs.declared.tables.Used.{Used}
-use Rattle.prl_plan.specs.Jobs.{task_at}
-use Rattle.prl_plan.specs.Precedence.{preceding, ComesFrom}
-use Rattle.prl_plan.specs.Graphs.{IsWellFormed, IsEdge, IsSource}
-use Rattle.prl_plan.specs.Dates.{Family}
-use Rattle.prl_plan.specs.Cells.{used_at, EnumeratesUsed, Fits}
-use Rattle.prl_plan.specs.FirstReaders.{first_reader, first_instance}
-use Rattle.prl_plan.specs.CellTurns.{IsAsked, IsAskedFrom, ListsGaps, FitsInPeriod, span_of}
 use Rattle.prl_plan.proofs.RoundPeriods.{task_is, edge_precedes}
 use Rattle.prl_plan.proofs.RoundLaws.{source_inside}
 use Rattle.prl_plan.proofs.ReaderLaws.{first_precedes, reads_is, used_is}

@@ -2,12 +2,7 @@
 use Rattle.std.proofs.Common.{◌≡◌, ◌<◌, ℕ, List, [], ◌∷◌, length, arith}
 use Rattle.std.specs.Prelude.{ℤ, pos, ◌+ℤ◌, ◌≤ℤ◌}
 use Rattle.std.proofs.lemmas.Int.{ints}
-use Rattle.prl_plan.specs.declared.graphs.TaskGraph.{TaskGraph}
-use Rattle.prl_plan.specs.declared.tables.Window.{Window}
-use Rattle.prl_plan.specs.Jobs.{Job, task_at}
-use Rattle.prl_plan.specs.Dates.{AreEncodedDates, encoded_release}
-use Rattle.prl_plan.specs.Plans.{HaveRoom}
-use Rattle.prl_plan.specs.Chains.{IsChain, last_of, wcets_of, IsNarrow, IsBest}
+use Rattle.prl_plan.specs.Vocabulary.{TaskGraph, Window, Job, task_at, AreEncodedDates, encoded_release, HaveRoom, IsChain, last_of, wcets_of, IsNarrow, IsBest}
 
 module _ (graph : TaskGraph) (windows : List (List Window)) (dates : AreEncodedDates graph windows) (room : HaveRoom graph windows) where
   -- a chain ends in a task of the graph

@@ -4,8 +4,7 @@ use Rattle.std.specs.Prelude.{pos, ◌+ℤ◌, ◌*ℤ◌, ◌<ℤ◌, length}
 use Rattle.std.proofs.Math.Nat.{lt-div-mul-add, div-mul-le_self, mul-le-mul_right}
 use Rattle.std.proofs.lemmas.Bool.{cases_lt}
 use Rattle.std.proofs.lemmas.Int.{ints}
-use Rattle.prl_plan.specs.declared.graphs.TaskGraph.{TaskGraph}
-use Rattle.prl_plan.specs.Jobs.{task_at, job_count, IsHorizonJob}
+use Rattle.prl_plan.specs.Vocabulary.{TaskGraph, task_at, job_count, IsHorizonJob}
 
 -- number n is below the count of multiples of T, from s on, that are below `until`
 pub count_below : (s T until n : ℕ) → 1 ≤ T → n < (until - s + (T - 1)) / T → s + n * T < until

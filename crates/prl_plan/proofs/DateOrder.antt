@@ -2,13 +2,7 @@
 use Rattle.std.proofs.Common.{◌<◌, ℕ, length, refl, subst, arith}
 use Rattle.std.specs.Prelude.{ℤ, pos, ◌+ℤ◌, ◌≤ℤ◌, ◌<ℤ◌}
 use Rattle.std.proofs.lemmas.Int.{ints}
-use Rattle.prl_plan.specs.declared.graphs.Edge.{Edge}
-use Rattle.prl_plan.specs.declared.graphs.TaskGraph.{TaskGraph}
-use Rattle.prl_plan.specs.Jobs.{Job, task_at, release_of}
-use Rattle.prl_plan.specs.Graphs.{IsWellFormed, IsEdge}
-use Rattle.prl_plan.specs.Precedence.{Precedes, PrecedesAlong}
-use Rattle.prl_plan.specs.Dates.{encoded_release, encoded_deadline}
-use Rattle.prl_plan.specs.Plans.{PlanView, IsPlan}
+use Rattle.prl_plan.specs.Vocabulary.{Edge, TaskGraph, Job, task_at, release_of, IsWellFormed, IsEdge, Precedes, PrecedesAlong, encoded_release, encoded_deadline, PlanView, IsPlan}
 use Rattle.prl_plan.proofs.Periods.{plus_mul}
 use Rattle.prl_plan.proofs.RoundLaws.{source_inside}
 use Rattle.prl_plan.proofs.RoundPeriods.{task_is}

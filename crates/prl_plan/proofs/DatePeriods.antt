@@ -3,12 +3,8 @@ use Rattle.std.proofs.Common.{◌≡◌, ◌*◌, ◌/◌, ◌<◌, ◌≤◌, �
 use Rattle.std.specs.Prelude.{ℤ, pos, ◌+ℤ◌, ◌-ℤ◌, ◌≤ℤ◌, neg_ℤ}
 use Rattle.std.proofs.Math.Nat.{mul-div_cancel}
 use Rattle.std.proofs.lemmas.Int.{ints}
-use Rattle.prl_plan.specs.declared.graphs.Edge.{Edge}
-use Rattle.prl_plan.specs.declared.graphs.TaskGraph.{TaskGraph}
-use Rattle.prl_plan.specs.Jobs.{Job, task_at, release_of}
-use Rattle.prl_plan.specs.Precedence.{preceding, ComesFrom, Precedes, PrecedesAlong}
-use Rattle.prl_plan.specs.Graphs.{IsWellFormed, IsEdge}
-use Rattle.prl_plan.specs.Dates.{Family, AreReleases, AreDeadlines, AreLeastReleases, AreGreatestDeadlines, RepeatsByHyper}
+use Rattle.prl_plan.specs.Vocabulary.{Edge, TaskGraph, Job, task_at, release_of, preceding, ComesFrom, Precedes, PrecedesAlong, IsWellFormed, IsEdge, Family, AreReleases, AreDeadlines}
+use Rattle.prl_plan.specs.Vocabulary.{AreLeastReleases, AreGreatestDeadlines, RepeatsByHyper}
 use Rattle.prl_plan.proofs.Periods.{everywhere}
 use Rattle.prl_plan.proofs.RoundLaws.{source_inside}
 use Rattle.prl_plan.proofs.RoundPeriods.{task_is, edge_precedes, release_shift}

@@ -3,13 +3,8 @@ use Rattle.std.proofs.Common.{◌≡◌, ◌+◌, ◌-◌, ◌*◌, ◌<◌, ◌
 use Rattle.std.specs.Prelude.{ℤ, pos, negsuc, ◌+ℤ◌, ◌-ℤ◌, ◌≤ℤ◌, List}
 use Rattle.std.proofs.lemmas.Bool.{cases_lt}
 use Rattle.std.proofs.lemmas.Int.{ints}
-use Rattle.prl_plan.specs.declared.graphs.Edge.{Edge}
-use Rattle.prl_plan.specs.declared.graphs.TaskGraph.{TaskGraph}
-use Rattle.prl_plan.specs.declared.tables.Window.{Window}
-use Rattle.prl_plan.specs.Jobs.{task_at}
-use Rattle.prl_plan.specs.Graphs.{IsWellFormed, IsEdge}
-use Rattle.prl_plan.specs.Precedence.{preceding, Precedes, PrecedesAlong}
-use Rattle.prl_plan.specs.Dates.{Family, AreReleases, AreLeastReleases, AreEncodedDates, encoded_deadline}
+use Rattle.prl_plan.specs.Vocabulary.{Edge, TaskGraph, Window, task_at, IsWellFormed, IsEdge, preceding, Precedes, PrecedesAlong, Family, AreReleases, AreLeastReleases, AreEncodedDates}
+use Rattle.prl_plan.specs.Vocabulary.{encoded_deadline}
 use Rattle.prl_plan.proofs.DatePeriods.{jobs_of, jobs_are, least_repeat}
 use Rattle.prl_plan.proofs.Periods.{plus_mul}
 use Rattle.prl_plan.proofs.ReaderLaws.{preceding_rises}

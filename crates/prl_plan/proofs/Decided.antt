@@ -2,13 +2,10 @@
 -- has not.
 use Rattle.std.proofs.Common.{◌≡◌, ◌<◌, ◌≤◌, ◌+◌, ◌⊎◌, ℕ, slice_index, refl, inl, inr, arith}
 use Rattle.std.proofs.lemmas.Bool.{cases_eq, cases_lt}
-use Rattle.prl_plan.specs.declared.events.Event.{Event}
+use Rattle.prl_plan.specs.Vocabulary.{Event, Rule, RunConstants, ExecState, first_unfinished, IsUnfinished, HasJob, ActsFirst, KeepsLegal, IsComplete, IsOvertaken, FirstBroken, IsFirstUnfinished}
 use Rattle.prl_plan.specs.declared.events.Event.TheVariants as events
-use Rattle.prl_plan.specs.declared.events.Rule.{Rule}
 use Rattle.prl_plan.specs.declared.events.Rule.TheVariants as rules
-use Rattle.prl_plan.specs.Runs.{RunConstants, ExecState}
 use Rattle.prl_plan.proofs.Searches.{all_or_least}
-use Rattle.prl_plan.specs.Rules.{first_unfinished, IsUnfinished, HasJob, ActsFirst, KeepsLegal, IsComplete, IsOvertaken, FirstBroken, IsFirstUnfinished}
 
 -- of the unfinished horizon jobs all have a property, or one has the other
 module _ (c : RunConstants) (s : ExecState) (P Q : ℕ → ℕ → Type 0) (decides : (j n : ℕ) → P j n ⊎ Q j n) where

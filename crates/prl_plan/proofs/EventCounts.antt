@@ -3,16 +3,10 @@ use Rattle.std.proofs.Common.{◌≡◌, ◌≢◌, ◌+◌, ◌<◌, ◌≤◌,
 use Rattle.std.proofs.lemmas.Bool.{cases_lt, cases_eq}
 use Rattle.std.proofs.lemmas.Grind.{get_or-set_at}
 use Rattle.std.proofs.lemmas.List.{get_or-set_other, get_or-replicate, length-replicate}
-use Rattle.prl_plan.specs.declared.events.Action.{Action}
+use Rattle.prl_plan.specs.Vocabulary.{Action, Event, Horizon, IsJob, Placement, sum_below, constants_on, IsHorizon, PlanView, actions_of, reads_of, writes_of, HasJob, IsFree, KeepsFree, RunConstants}
+use Rattle.prl_plan.specs.Vocabulary.{ExecState, opening, action_at, next_action, after_action, after_event, after_events}
 use Rattle.prl_plan.specs.declared.events.Action.TheVariants as actions
-use Rattle.prl_plan.specs.declared.events.Event.{Event}
 use Rattle.prl_plan.specs.declared.events.Event.TheVariants as events
-use Rattle.prl_plan.specs.declared.horizons.Horizon.{Horizon}
-use Rattle.prl_plan.specs.Facts.{IsJob}
-use Rattle.prl_plan.specs.Horizons.{Placement, sum_below, constants_on, IsHorizon}
-use Rattle.prl_plan.specs.Plans.{PlanView, actions_of, reads_of, writes_of}
-use Rattle.prl_plan.specs.Rules.{HasJob, IsFree, KeepsFree}
-use Rattle.prl_plan.specs.Runs.{RunConstants, ExecState, opening, action_at, next_action, after_action, after_event, after_events}
 
 -- the end of a horizon job is the last of its actions
 abbrev pub EndsLast : RunConstants → Type 0

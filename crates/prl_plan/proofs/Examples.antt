@@ -5,8 +5,7 @@ use Rattle.prl_base.specs.declared.operators.Op.{Op}
 use Rattle.prl_base.specs.declared.operators.Op.TheVariants as operators
 use Rattle.prl_base.specs.declared.values.Value.TheVariants as values
 use Rattle.prl_plan.specs.declared.walks.Operand.TheVariants as operands
-use Rattle.prl_plan.specs.Operands.{walk}
-use Rattle.prl_plan.specs.Precedence.{preceding}
+use Rattle.prl_plan.specs.Vocabulary.{walk, preceding}
 
 -- what the fast task of the sampling program reads of the slow one: `(0 fby vs) *^ 3`
 abbrev late : List Op

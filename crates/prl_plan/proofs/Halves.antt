@@ -3,15 +3,11 @@ use Rattle.std.proofs.Common.{◌≡◌, ◌+◌, ◌-◌, ◌*◌, ◌++◌, �
 use Rattle.std.specs.Prelude.{is_some}
 use Rattle.std.proofs.lemmas.Bool.{cases_lt}
 use Rattle.std.proofs.lemmas.List.{get_or_append_left, get_or-append-add}
-use Rattle.prl_plan.specs.declared.events.Action.{Action}
+use Rattle.prl_plan.specs.Vocabulary.{Action, Edge, Producer, Operand, operand_of, PlanView, place_on, cell_of, low, high, both_writes, IsHigh, low_of, reading, reads_of, writing, writes_of}
+use Rattle.prl_plan.specs.Vocabulary.{actions_of}
 use Rattle.prl_plan.specs.declared.events.Action.TheVariants as actions
-use Rattle.prl_plan.specs.declared.graphs.Edge.{Edge}
-use Rattle.prl_plan.specs.declared.graphs.Producer.{Producer}
 use Rattle.prl_plan.specs.declared.graphs.Producer.TheVariants as producers
-use Rattle.prl_plan.specs.declared.walks.Operand.{Operand}
 use Rattle.prl_plan.specs.declared.walks.Operand.TheVariants as operands
-use Rattle.prl_plan.specs.Operands.{operand_of}
-use Rattle.prl_plan.specs.Plans.{PlanView, place_on, cell_of, low, high, both_writes, IsHigh, low_of, reading, reads_of, writing, writes_of, actions_of}
 
 abbrev pub IsPaired : List Action → Type 0
 IsPaired xs = (k : ℕ) → IsHigh (get_or xs k actions.End) → (j : ℕ) × (k ≡ j + 1) × (get_or xs j actions.End ≡ low_of (get_or xs k actions.End))

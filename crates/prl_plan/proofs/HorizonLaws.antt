@@ -5,12 +5,8 @@ use Rattle.std.proofs.lemmas.Option.{slice_get-get_or}
 use Rattle.prl_base.specs.declared.limits.Limit.{Limit}
 use Rattle.prl_base.specs.declared.limits.What.{What}
 use Rattle.prl_base.specs.declared.limits.What.TheVariants as whats
-use Rattle.prl_plan.specs.declared.horizons.Horizon.{Horizon}
-use Rattle.prl_plan.specs.declared.limits.TheConstants.{MAX_JOBS, MAX_EVENTS}
-use Rattle.prl_plan.specs.Graphs.{IsWellFormed}
-use Rattle.prl_plan.specs.Jobs.{no_task, task_at, job_count, IsHorizonJob}
-use Rattle.prl_plan.specs.Plans.{PlanView, deadline_at}
-use Rattle.prl_plan.specs.Horizons.{IsEnd, IsHorizon, IsPast, IsPastLimit, jobs_up_to, actions_up_to}
+use Rattle.prl_plan.specs.Vocabulary.{Horizon, MAX_JOBS, MAX_EVENTS, IsWellFormed, no_task, task_at, job_count, IsHorizonJob, PlanView, deadline_at, IsEnd, IsHorizon, IsPast, IsPastLimit, jobs_up_to}
+use Rattle.prl_plan.specs.Vocabulary.{actions_up_to}
 use Rattle.prl_plan.proofs.Counts.{IsHorizonJob_count, job_count_horizon}
 
 not_above : (plan : PlanView) (until a b : ℕ) → IsEnd plan until a → IsEnd plan until b → a ≤ b

@@ -3,11 +3,7 @@ use Rattle.std.proofs.Common.{◌≡◌, ◌<◌, ℕ, List, length, Some, inl, 
 use Rattle.std.specs.Prelude.{slice_get}
 use Rattle.std.proofs.lemmas.Bool.{cases_lt}
 use Rattle.prl_plan.specs.declared.walks.Operand.TheVariants as operands
-use Rattle.prl_plan.specs.Jobs.{IsHorizonJob}
-use Rattle.prl_plan.specs.JobTables.{TableRow, IsJobTable}
-use Rattle.prl_plan.specs.Operands.{operand_of}
-use Rattle.prl_plan.specs.Precedence.{ComesFrom}
-use Rattle.prl_plan.specs.Plans.{PlanView, IsPlan, edge_at, release_at}
+use Rattle.prl_plan.specs.Vocabulary.{IsHorizonJob, TableRow, IsJobTable, operand_of, ComesFrom, PlanView, IsPlan, edge_at, release_at}
 use Rattle.prl_plan.proofs.PlanFacts.{operand_horizon, along_at}
 use Rattle.prl_plan.proofs.WalkLaws.{operand_walks}
 

@@ -2,15 +2,10 @@
 use Rattle.std.proofs.Common.{◌≡◌, ◌≢◌, ◌+◌, ◌<◌, ◌≤◌, ℕ, zero, suc, Bool, List, [], ◌∷◌, length, get_or, set, take, replicate, inl, inr, refl, sym, ◌∙◌, ap, subst, arith, cond, eq-eqb, ne_eqb, get_or-set_other}
 use Rattle.std.proofs.lemmas.Bool.{cases_eq, cases_lt}
 use Rattle.std.proofs.lemmas.Grind.{get_or-set_at}
-use Rattle.prl_plan.specs.declared.events.Action.{Action}
+use Rattle.prl_plan.specs.Vocabulary.{Action, Event, RunConstants, ExecState, opening, action_at, next_action, after_action, after_event, after_events, HasJob, KeepsFree, IsFree, WritesAt}
+use Rattle.prl_plan.specs.Vocabulary.{HasPlanFacts, IsTagged, tag_after, last_in, tag_of_jobs, last_tag, IsWriter, IsLeft}
 use Rattle.prl_plan.specs.declared.events.Action.TheVariants as actions
-use Rattle.prl_plan.specs.declared.events.Event.{Event}
 use Rattle.prl_plan.specs.declared.events.Event.TheVariants as events
-use Rattle.prl_plan.specs.Runs.{RunConstants, ExecState, opening, action_at, next_action, after_action, after_event, after_events}
-use Rattle.prl_plan.specs.Rules.{HasJob, KeepsFree, IsFree}
-use Rattle.prl_plan.specs.Facts.{WritesAt, HasPlanFacts}
-use Rattle.prl_plan.specs.States.{IsTagged}
-use Rattle.prl_plan.specs.LastTags.{tag_after, last_in, tag_of_jobs, last_tag, IsWriter, IsLeft}
 use Rattle.prl_plan.proofs.Places.{get_set}
 use Rattle.prl_plan.proofs.Tagged.{tagged_event}
 

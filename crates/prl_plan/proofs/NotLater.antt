@@ -4,16 +4,12 @@ use Rattle.std.specs.Prelude.{ℤ, pos, ◌+ℤ◌, ◌*ℤ◌, ◌≤ℤ◌, na
 use Rattle.std.proofs.Math.IntN.{zero-*ℤ, suc_ℤ-*ℤ, *ℤ_comm}
 use Rattle.std.proofs.lemmas.Int.{ints}
 use lib.IntN.{suc_ℤ, pred_ℤ}
-use Rattle.prl_base.specs.declared.values.Ty.{Ty}
+use Rattle.prl_base.specs.Operators.{IsOperatorFor, floor_div}
 use Rattle.prl_base.specs.declared.operators.Clock.{Clock}
 use Rattle.prl_base.specs.declared.operators.Op.{Op}
+use Rattle.prl_base.specs.declared.values.Ty.{Ty}
 use Rattle.prl_base.specs.declared.operators.Op.TheVariants as operators
-use Rattle.prl_base.specs.Operators.{IsOperatorFor, floor_div}
-use Rattle.prl_plan.specs.declared.graphs.Edge.{Edge}
-use Rattle.prl_plan.specs.declared.graphs.TaskGraph.{TaskGraph}
-use Rattle.prl_plan.specs.Jobs.{Job, task_at, release_of}
-use Rattle.prl_plan.specs.Graphs.{IsWellFormed, IsEdge, TakeClock}
-use Rattle.prl_plan.specs.Precedence.{preceding, Precedes, PrecedesAlong}
+use Rattle.prl_plan.specs.Vocabulary.{Edge, TaskGraph, Job, task_at, release_of, IsWellFormed, IsEdge, TakeClock, preceding, Precedes, PrecedesAlong}
 use Rattle.prl_plan.proofs.Floors.{suc_is, pred_is, mono, floor_least}
 use Rattle.prl_plan.proofs.WalkLaws.{shift_later}
 use Rattle.prl_plan.proofs.RoundPeriods.{edge_takes}

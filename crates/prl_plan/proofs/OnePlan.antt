@@ -5,18 +5,9 @@ use Rattle.std.proofs.lemmas.Int.{ints}
 use Rattle.std.proofs.lemmas.Nat.{mod_below}
 use Rattle.std.proofs.lemmas.List.{ext_get_or}
 use Rattle.std.proofs.lemmas.Option.{slice_get-get_or, same_Some}
-use Rattle.prl_plan.specs.declared.graphs.Edge.{Edge}
-use Rattle.prl_plan.specs.declared.graphs.TaskGraph.{TaskGraph}
-use Rattle.prl_plan.specs.declared.graphs.Producer.{Producer}
+use Rattle.prl_plan.specs.Vocabulary.{Edge, TaskGraph, Producer, Window, Used, Word, IsShortestRepeat, AreWords, Family, AreEncodedDates, window_at, no_window, encoded_release, encoded_deadline}
+use Rattle.prl_plan.specs.Vocabulary.{HasCells, AreLeastCells, no_used, IsLeastCount, PlanView, IsPlan, AreShortWindows, AreShortGaps, edge_at, no_edge}
 use Rattle.prl_plan.specs.declared.graphs.Producer.TheVariants as producers
-use Rattle.prl_plan.specs.declared.tables.Window.{Window}
-use Rattle.prl_plan.specs.declared.tables.Used.{Used}
-use Rattle.prl_plan.specs.declared.words.Word.{Word}
-use Rattle.prl_plan.specs.Repeats.{IsShortestRepeat}
-use Rattle.prl_plan.specs.Words.{AreWords}
-use Rattle.prl_plan.specs.Dates.{Family, AreEncodedDates, window_at, no_window, encoded_release, encoded_deadline}
-use Rattle.prl_plan.specs.Cells.{HasCells, AreLeastCells, no_used, IsLeastCount}
-use Rattle.prl_plan.specs.Plans.{PlanView, IsPlan, AreShortWindows, AreShortGaps, edge_at, no_edge}
 use Rattle.prl_plan.proofs.RepeatLaws.{one_repeat, one_word, one_used}
 
 -- the words are one list

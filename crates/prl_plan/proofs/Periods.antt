@@ -6,14 +6,12 @@ use Rattle.std.proofs.Math.Nat.{mul-le-mul_right}
 use Rattle.std.proofs.lemmas.Bool.{cases_lt}
 use Rattle.std.proofs.lemmas.Int.{ints}
 use lib.IntN.{suc_ℤ, pred_ℤ}
-use Rattle.prl_base.specs.declared.values.Ty.{Ty}
+use Rattle.prl_base.specs.Operators.{IsOperatorFor, floor_div}
 use Rattle.prl_base.specs.declared.operators.Clock.{Clock}
 use Rattle.prl_base.specs.declared.operators.Op.{Op}
+use Rattle.prl_base.specs.declared.values.Ty.{Ty}
 use Rattle.prl_base.specs.declared.operators.Op.TheVariants as operators
-use Rattle.prl_base.specs.Operators.{IsOperatorFor}
-use Rattle.prl_plan.specs.Graphs.{Divides, TakeClock}
-use Rattle.prl_base.specs.Operators.{floor_div}
-use Rattle.prl_plan.specs.Precedence.{preceding}
+use Rattle.prl_plan.specs.Vocabulary.{Divides, TakeClock, preceding}
 use Rattle.prl_plan.proofs.Floors.{floor_least, suc_is, pred_is}
 
 pub mul_plus : (k c : ℕ) (a : ℤ) → pos k *ℤ (a +ℤ pos c) ≡ (pos k *ℤ a) +ℤ pos (k * c)

@@ -3,12 +3,9 @@ use Rattle.std.proofs.Common.{◌≡◌, ◌+◌, ◌-◌, ◌*◌, ◌/◌, ◌
 use Rattle.std.proofs.lemmas.Bool.{cases_lt}
 use Rattle.std.proofs.lemmas.Nat.{div-mul-add, mod-mul-add, mod_below}
 use Rattle.std.proofs.lemmas.List.Sums.{sum_by_more}
-use Rattle.prl_plan.specs.declared.graphs.Edge.{Edge}
-use Rattle.prl_plan.specs.declared.tables.Used.{Used}
+use Rattle.prl_plan.specs.Vocabulary.{Edge, Used, used_at, place_up_to, place_of, EnumeratesUsed, IsOrdered, CountsUsed}
 use Rattle.std.proofs.Math.Nat.{mod-add-div'}
 use Rattle.std.proofs.lemmas.List.{take_all}
-use Rattle.prl_plan.specs.Cells.{used_at, place_up_to, place_of, EnumeratesUsed}
-use Rattle.prl_plan.specs.CellLists.{IsOrdered, CountsUsed}
 use Rattle.prl_plan.proofs.RepeatLaws.{next_gap, first_number, some_length}
 use Rattle.prl_plan.proofs.UsedLaws.{rising_to, at_least, some_gaps, sum_all, test_same, place_found, place_stands}
 

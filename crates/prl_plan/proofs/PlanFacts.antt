@@ -6,27 +6,12 @@ use Rattle.std.proofs.lemmas.Bool.{cases_lt}
 use Rattle.std.proofs.lemmas.Int.{ints}
 use Rattle.std.proofs.lemmas.Option.{slice_get-get_or}
 use Rattle.prl_base.specs.declared.numbers.EdgeNo.{EdgeNo}
-use Rattle.prl_plan.specs.declared.events.Action.{Action}
+use Rattle.prl_plan.specs.Vocabulary.{Action, Edge, TaskGraph, Producer, Horizon, Used, task_at, no_task, deadline_of, job_count, IsHorizonJob, walk, operand_of, ComesFrom, Precedes, IsWellFormed}
+use Rattle.prl_plan.specs.Vocabulary.{IsTask, IsEdge, encoded_release, encoded_deadline, EnumeratesUsed, IsLeastCount, used_at, no_used, PlanView, IsPlan, edge_at, no_edge, release_at, deadline_at}
+use Rattle.prl_plan.specs.Vocabulary.{place_on, cell_of, IsHalfOf, actions_of, IsActionOf, ReadsAt, WritesAt, Provides, HasPlanFacts, IsHorizon, constants_of, ExecState, next_action, HasJob, IsTagged}
 use Rattle.prl_plan.specs.declared.events.Action.TheVariants as actions
-use Rattle.prl_plan.specs.declared.graphs.Edge.{Edge}
-use Rattle.prl_plan.specs.declared.graphs.TaskGraph.{TaskGraph}
-use Rattle.prl_plan.specs.declared.graphs.Producer.{Producer}
 use Rattle.prl_plan.specs.declared.graphs.Producer.TheVariants as producers
-use Rattle.prl_plan.specs.declared.horizons.Horizon.{Horizon}
-use Rattle.prl_plan.specs.declared.tables.Used.{Used}
 use Rattle.prl_plan.specs.declared.walks.Operand.TheVariants as operands
-use Rattle.prl_plan.specs.Jobs.{task_at, no_task, deadline_of, job_count, IsHorizonJob}
-use Rattle.prl_plan.specs.Operands.{walk, operand_of}
-use Rattle.prl_plan.specs.Precedence.{ComesFrom, Precedes}
-use Rattle.prl_plan.specs.Graphs.{IsWellFormed, IsTask, IsEdge}
-use Rattle.prl_plan.specs.Dates.{encoded_release, encoded_deadline}
-use Rattle.prl_plan.specs.Cells.{EnumeratesUsed, IsLeastCount, used_at, no_used}
-use Rattle.prl_plan.specs.Plans.{PlanView, IsPlan, edge_at, no_edge, release_at, deadline_at, place_on, cell_of, IsHalfOf, actions_of, IsActionOf}
-use Rattle.prl_plan.specs.Facts.{ReadsAt, WritesAt, Provides, HasPlanFacts}
-use Rattle.prl_plan.specs.Horizons.{IsHorizon, constants_of}
-use Rattle.prl_plan.specs.Runs.{ExecState, next_action}
-use Rattle.prl_plan.specs.Rules.{HasJob}
-use Rattle.prl_plan.specs.States.{IsTagged}
 use Rattle.prl_plan.proofs.Actions.{actions_fit}
 use Rattle.prl_plan.proofs.Halves.{actions_paired}
 use Rattle.prl_plan.proofs.ActionPlaces.{WritesTo, Stands, once_on, ends_last, write_stands, half_stands, length_actions}

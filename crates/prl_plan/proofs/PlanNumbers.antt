@@ -6,15 +6,9 @@ use Rattle.std.proofs.lemmas.Int.{ints}
 use Rattle.std.proofs.lemmas.Option.{slice_get-get_or}
 use Rattle.prl_base.specs.declared.operators.Clock.{Clock}
 use Rattle.prl_base.specs.declared.operators.Op.{Op}
-use Rattle.prl_plan.specs.declared.graphs.Edge.{Edge}
-use Rattle.prl_plan.specs.declared.graphs.TaskGraph.{TaskGraph}
-use Rattle.prl_plan.specs.declared.tables.Window.{Window}
+use Rattle.prl_plan.specs.Vocabulary.{Edge, TaskGraph, Window, task_at, IsHorizonJob, IsWellFormed, IsEdge, IsTask, TakeClock, walk, operand_of, AreEncodedDates, window_at, PlanView, HaveRoom, IsPlan}
+use Rattle.prl_plan.specs.Vocabulary.{edge_at, no_edge, release_at, deadline_at}
 use Rattle.prl_plan.specs.declared.walks.Operand.TheVariants as operands
-use Rattle.prl_plan.specs.Jobs.{task_at, IsHorizonJob}
-use Rattle.prl_plan.specs.Graphs.{IsWellFormed, IsEdge, IsTask, TakeClock}
-use Rattle.prl_plan.specs.Operands.{walk, operand_of}
-use Rattle.prl_plan.specs.Dates.{AreEncodedDates, window_at}
-use Rattle.prl_plan.specs.Plans.{PlanView, HaveRoom, IsPlan, edge_at, no_edge, release_at, deadline_at}
 use Rattle.prl_plan.proofs.WalkLaws.{walked_back, operand_walks}
 use Rattle.prl_plan.proofs.WalkNumbers.{divisor_within}
 use Rattle.prl_plan.proofs.RoundPeriods.{task_is}

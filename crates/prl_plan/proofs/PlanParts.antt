@@ -3,20 +3,11 @@ use Rattle.std.proofs.Common.{◌≡◌, ◌+◌, ◌*◌, ◌<◌, ◌≤◌, �
 use Rattle.std.specs.Prelude.{slice_get, slice_index, slice_index_or}
 use Rattle.std.proofs.Math.Nat.{mul-le-mul_left}
 use Rattle.std.proofs.lemmas.Option.{slice_get-get_or}
-use Rattle.prl_plan.specs.declared.graphs.Edge.{Edge}
-use Rattle.prl_plan.specs.declared.graphs.Producer.{Producer}
+use Rattle.prl_plan.specs.Vocabulary.{Edge, Producer, Used, HasCells, IsUsed, no_used, IsOrdered, span_of, encoded_release, encoded_deadline, IsEdge, PlanView, IsPlan, edge_at, no_edge, place_on}
+use Rattle.prl_plan.specs.Vocabulary.{ComesFrom, task_at}
 use Rattle.prl_plan.specs.declared.graphs.Producer.TheVariants as producers
-use Rattle.prl_plan.specs.declared.tables.Used.{Used}
-use Rattle.prl_plan.specs.Cells.{HasCells, IsUsed, no_used}
-use Rattle.prl_plan.specs.CellLists.{IsOrdered}
-use Rattle.prl_plan.specs.CellTurns.{span_of}
-use Rattle.prl_plan.specs.Dates.{encoded_release, encoded_deadline}
-use Rattle.prl_plan.specs.Graphs.{IsEdge}
-use Rattle.prl_plan.specs.Plans.{PlanView, IsPlan, edge_at, no_edge, place_on}
-use Rattle.prl_plan.specs.Precedence.{ComesFrom}
 use Rattle.prl_plan.proofs.CellPeriods.{spans, inside_from}
 use Rattle.prl_plan.proofs.RoundPeriods.{task_is}
-use Rattle.prl_plan.specs.Jobs.{task_at}
 use Rattle.prl_plan.proofs.PlaceLaws.{none_without_gaps}
 use Rattle.prl_plan.proofs.UsedLaws.{sum_all, place_found, place_stands}
 use Rattle.prl_plan.proofs.UsedPeriods.{gaps_within}

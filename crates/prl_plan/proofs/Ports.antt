@@ -2,16 +2,11 @@
 use Rattle.std.proofs.Common.{◌≡◌, ◌+◌, ◌%◌, ◌<◌, ◌++◌, ℕ, zero, suc, Bool, true, false, List, [], ◌∷◌, get_or, inl, inr, refl, sym, subst, arith, cond, eqb}
 use Rattle.std.specs.Prelude.{is_some}
 use Rattle.std.proofs.lemmas.Bool.{cases_eq}
-use Rattle.prl_plan.specs.declared.events.Action.{Action}
+use Rattle.prl_plan.specs.Vocabulary.{Action, Edge, Producer, Operand, IsWellFormed, PortsFollow, AreInOrder, operand_of, PlanView, place_on, cell_of, low, high, both_writes, reading, reads_of}
+use Rattle.prl_plan.specs.Vocabulary.{writing, writes_of, actions_of, operands_in, operands_before, IsAtPort}
 use Rattle.prl_plan.specs.declared.events.Action.TheVariants as actions
-use Rattle.prl_plan.specs.declared.graphs.Edge.{Edge}
-use Rattle.prl_plan.specs.declared.graphs.Producer.{Producer}
 use Rattle.prl_plan.specs.declared.graphs.Producer.TheVariants as producers
-use Rattle.prl_plan.specs.declared.walks.Operand.{Operand}
 use Rattle.prl_plan.specs.declared.walks.Operand.TheVariants as operands
-use Rattle.prl_plan.specs.Graphs.{IsWellFormed, PortsFollow, AreInOrder}
-use Rattle.prl_plan.specs.Operands.{operand_of}
-use Rattle.prl_plan.specs.Plans.{PlanView, place_on, cell_of, low, high, both_writes, reading, reads_of, writing, writes_of, actions_of, operands_in, operands_before, IsAtPort}
 use Rattle.prl_plan.proofs.UsedLaws.{test_same, test_differs}
 
 -- the reads of the list are at ports in order, from q on

@@ -1,13 +1,10 @@
 -- A sound state in which some job has not ended goes on.
 use Rattle.std.proofs.Common.{◌≡◌, ◌+◌, ◌<◌, ◌≤◌, ◌⊎◌, ℕ, zero, suc, get_or, inl, inr, refl, sym, ap, subst, arith}
 use Rattle.std.proofs.lemmas.Bool.{cases_lt}
-use Rattle.prl_plan.specs.declared.events.Action.{Action}
+use Rattle.prl_plan.specs.Vocabulary.{Action, RunConstants, ExecState, next_action, IsUnfinished, HasJob, ActsReleased, MayTick, FindsTag, KeepsGated, first_unfinished, IsJob, ReadsAt, Provides}
+use Rattle.prl_plan.specs.Vocabulary.{HasPlanFacts, IsSound, IsLeastReleased}
 use Rattle.prl_plan.specs.declared.events.Action.TheVariants as actions
 use Rattle.prl_plan.specs.declared.events.Event.TheVariants as events
-use Rattle.prl_plan.specs.Runs.{RunConstants, ExecState, next_action}
-use Rattle.prl_plan.specs.Rules.{IsUnfinished, HasJob, ActsReleased, MayTick, FindsTag, KeepsGated, first_unfinished}
-use Rattle.prl_plan.specs.Facts.{IsJob, ReadsAt, Provides, HasPlanFacts}
-use Rattle.prl_plan.specs.States.{IsSound, IsLeastReleased}
 
 module _ (c : RunConstants) (facts : HasPlanFacts c) where
   -- the first unfinished job of a task is released no later than the others

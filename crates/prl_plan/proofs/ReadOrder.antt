@@ -4,23 +4,15 @@ use Rattle.std.specs.Prelude.{pos, Some, slice_get}
 use Rattle.std.proofs.lemmas.Int.{ints}
 use Rattle.std.proofs.Math.Nat.{mul-le-mul_right}
 use Rattle.std.proofs.lemmas.Option.{slice_get-get_or}
-use Rattle.prl_base.specs.Operators.{IsOperatorFor}
-use Rattle.prl_base.specs.Values.{IsOfType}
+use Rattle.prl_base.specs.Vocabulary.{IsOperatorFor, IsOfType}
+use Rattle.prl_base.specs.declared.operators.Op.{Op}
 use Rattle.prl_base.specs.declared.values.Ty.{Ty}
 use Rattle.prl_base.specs.declared.values.Value.{Value}
-use Rattle.prl_base.specs.declared.operators.Op.{Op}
 use Rattle.prl_base.specs.declared.operators.Op.TheVariants as operators
-use Rattle.prl_plan.specs.declared.graphs.Edge.{Edge}
-use Rattle.prl_plan.specs.declared.graphs.TaskGraph.{TaskGraph}
-use Rattle.prl_plan.specs.declared.graphs.Producer.{Producer}
+use Rattle.prl_plan.specs.Vocabulary.{Edge, TaskGraph, Producer, Operand, IsWellFormed, IsEdge, IsSource, task_at, IsHorizonJob, walk, operand_from, operand_of, ComesFrom, PlanView, IsPlan, edge_at}
+use Rattle.prl_plan.specs.Vocabulary.{no_edge, release_at}
 use Rattle.prl_plan.specs.declared.graphs.Producer.TheVariants as producers
-use Rattle.prl_plan.specs.declared.walks.Operand.{Operand}
 use Rattle.prl_plan.specs.declared.walks.Operand.TheVariants as operands
-use Rattle.prl_plan.specs.Graphs.{IsWellFormed, IsEdge, IsSource}
-use Rattle.prl_plan.specs.Jobs.{task_at, IsHorizonJob}
-use Rattle.prl_plan.specs.Operands.{walk, operand_from, operand_of}
-use Rattle.prl_plan.specs.Precedence.{ComesFrom}
-use Rattle.prl_plan.specs.Plans.{PlanView, IsPlan, edge_at, no_edge, release_at}
 use Rattle.prl_plan.proofs.PlanFacts.{along_at, later_at, operand_horizon}
 use Rattle.prl_plan.proofs.RoundLaws.{source_inside}
 use Rattle.prl_plan.proofs.PlanNumbers.{window_within}

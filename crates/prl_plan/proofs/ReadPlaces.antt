@@ -2,12 +2,8 @@
 use Rattle.std.proofs.Common.{◌≡◌, ◌+◌, ◌<◌, ◌++◌, ℕ, zero, suc, Bool, true, false, List, [], ◌∷◌, length, take, Some, refl, sym, ◌∙◌, ap, subst, arith, cond, eqb, length-append}
 use Rattle.std.specs.Prelude.{IsSome, slice_get}
 use Rattle.std.proofs.lemmas.Option.{slice_get-get_or}
-use Rattle.prl_plan.specs.declared.events.Action.{Action}
+use Rattle.prl_plan.specs.Vocabulary.{Action, Edge, operand_of, ComesFrom, PlanView, edge_at, no_edge, place_on, cell_of, IsHalfOf, reading, reads_of, writes_of, actions_of, reads_before}
 use Rattle.prl_plan.specs.declared.events.Action.TheVariants as actions
-use Rattle.prl_plan.specs.declared.graphs.Edge.{Edge}
-use Rattle.prl_plan.specs.Operands.{operand_of}
-use Rattle.prl_plan.specs.Precedence.{ComesFrom}
-use Rattle.prl_plan.specs.Plans.{PlanView, edge_at, no_edge, place_on, cell_of, IsHalfOf, reading, reads_of, writes_of, actions_of, reads_before}
 use Rattle.prl_plan.proofs.ActionPlaces.{write_stands, half_stands}
 use Rattle.prl_plan.proofs.UsedLaws.{test_same}
 

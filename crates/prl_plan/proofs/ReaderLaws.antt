@@ -5,21 +5,13 @@ use Rattle.std.proofs.Math.Nat.{mul-le-mul_left}
 use Rattle.std.proofs.lemmas.Nat.{le-div}
 use Rattle.std.proofs.lemmas.Bool.{cases_lt}
 use Rattle.std.proofs.lemmas.Int.{ints}
-use Rattle.prl_base.specs.declared.values.Ty.{Ty}
+use Rattle.prl_base.specs.Operators.{IsOperatorFor, floor_div}
 use Rattle.prl_base.specs.declared.operators.Op.{Op}
+use Rattle.prl_base.specs.declared.values.Ty.{Ty}
 use Rattle.prl_base.specs.declared.operators.Op.TheVariants as operators
-use Rattle.prl_plan.specs.declared.graphs.Edge.{Edge}
-use Rattle.prl_plan.specs.declared.graphs.Producer.{Producer}
+use Rattle.prl_plan.specs.Vocabulary.{Edge, Producer, Operand, walk, operand_from, preceding, ComesFrom, Reads, IsUsed, IsFirstReader, first_reader, natural, first_instance, IsAsked}
 use Rattle.prl_plan.specs.declared.graphs.Producer.TheVariants as producers
-use Rattle.prl_plan.specs.declared.walks.Operand.{Operand}
 use Rattle.prl_plan.specs.declared.walks.Operand.TheVariants as operands
-use Rattle.prl_base.specs.Operators.{IsOperatorFor}
-use Rattle.prl_plan.specs.Operands.{walk, operand_from}
-use Rattle.prl_base.specs.Operators.{floor_div}
-use Rattle.prl_plan.specs.Precedence.{preceding, ComesFrom}
-use Rattle.prl_plan.specs.Cells.{Reads, IsUsed}
-use Rattle.prl_plan.specs.FirstReaders.{IsFirstReader, first_reader, natural, first_instance}
-use Rattle.prl_plan.specs.CellTurns.{IsAsked}
 use Rattle.prl_plan.proofs.Ceilings.{ceil_most, ceil_least}
 use Rattle.prl_plan.proofs.Floors.{floor_least, mono, suc_is, pred_is}
 use Rattle.prl_plan.proofs.WalkLaws.{walk_preceding, operand_walks}

@@ -10,12 +10,7 @@ use Rattle.std.proofs.Math.Nat.{add-mul-mod_self_right, mod-eq_of_lt, div-eq_of_
 use Rattle.prl_base.specs.declared.operators.Op.{Op}
 use Rattle.prl_base.specs.declared.values.Value.{Value}
 use Rattle.prl_plan.specs.declared.walks.Operand.TheVariants as operands
-use Rattle.prl_plan.specs.declared.words.Word.{Word}
-use Rattle.prl_plan.specs.declared.graphs.Edge.{Edge}
-use Rattle.prl_plan.specs.declared.tables.Used.{Used}
-use Rattle.prl_plan.specs.Repeats.{repeated, ComesAgain, IsShortestRepeat}
-use Rattle.prl_plan.specs.Words.{number_at, word_at, IsWordOf, Climbs}
-use Rattle.prl_plan.specs.Cells.{used_at, EnumeratesUsed}
+use Rattle.prl_plan.specs.Vocabulary.{Word, Edge, Used, repeated, ComesAgain, IsShortestRepeat, number_at, word_at, IsWordOf, Climbs, used_at, EnumeratesUsed}
 use Rattle.prl_plan.proofs.WordNumbers.{in_prefix, after_prefix, next_turns}
 use Rattle.prl_plan.proofs.UsedLaws.{rising_to, some_gaps}
 

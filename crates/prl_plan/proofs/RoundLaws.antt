@@ -1,11 +1,7 @@
 -- The task that an edge comes from.
 use Rattle.std.proofs.Common.{◌≡◌, ◌<◌, ℕ, length, subst}
-use Rattle.prl_plan.specs.declared.graphs.Edge.{Edge}
-use Rattle.prl_plan.specs.declared.graphs.Producer.{Producer}
+use Rattle.prl_plan.specs.Vocabulary.{Edge, Producer, TaskGraph, ComesFrom, IsEdge, IsSource}
 use Rattle.prl_plan.specs.declared.graphs.Producer.TheVariants as producers
-use Rattle.prl_plan.specs.declared.graphs.TaskGraph.{TaskGraph}
-use Rattle.prl_plan.specs.Precedence.{ComesFrom}
-use Rattle.prl_plan.specs.Graphs.{IsEdge, IsSource}
 
 -- a task that an edge comes from is one of the graph
 pub source_inside : (graph : TaskGraph) (edge : Edge) → IsEdge graph edge → (from : Producer) → edge.from ≡ from → (i : ℕ) → ComesFrom from i → i < length graph.tasks

@@ -4,13 +4,8 @@ use Rattle.std.specs.Prelude.{ℤ, pos, ◌+ℤ◌}
 use Rattle.std.proofs.lemmas.Int.{ints}
 use Rattle.std.proofs.lemmas.Option.{slice_get-get_or}
 use Rattle.prl_base.specs.declared.operators.Clock.{Clock}
-use Rattle.prl_plan.specs.declared.graphs.Edge.{Edge}
-use Rattle.prl_plan.specs.declared.graphs.TaskGraph.{TaskGraph}
-use Rattle.prl_plan.specs.declared.graphs.Producer.{Producer}
+use Rattle.prl_plan.specs.Vocabulary.{Edge, TaskGraph, Producer, task_at, no_task, release_of, preceding, ComesFrom, IsWellFormed, IsTask, IsEdge, IsSource, TakeClock}
 use Rattle.prl_plan.specs.declared.graphs.Producer.TheVariants as producers
-use Rattle.prl_plan.specs.Jobs.{task_at, no_task, release_of}
-use Rattle.prl_plan.specs.Precedence.{preceding, ComesFrom}
-use Rattle.prl_plan.specs.Graphs.{IsWellFormed, IsTask, IsEdge, IsSource, TakeClock}
 use Rattle.prl_plan.proofs.Periods.{plus_mul, preceding_shift}
 
 -- the clocks at the two ends of an edge from a task

@@ -1,8 +1,6 @@
 -- A run of two lists of events: the second's from where the first ends.
 use Rattle.std.proofs.Common.{◌≡◌, ◌++◌, ◌↔◌, List, [], ◌∷◌, refl}
-use Rattle.prl_plan.specs.declared.events.Event.{Event}
-use Rattle.prl_plan.specs.Runs.{RunConstants, ExecState, after_event, after_events}
-use Rattle.prl_plan.specs.Rules.{IsLegal, IsGated, IsFree}
+use Rattle.prl_plan.specs.Vocabulary.{Event, RunConstants, ExecState, after_event, after_events, IsLegal, IsGated, IsFree}
 
 pub after_events_append : (c : RunConstants) (s : ExecState) (xs ys : List Event) →
     after_events c s (xs ++ ys) ≡ after_events c (after_events c s xs) ys

@@ -3,14 +3,10 @@ use Rattle.std.proofs.Common.{◌≡◌, ◌+◌, ◌<◌, ◌≤◌, ℕ, lengt
 use Rattle.std.proofs.lemmas.Bool.{cases_lt}
 use Rattle.std.proofs.lemmas.List.{get_or-replicate}
 use Rattle.prl_base.specs.declared.numbers.EdgeNo.{EdgeNo}
-use Rattle.prl_plan.specs.declared.events.Action.{Action}
+use Rattle.prl_plan.specs.Vocabulary.{Action, Event, RunConstants, ExecState, opening, next_action, moved, after_action, after_event, IsUnfinished, HasJob, ActsReleased, KeepsGated, IsJob, ReadsAt}
+use Rattle.prl_plan.specs.Vocabulary.{WritesAt, HasPlanFacts, IsSound}
 use Rattle.prl_plan.specs.declared.events.Action.TheVariants as actions
-use Rattle.prl_plan.specs.declared.events.Event.{Event}
 use Rattle.prl_plan.specs.declared.events.Event.TheVariants as events
-use Rattle.prl_plan.specs.Runs.{RunConstants, ExecState, opening, next_action, moved, after_action, after_event}
-use Rattle.prl_plan.specs.Rules.{IsUnfinished, HasJob, ActsReleased, KeepsGated}
-use Rattle.prl_plan.specs.Facts.{IsJob, ReadsAt, WritesAt, HasPlanFacts}
-use Rattle.prl_plan.specs.States.{IsSound}
 use Rattle.prl_plan.proofs.Places.{get_set}
 use Rattle.prl_plan.proofs.Tagged.{tagged_event, tagged_opening}
 

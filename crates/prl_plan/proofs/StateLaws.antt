@@ -4,15 +4,10 @@ use Rattle.std.proofs.Common.{◌≡◌, ◌+◌, ◌%◌, ◌<◌, ◌⊎◌, �
 use Rattle.std.specs.Prelude.{slice_index}
 use Rattle.prl_base.specs.declared.numbers.EdgeNo.{EdgeNo}
 use Rattle.prl_base.specs.declared.numbers.TaskNo.{TaskNo}
-use Rattle.prl_plan.specs.declared.events.Action.{Action}
+use Rattle.prl_plan.specs.Vocabulary.{Action, Event, RunConstants, ExecState, opening, action_at, next_action, moved, after_action, after_event, PlanView, low, high, actions_of, IsActionOf, HasJob}
+use Rattle.prl_plan.specs.Vocabulary.{ActsReleased, FindsTag, KeepsLegal, KeepsGated, first_unfinished, ReadsAt, HasPlanFacts, IsDone, IsTagged, IsSound}
 use Rattle.prl_plan.specs.declared.events.Action.TheVariants as actions
-use Rattle.prl_plan.specs.declared.events.Event.{Event}
 use Rattle.prl_plan.specs.declared.events.Event.TheVariants as events
-use Rattle.prl_plan.specs.Runs.{RunConstants, ExecState, opening, action_at, next_action, moved, after_action, after_event}
-use Rattle.prl_plan.specs.Plans.{PlanView, low, high, actions_of, IsActionOf}
-use Rattle.prl_plan.specs.Rules.{HasJob, ActsReleased, FindsTag, KeepsLegal, KeepsGated, first_unfinished}
-use Rattle.prl_plan.specs.Facts.{ReadsAt, HasPlanFacts}
-use Rattle.prl_plan.specs.States.{IsDone, IsTagged, IsSound}
 use Rattle.prl_plan.proofs.Actions.{actions_fit}
 use Rattle.prl_plan.proofs.Tagged.{done_moved, ends_once}
 use Rattle.prl_plan.proofs.Sound.{sound_opening, sound_event}

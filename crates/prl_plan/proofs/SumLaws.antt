@@ -2,18 +2,10 @@
 use Rattle.std.proofs.Common.{◌≡◌, ◌+◌, ◌-◌, ◌*◌, ◌<◌, ◌≤◌, ◌↔◌, ℕ, zero, suc, [], Option, Some, None, length, inl, inr, refl, sym, ◌∙◌, ap, subst, arith}
 use Rattle.std.specs.Prelude.{if◌then◌else◌, is_some}
 use Rattle.std.proofs.lemmas.Bool.{cases_lt}
-use Rattle.prl_plan.specs.declared.graphs.Edge.{Edge}
-use Rattle.prl_plan.specs.declared.graphs.Producer.{Producer}
+use Rattle.prl_plan.specs.Vocabulary.{Edge, Producer, Used, Operand, used_at, place_of, EnumeratesUsed, IsOrdered, CountsUsed, IsFirstReader, sum_below, walk, operand_from, operand_of, PlanView}
+use Rattle.prl_plan.specs.Vocabulary.{reading, both_writes}
 use Rattle.prl_plan.specs.declared.graphs.Producer.TheVariants as producers
-use Rattle.prl_plan.specs.declared.tables.Used.{Used}
-use Rattle.prl_plan.specs.declared.walks.Operand.{Operand}
 use Rattle.prl_plan.specs.declared.walks.Operand.TheVariants as operands
-use Rattle.prl_plan.specs.Cells.{used_at, place_of, EnumeratesUsed}
-use Rattle.prl_plan.specs.CellLists.{IsOrdered, CountsUsed}
-use Rattle.prl_plan.specs.FirstReaders.{IsFirstReader}
-use Rattle.prl_plan.specs.Horizons.{sum_below}
-use Rattle.prl_plan.specs.Operands.{walk, operand_from, operand_of}
-use Rattle.prl_plan.specs.Plans.{PlanView, reading, both_writes}
 use Rattle.prl_plan.proofs.PlaceLaws.{none_without_gaps}
 use Rattle.prl_plan.proofs.RepeatLaws.{some_length}
 use Rattle.prl_plan.proofs.UsedLaws.{rising_to, at_least, some_gaps, place_found, place_stands}

@@ -3,11 +3,8 @@ use Rattle.std.proofs.Common.{◌≡◌, ◌+◌, ◌*◌, ◌<◌, ◌≤◌, �
 use Rattle.std.specs.Prelude.{pos, ◌≤ℤ◌, slice_get}
 use Rattle.std.proofs.lemmas.Bool.{cases_eq, cases_lt}
 use Rattle.std.proofs.lemmas.Int.{ints}
-use Rattle.prl_plan.specs.declared.walks.Operand.{Operand}
-use Rattle.prl_plan.specs.Jobs.{task_at, deadline_of, job_count, IsHorizonJob}
-use Rattle.prl_plan.specs.Dates.{encoded_deadline}
-use Rattle.prl_plan.specs.Plans.{PlanView, IsPlan, release_at}
-use Rattle.prl_plan.specs.JobTables.{TableRow, IsJobTable, ComesBefore, operands_over, row_of, jobs_at, rows_at, rows_before, job_table}
+use Rattle.prl_plan.specs.Vocabulary.{Operand, task_at, deadline_of, job_count, IsHorizonJob, encoded_deadline, PlanView, IsPlan, release_at, TableRow, IsJobTable, ComesBefore, operands_over, row_of}
+use Rattle.prl_plan.specs.Vocabulary.{jobs_at, rows_at, rows_before, job_table}
 use Rattle.prl_plan.proofs.Counts.{IsHorizonJob_count, job_count_horizon}
 use Rattle.prl_plan.proofs.PlanFacts.{task_fact, room_at, apart_at}
 

@@ -3,18 +3,12 @@ use Rattle.std.proofs.Common.{◌≡◌, ◌+◌, ◌-◌, ◌<◌, ◌≤◌, �
 use Rattle.std.proofs.lemmas.Bool.{cases_eq, cases_lt, cases_order}
 use Rattle.std.proofs.lemmas.List.{get_or_past, length-set, length-replicate, get_or-replicate, get_or-set_other}
 use Rattle.std.proofs.lemmas.Grind.{get_or-set_at}
-use Rattle.prl_base.specs.declared.values.Value.{Value}
-use Rattle.prl_plan.specs.declared.events.SlotNo.{SlotNo}
 use Rattle.prl_base.specs.declared.numbers.EdgeNo.{EdgeNo}
-use Rattle.prl_plan.specs.declared.events.Action.{Action}
+use Rattle.prl_base.specs.declared.values.Value.{Value}
+use Rattle.prl_plan.specs.Vocabulary.{SlotNo, Action, Event, RunConstants, ExecState, opening, action_at, next_action, moved, after_action, after_event, after_events, low, high, IsHigh, low_of}
+use Rattle.prl_plan.specs.Vocabulary.{HasJob, ActsReleased, KeepsGated, KeepsFree, IsGated, IsFree, IsJob, WritesAt, HasPlanFacts, IsDone, IsAhead, IsOrigin, IsTagged}
 use Rattle.prl_plan.specs.declared.events.Action.TheVariants as actions
-use Rattle.prl_plan.specs.declared.events.Event.{Event}
 use Rattle.prl_plan.specs.declared.events.Event.TheVariants as events
-use Rattle.prl_plan.specs.Runs.{RunConstants, ExecState, opening, action_at, next_action, moved, after_action, after_event, after_events}
-use Rattle.prl_plan.specs.Plans.{low, high, IsHigh, low_of}
-use Rattle.prl_plan.specs.Rules.{HasJob, ActsReleased, KeepsGated, KeepsFree, IsGated, IsFree}
-use Rattle.prl_plan.specs.Facts.{IsJob, WritesAt, HasPlanFacts}
-use Rattle.prl_plan.specs.States.{IsDone, IsAhead, IsOrigin, IsTagged}
 use Rattle.prl_plan.proofs.Places.{get_set}
 
 -- a write is no other action

@@ -3,9 +3,7 @@ use Rattle.std.proofs.Common.{◌≡◌, ◌+◌, ◌*◌, ◌/◌, ◌%◌, ◌
 use Rattle.std.proofs.lemmas.Bool.{cases_lt}
 use Rattle.std.proofs.lemmas.List.Sums.{sum_by-cons}
 use Rattle.std.proofs.lemmas.Bool.Decides.{nat_tests}
-use Rattle.prl_plan.specs.declared.graphs.Edge.{Edge}
-use Rattle.prl_plan.specs.declared.tables.Used.{Used}
-use Rattle.prl_plan.specs.Cells.{used_at, EnumeratesUsed, place_up_to, place_of}
+use Rattle.prl_plan.specs.Vocabulary.{Edge, Used, used_at, EnumeratesUsed, place_up_to, place_of}
 
 pub test_same : (x y : ℕ) → x ≡ y → eqb x y ≡ true
 test_same x y h = grind (arith, nat_tests)

@@ -4,15 +4,7 @@ use Rattle.std.specs.Prelude.{pos}
 use Rattle.std.proofs.lemmas.Bool.{cases_lt}
 use Rattle.std.proofs.lemmas.Nat.{div-mul-add, mod-mul-add, mod_below}
 use Rattle.std.proofs.lemmas.Option.{slice_get-get_or}
-use Rattle.prl_plan.specs.declared.graphs.Edge.{Edge}
-use Rattle.prl_plan.specs.declared.graphs.TaskGraph.{TaskGraph}
-use Rattle.prl_plan.specs.declared.tables.Used.{Used}
-use Rattle.prl_plan.specs.Graphs.{IsWellFormed, IsEdge}
-use Rattle.prl_plan.specs.Precedence.{ComesFrom}
-use Rattle.prl_plan.specs.Repeats.{ComesAgain, IsShortestRepeat}
-use Rattle.prl_plan.specs.Cells.{IsUsed, used_at, EnumeratesUsed}
-use Rattle.prl_plan.specs.FirstReaders.{first_instance}
-use Rattle.prl_plan.specs.CellTurns.{IsAsked, span_of}
+use Rattle.prl_plan.specs.Vocabulary.{Edge, TaskGraph, Used, IsWellFormed, IsEdge, ComesFrom, ComesAgain, IsShortestRepeat, IsUsed, used_at, EnumeratesUsed, first_instance, IsAsked, span_of}
 use Rattle.prl_plan.proofs.CellPeriods.{again, some_span}
 use Rattle.prl_plan.proofs.ReaderLaws.{used_is}
 use Rattle.prl_plan.proofs.RepeatLaws.{next_gap, first_number, some_length}

@@ -10,8 +10,7 @@ use Rattle.prl_base.specs.Operators.{floor_div}
 use Rattle.prl_base.specs.declared.operators.Clock.{Clock}
 use Rattle.prl_base.specs.declared.operators.Op.{Op}
 use Rattle.prl_base.specs.declared.operators.Op.TheVariants as operators
-use Rattle.prl_plan.specs.Graphs.{Divides, TakeClock}
-use Rattle.prl_plan.specs.Ranges.{Fits64, PrecedingFits}
+use Rattle.prl_plan.specs.Vocabulary.{Divides, TakeClock, Fits64, PrecedingFits}
 use Rattle.prl_plan.proofs.Floors.{suc_is, pred_is}
 use Rattle.prl_plan.proofs.Periods.{clock_divides}
 

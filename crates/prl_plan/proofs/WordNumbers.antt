@@ -6,10 +6,7 @@ use Rattle.std.proofs.lemmas.Option.{slice_get-get_or, slice_get_past}
 use Rattle.prl_base.specs.declared.operators.Op.{Op}
 use Rattle.prl_base.specs.declared.values.Value.{Value}
 use Rattle.prl_plan.specs.declared.walks.Operand.TheVariants as operands
-use Rattle.prl_plan.specs.declared.words.Word.{Word}
-use Rattle.prl_plan.specs.FirstReaders.{IsFirstReader}
-use Rattle.prl_plan.specs.Operands.{walk}
-use Rattle.prl_plan.specs.Words.{number_at, word_at, constant_or, IsWordOf}
+use Rattle.prl_plan.specs.Vocabulary.{Word, IsFirstReader, walk, number_at, word_at, constant_or, IsWordOf}
 
 -- the operands of the prefix, and those after it
 pub in_prefix : (w : Word) (n : ℕ) (d : Value) → n < length w.prefix → word_at w n ≡ operands.Const (get_or w.prefix n d)

@@ -5,21 +5,11 @@ use Rattle.prl_base.specs.declared.operators.Op.TheVariants as operators
 use Rattle.prl_base.specs.declared.values.Ty.TheVariants as types
 use Rattle.prl_base.specs.declared.values.Value.TheVariants as values
 use Rattle.prl_plan.specs.declared.events.Action.TheVariants as actions
-use Rattle.prl_plan.specs.declared.graphs.Task.{Task}
-use Rattle.prl_plan.specs.declared.graphs.Edge.{Edge}
-use Rattle.prl_plan.specs.declared.graphs.Kind.{Kind}
-use Rattle.prl_plan.specs.declared.graphs.TaskGraph.{TaskGraph}
+use Rattle.prl_plan.specs.Vocabulary.{Task, Edge, Kind, TaskGraph, Job, deadline_of, task_at, operand_of, Precedes, jobs_in_hyperperiod, IsChain, needs_of, PlanView, edge_at, release_at, deadline_at}
+use Rattle.prl_plan.specs.Vocabulary.{cell_of, actions_of, jobs_up_to, actions_up_to, row_of, job_table}
 use Rattle.prl_plan.specs.declared.graphs.Kind.TheVariants as kinds
 use Rattle.prl_plan.specs.declared.graphs.Producer.TheVariants as producers
 use Rattle.prl_plan.specs.declared.walks.Operand.TheVariants as operands
-use Rattle.prl_plan.specs.Jobs.{Job, deadline_of, task_at}
-use Rattle.prl_plan.specs.Operands.{operand_of}
-use Rattle.prl_plan.specs.Precedence.{Precedes}
-use Rattle.prl_plan.specs.Graphs.{jobs_in_hyperperiod}
-use Rattle.prl_plan.specs.Chains.{IsChain, needs_of}
-use Rattle.prl_plan.specs.Plans.{PlanView, edge_at, release_at, deadline_at, cell_of, actions_of}
-use Rattle.prl_plan.specs.Horizons.{jobs_up_to, actions_up_to}
-use Rattle.prl_plan.specs.JobTables.{row_of, job_table}
 
 -- a task on the clock of period 4 from 0 on
 abbrev lane_task : List ℕ → Kind → ℕ → Task

@@ -2,26 +2,16 @@
 use Rattle.std.proofs.Common.{◌≡◌, ℕ, List, [], ◌∷◌, refl}
 use Rattle.std.specs.Prelude.{pos, codes}
 use Rattle.prl_base.specs.declared.operators.Op.{Op}
+use Rattle.prl_base.specs.declared.values.Value.{Value}
 use Rattle.prl_base.specs.declared.operators.Op.TheVariants as operators
 use Rattle.prl_base.specs.declared.values.Ty.TheVariants as types
-use Rattle.prl_base.specs.declared.values.Value.{Value}
 use Rattle.prl_base.specs.declared.values.Value.TheVariants as values
 use Rattle.prl_plan.specs.declared.events.Action.TheVariants as actions
-use Rattle.prl_plan.specs.declared.graphs.Task.{Task}
-use Rattle.prl_plan.specs.declared.graphs.Edge.{Edge}
-use Rattle.prl_plan.specs.declared.graphs.Kind.{Kind}
+use Rattle.prl_plan.specs.Vocabulary.{Task, Edge, Kind, Window, Used, Word, operand_of, word_at, constants_in, used_at, PlanView, edge_at, release_at, deadline_at, cell_of, actions_of, jobs_up_to}
+use Rattle.prl_plan.specs.Vocabulary.{actions_up_to, row_of, job_table}
 use Rattle.prl_plan.specs.declared.graphs.Kind.TheVariants as kinds
 use Rattle.prl_plan.specs.declared.graphs.Producer.TheVariants as producers
-use Rattle.prl_plan.specs.declared.tables.Window.{Window}
-use Rattle.prl_plan.specs.declared.tables.Used.{Used}
 use Rattle.prl_plan.specs.declared.walks.Operand.TheVariants as operands
-use Rattle.prl_plan.specs.declared.words.Word.{Word}
-use Rattle.prl_plan.specs.Operands.{operand_of}
-use Rattle.prl_plan.specs.Words.{word_at, constants_in}
-use Rattle.prl_plan.specs.Cells.{used_at}
-use Rattle.prl_plan.specs.Plans.{PlanView, edge_at, release_at, deadline_at, cell_of, actions_of}
-use Rattle.prl_plan.specs.Horizons.{jobs_up_to, actions_up_to}
-use Rattle.prl_plan.specs.JobTables.{row_of, job_table}
 
 abbrev task : List ℕ → Kind → ℕ → ℕ → ℕ → Task
 task name kind period start wcet =

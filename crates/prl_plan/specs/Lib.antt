@@ -27,3 +27,4 @@ pub mod States
 pub mod LastTags
 pub mod CellTurns
 pub mod Ranges
+pub mod Vocabulary

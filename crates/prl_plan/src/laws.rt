@@ -2,6 +2,7 @@
 //! definitions alone.
 
 ghost use Rattle.std.specs.Prelude.{◌≡◌, ◌+◌, ◌<◌, ◌≤◌, ◌⊎◌, ◌^◌, ◌++◌, ◌↔◌, ℕ, List, length, slice_index};
+ghost use Rattle.prl_base.specs.declared.limits.Limit.{Limit};
 ghost use Rattle.prl_base.specs.declared.numbers.EdgeNo.{EdgeNo};
 ghost use Rattle.prl_base.specs.declared.numbers.TaskNo.{TaskNo};
 ghost use Rattle.prl_plan.specs.declared.events.Action.{Action};
@@ -13,7 +14,6 @@ ghost use Rattle.prl_plan.specs.declared.horizons.Horizon.{Horizon};
 ghost use Rattle.prl_plan.specs.declared.walks.Operand.TheVariants as operands;
 ghost use Rattle.prl_plan.specs.Operands.{operand_of};
 ghost use Rattle.prl_plan.specs.Plans.{PlanView, IsPlan, edge_at, release_at, deadline_at, low, high};
-ghost use Rattle.prl_base.specs.declared.limits.Limit.{Limit};
 ghost use Rattle.prl_plan.specs.Horizons.{IsHorizon, IsPastLimit, Placement, constants_of, constants_on};
 ghost use Rattle.prl_plan.specs.Runs.{RunConstants, ExecState, opening, action_at, next_action, after_action, after_event, after_events};
 ghost use Rattle.prl_plan.specs.Rules.{IsLegal, IsGated, IsFree, IsUnfinished, HasJob, ActsReleased, FindsTag, first_unfinished, KeepsLegal, KeepsGated, KeepsFree, IsComplete, FirstBroken, IsFirstUnfinished};

@@ -4,9 +4,7 @@ use Rattle.prl_evaluation.specs.Evaluations.{IsFlowFault}
 use Rattle.prl_evaluation.specs.declared.evaluation.FlowFault.{FlowFault}
 use Rattle.prl_evaluation.specs.declared.evaluation.FlowFault.TheVariants as flows
 use Rattle.prl_flow.specs.Counts.{values_before}
-use Rattle.prl_stages.specs.Given.{Given}
-use Rattle.prl_stages.specs.Runs.{HasRows}
-use Rattle.prl_stages.specs.Told.{stop_of, told_flow}
+use Rattle.prl_stages.specs.Vocabulary.{Given, HasRows, stop_of, told_flow}
 use Rattle.prl_stages.specs.declared.faults.Fault.TheVariants as faults
 use Rattle.prl_stages.specs.declared.stages.Stage.TheVariants as stages
 use Rattle.prl_planning.specs.code.Flows.{HasRowsUntil}

@@ -3,19 +3,15 @@
 ghost use Rattle.std.specs.Prelude.{◌≡◌, ◌<◌, ◌≤◌, ◌^◌, IfOk, IfErr, [], ◌∷◌, length, map};
 ghost use Rattle.std.specs.Vec.{vec_items};
 ghost use Rattle.prl_ast.specs.Trees.{program_tree};
-ghost use Rattle.prl_body.specs.Checks.{body_tree};
-ghost use Rattle.prl_body.specs.Used.{HaveBodiesOf};
+ghost use Rattle.prl_body.specs.Vocabulary.{body_tree, HaveBodiesOf};
 ghost use Rattle.prl_expand.specs.Expanding.{IsExpanded};
 ghost use Rattle.prl_evaluation.specs.Evaluations.{AreSolution};
-ghost use Rattle.prl_flow.specs.Applications.{HaveBodies};
-ghost use Rattle.prl_flow.specs.Uses.{IsOrder};
+ghost use Rattle.prl_flow.specs.Vocabulary.{HaveBodies, IsOrder};
 ghost use Rattle.prl_names.specs.Uses.{used_imports};
 ghost use Rattle.prl_replay.specs.Outputs.{out_flow, out_flows};
 ghost use Rattle.prl_types.specs.Typing.{IsTyped};
-ghost use Rattle.prl_stages.specs.Given.{Given};
-ghost use Rattle.prl_stages.specs.Parts.{AreBodies, IsMain, IsProgram};
-ghost use Rattle.prl_stages.specs.Runs.{HasRows};
-ghost use Rattle.prl_stages.specs.Stages.{Holds, IsText, stages_after};
+ghost use Rattle.prl_stages.specs.Vocabulary.{Given, AreBodies, IsMain, IsProgram, HasRows, Holds};
+ghost use Rattle.prl_stages.specs.Vocabulary.{IsText, stages_after};
 ghost use Rattle.prl_calls.specs.Stops.{given_of, AllHold, StopsAt, StopsIn};
 ghost use Rattle.prl_planning.specs.code.Flows.{HasRowsUntil, IsEvaluated, flow_stages};
 

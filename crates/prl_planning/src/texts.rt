@@ -2,10 +2,8 @@
 //! (`schedule`, `edf`, `table`).
 
 ghost use Rattle.std.specs.Prelude.{◌≡◌, ◌≤◌, IfOk, IfErr, length};
-ghost use Rattle.prl_stages.specs.Planned.{HasPlan, accepted_line};
-ghost use Rattle.prl_stages.specs.Scheduled.{HasHorizon};
-ghost use Rattle.prl_stages.specs.Stages.{stages_after, Holds, IsText};
-ghost use Rattle.prl_stages.specs.Tabled.{make_refusal, HasMadeTable};
+ghost use Rattle.prl_stages.specs.Vocabulary.{HasPlan, accepted_line, HasHorizon, stages_after};
+ghost use Rattle.prl_stages.specs.Vocabulary.{Holds, IsText, make_refusal, HasMadeTable};
 ghost use Rattle.prl_tables.specs.Tables.{IsGood};
 ghost use Rattle.prl_calls.specs.Stops.{given_of, AllHold, StopsAt, StopsIn};
 

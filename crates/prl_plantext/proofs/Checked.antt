@@ -8,11 +8,10 @@ use Rattle.std.proofs.Math.Nat.{mod-add-div, mul-mod_left}
 use Rattle.std.proofs.lemmas.Slice.Eq.{bytes_eq-Decides}
 use Rattle.prl_base.specs.Names.{IsName, is_word}
 use Rattle.prl_base.specs.declared.names.TheConstants.{MAX_NAME}
-use Rattle.prl_plan.specs.Graphs.{AreNumbered, Divides, IsTask, IsTaskName}
-use Rattle.prl_plan.specs.Jobs.{no_task}
+use Rattle.prl_plan.specs.Vocabulary.{AreNumbered, Divides, IsTask, IsTaskName, no_task}
 use Rattle.prl_plan.specs.declared.graphs.Kind.{Kind}
-use Rattle.prl_plan.specs.declared.graphs.Kind.TheVariants as kinds
 use Rattle.prl_plan.specs.declared.graphs.Task.{Task}
+use Rattle.prl_plan.specs.declared.graphs.Kind.TheVariants as kinds
 use Rattle.prl_plantext.specs.code.Checks.{are_numbered, counted, divides, has_name, have_own_names, is_name, is_positive, is_task, is_task_name, may_follow}
 use Rattle.prl_plantext.specs.code.Graphs.{after, before}
 use Rattle.prl_plantext.specs.declared.checking.Counts.{Counts}

@@ -5,16 +5,15 @@ use Rattle.std.specs.Prelude.{int_le}
 use Rattle.std.proofs.lemmas.Bool.{and_parts, false≢true, eqb-true, eq-eqb, le-leb, leb-true}
 use Rattle.std.proofs.Math.Nat.{eq_of_mul-eq-mul_left, le_of_mul-le-mul_left, mod-add-div, mul-mod_left}
 use Rattle.std.proofs.lemmas.Int.{ints}
-use Rattle.prl_base.specs.Operators.{IsOperatorFor, IsResultClock}
-use Rattle.prl_base.specs.Options.{◌>>=◌}
-use Rattle.prl_base.specs.Values.{IsOfType}
+use Rattle.prl_base.specs.Vocabulary.{IsOperatorFor, IsResultClock, IsOfType}
 use Rattle.prl_base.specs.declared.operators.Clock.{Clock}
 use Rattle.prl_base.specs.declared.operators.Op.{Op}
-use Rattle.prl_base.specs.declared.operators.Op.TheVariants as operators
 use Rattle.prl_base.specs.declared.operators.TheConstants.{MAX_FACTOR}
 use Rattle.prl_base.specs.declared.values.Ty.{Ty}
-use Rattle.prl_base.specs.declared.values.Ty.TheVariants as types
 use Rattle.prl_base.specs.declared.values.Value.{Value}
+use Rattle.prl_base.specs.Options.{◌>>=◌}
+use Rattle.prl_base.specs.declared.operators.Op.TheVariants as operators
+use Rattle.prl_base.specs.declared.values.Ty.TheVariants as types
 use Rattle.prl_base.specs.declared.values.Value.TheVariants as values
 use Rattle.prl_plan.specs.Graphs.{TakeClock}
 use Rattle.prl_plantext.specs.code.Checks.{clock_before, divides, earlier_by, earlier_by_parts, faster, is_factor, is_of_type, is_operator_for, producer_clock}

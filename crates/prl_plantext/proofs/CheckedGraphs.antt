@@ -8,14 +8,14 @@ use Rattle.prl_base.specs.Operators.{IsOperatorFor}
 use Rattle.prl_base.specs.declared.operators.Clock.{Clock}
 use Rattle.prl_base.specs.declared.operators.Op.{Op}
 use Rattle.prl_base.specs.declared.values.Ty.{Ty}
-use Rattle.prl_plan.specs.Graphs.{AreInOrder, AreNumbered, HasOnePort, IsEdge, IsSource, IsTask, IsWellFormed, PortsFollow, TakeClock, is_actuator, is_sensor, jobs_in_hyperperiod}
-use Rattle.prl_plan.specs.Jobs.{no_task, task_at}
+use Rattle.prl_plan.specs.Vocabulary.{AreInOrder, AreNumbered, HasOnePort, IsEdge, IsSource, IsTask, IsWellFormed, PortsFollow, TakeClock, is_actuator, is_sensor, jobs_in_hyperperiod, no_task}
+use Rattle.prl_plan.specs.Vocabulary.{task_at}
 use Rattle.prl_plan.specs.declared.graphs.Edge.{Edge}
 use Rattle.prl_plan.specs.declared.graphs.Producer.{Producer}
-use Rattle.prl_plan.specs.declared.graphs.Producer.TheVariants as producers
 use Rattle.prl_plan.specs.declared.graphs.Task.{Task}
 use Rattle.prl_plan.specs.declared.graphs.TaskGraph.{TaskGraph}
 use Rattle.prl_plan.specs.declared.limits.TheConstants.{MAX_EDGES, MAX_HYPER, MAX_PERIOD_JOBS, MAX_TASKS}
+use Rattle.prl_plan.specs.declared.graphs.Producer.TheVariants as producers
 use Rattle.prl_plantext.specs.code.Checks.{actuators_have_one, are_in_order, are_numbered, comes_with, gives, has_one_port, have_edges, have_own_names, have_tasks, is_edge, is_elsewhere_or_first, is_next, is_operator_for, is_same_clock, is_small, is_source, is_task, is_well_formed, leads_into, may_give, none_counted, ports_follow, producer_clock}
 use Rattle.prl_plantext.proofs.Checked.{HaveOwnNames, Tells, and_tells, told_by, below_tells, both, each_tells, equal_tells, least_tells, numbered_tells, own_names_tell, task_tells}
 use Rattle.prl_plantext.proofs.CheckedEdges.{AreOperatorsFor, clock_so, clock_then, operator_tells, operators_are, type_tells}

@@ -5,19 +5,15 @@ use Rattle.std.proofs.lemmas.List.{ext_get_or}
 use Rattle.std.proofs.lemmas.List.Sums.{sum_by-cons}
 use Rattle.std.proofs.lemmas.Option.{slice_get-get_or}
 use Rattle.prl_base.specs.declared.operators.Op.{Op}
+use Rattle.prl_plan.specs.Vocabulary.{AreLeastCells, Fits, HasCells, IsOverBy, no_used, used_at, Family, encoded_deadline, encoded_release, IsFirstReader, first_reader, IsWellFormed, edge_at, no_edge}
+use Rattle.prl_plan.specs.Vocabulary.{AreWords, IsWordOf, constants_in}
 use Rattle.prl_plan.specs.declared.graphs.Edge.{Edge}
 use Rattle.prl_plan.specs.declared.graphs.Producer.{Producer}
-use Rattle.prl_plan.specs.declared.graphs.Producer.TheVariants as producers
 use Rattle.prl_plan.specs.declared.graphs.TaskGraph.{TaskGraph}
 use Rattle.prl_plan.specs.declared.tables.Used.{Used}
 use Rattle.prl_plan.specs.declared.tables.Window.{Window}
 use Rattle.prl_plan.specs.declared.words.Word.{Word}
-use Rattle.prl_plan.specs.Cells.{AreLeastCells, Fits, HasCells, IsOverBy, no_used, used_at}
-use Rattle.prl_plan.specs.Dates.{Family, encoded_deadline, encoded_release}
-use Rattle.prl_plan.specs.FirstReaders.{IsFirstReader, first_reader}
-use Rattle.prl_plan.specs.Graphs.{IsWellFormed}
-use Rattle.prl_plan.specs.Plans.{edge_at, no_edge}
-use Rattle.prl_plan.specs.Words.{AreWords, IsWordOf, constants_in}
+use Rattle.prl_plan.specs.declared.graphs.Producer.TheVariants as producers
 use Rattle.prl_plan.proofs.ReaderLaws.{is_first_reader}
 use Rattle.prl_plan.proofs.RepeatLaws.{agree_below}
 use Rattle.prl_words.specs.GraphWords.{constant_reads}

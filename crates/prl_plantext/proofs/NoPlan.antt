@@ -1,12 +1,8 @@
 -- A graph at which planning is refused is that of no plan.
 use Rattle.std.proofs.Common.{◌≡◌, ℕ, List, sum, ap, subst, arith}
+use Rattle.prl_plan.specs.Vocabulary.{AreLeastCells, AreEncodedDates, IsWellFormed, AreShortWindows, HaveRoom, IsPlan, PlanView, AreWords}
 use Rattle.prl_plan.specs.declared.graphs.TaskGraph.{TaskGraph}
 use Rattle.prl_plan.specs.declared.tables.Window.{Window}
-use Rattle.prl_plan.specs.Cells.{AreLeastCells}
-use Rattle.prl_plan.specs.Dates.{AreEncodedDates}
-use Rattle.prl_plan.specs.Graphs.{IsWellFormed}
-use Rattle.prl_plan.specs.Plans.{AreShortWindows, HaveRoom, IsPlan, PlanView}
-use Rattle.prl_plan.specs.Words.{AreWords}
 use Rattle.prl_words.specs.GraphWords.{IsWordFault}
 use Rattle.prl_words.specs.declared.graphs.WordFault.{WordFault}
 use Rattle.prl_words.specs.declared.graphs.WordFault.TheVariants as word_faults

@@ -10,13 +10,11 @@ use Rattle.std.specs.Str.Parse.{AllDigits, digits_value}
 use Rattle.std.proofs.lemmas.Bool.{false≢true}
 use Rattle.std.proofs.lemmas.Bool.Decides.{nat_tests}
 use Rattle.std.proofs.lemmas.Fmt.{decimal_is_IsNumeral}
-use Rattle.prl_base.specs.Decimals.{are_digits, decimal_of, integer_of, negative, positive}
-use Rattle.prl_base.specs.Texts.{type_text, value_text}
-use Rattle.prl_base.specs.Values.{FitsValue}
+use Rattle.prl_base.specs.Vocabulary.{are_digits, decimal_of, integer_of, negative, positive, type_text, value_text, FitsValue}
 use Rattle.prl_base.specs.declared.decimals.TheConstants.{MAX_NEGATIVE, MAX_POSITIVE}
 use Rattle.prl_base.specs.declared.values.Ty.{Ty}
-use Rattle.prl_base.specs.declared.values.Ty.TheVariants as types
 use Rattle.prl_base.specs.declared.values.Value.{Value}
+use Rattle.prl_base.specs.declared.values.Ty.TheVariants as types
 use Rattle.prl_base.specs.declared.values.Value.TheVariants as values
 use Rattle.prl_plantext.specs.code.Graphs.{number_in, or_small, small_in, type_in, value_in}
 use Rattle.prl_plantext.proofs.Bytes.{Lacks, NoDigit, decimal_lacks, decimal_some, signed_lacks}

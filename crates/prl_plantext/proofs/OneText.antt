@@ -1,7 +1,6 @@
 -- A text is that of one plan at most, and its graph is that plan's.
 use Rattle.std.proofs.Common.{◌≡◌, ℕ, List, ap, sym, ◌∙◌, subst, Result, Ok, Err, MatchResult}
-use Rattle.prl_plan.specs.Graphs.{IsWellFormed}
-use Rattle.prl_plan.specs.Plans.{IsPlan, PlanView}
+use Rattle.prl_plan.specs.Vocabulary.{IsWellFormed, IsPlan, PlanView}
 use Rattle.prl_plan.specs.declared.graphs.TaskGraph.{TaskGraph}
 use Rattle.prl_plantext.specs.PlanTexts.{plan_text}
 use Rattle.prl_plantext.specs.ReadTexts.{IsTextFault, IsTextOf}

@@ -3,24 +3,22 @@ use Rattle.std.proofs.Common.{◌≡◌, ◌==◌, ◌++◌, ◌<◌, ℕ, ℤ, 
 use Rattle.std.specs.List.{flat_map, list_all}
 use Rattle.std.specs.Fmt.{signed_decimal}
 use Rattle.std.proofs.lemmas.Bool.{and_parts, false≢true, eqb-true}
-use Rattle.prl_base.specs.Names.{IsName, is_word_byte, is_word_start}
-use Rattle.prl_base.specs.Ratios.{Fraction}
-use Rattle.prl_base.specs.Texts.{fraction_text, type_text, value_text}
+use Rattle.prl_base.specs.Vocabulary.{IsName, is_word_byte, is_word_start, Fraction, fraction_text, type_text, value_text}
 use Rattle.prl_base.specs.declared.operators.Op.{Op}
-use Rattle.prl_base.specs.declared.operators.Op.TheVariants as operators
 use Rattle.prl_base.specs.declared.values.Ty.{Ty}
-use Rattle.prl_base.specs.declared.values.Ty.TheVariants as types
 use Rattle.prl_base.specs.declared.values.Value.{Value}
+use Rattle.prl_base.specs.declared.operators.Op.TheVariants as operators
+use Rattle.prl_base.specs.declared.values.Ty.TheVariants as types
 use Rattle.prl_base.specs.declared.values.Value.TheVariants as values
 use Rattle.prl_plan.specs.Graphs.{IsTaskName}
 use Rattle.prl_plan.specs.declared.graphs.Edge.{Edge}
 use Rattle.prl_plan.specs.declared.graphs.Kind.{Kind}
-use Rattle.prl_plan.specs.declared.graphs.Kind.TheVariants as kinds
 use Rattle.prl_plan.specs.declared.graphs.Producer.{Producer}
-use Rattle.prl_plan.specs.declared.graphs.Producer.TheVariants as producers
 use Rattle.prl_plan.specs.declared.graphs.Task.{Task}
 use Rattle.prl_plan.specs.declared.tables.Window.{Window}
 use Rattle.prl_plan.specs.declared.words.Word.{Word}
+use Rattle.prl_plan.specs.declared.graphs.Kind.TheVariants as kinds
+use Rattle.prl_plan.specs.declared.graphs.Producer.TheVariants as producers
 use Rattle.prl_plantext.specs.PlanTexts.{cells_words, dates_words, edge_words, kind_text, operator_words, operators_words, pair_text, producer_words, task_words, window_text, word_words}
 use Rattle.prl_plantext.proofs.Bytes.{Lacks, decimal_lacks, decimal_some, lacks_append, lacks_cons, signed_lacks, signed_some, word_bytes_lack}
 use Rattle.prl_plantext.proofs.Cuts.{ArePrinted, IsPrinted, printed_of_two}

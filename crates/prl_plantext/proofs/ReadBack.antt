@@ -6,22 +6,18 @@ use Rattle.std.specs.Str.{bytes_eq}
 use Rattle.std.proofs.lemmas.Bool.{eqb-true}
 use Rattle.std.proofs.lemmas.Bool.Decides.{nat_tests}
 use Rattle.std.proofs.lemmas.Int.{ints}
-use Rattle.prl_base.specs.Decimals.{decimal_of}
-use Rattle.prl_base.specs.Operators.{IsOperatorFor}
-use Rattle.prl_base.specs.Ratios.{Fraction, IsSmallFraction}
-use Rattle.prl_base.specs.Texts.{fraction_text, type_text}
-use Rattle.prl_base.specs.Values.{FitsValue}
+use Rattle.prl_base.specs.Vocabulary.{decimal_of, IsOperatorFor, Fraction, IsSmallFraction, fraction_text, type_text, FitsValue}
 use Rattle.prl_base.specs.declared.operators.Op.{Op}
-use Rattle.prl_base.specs.declared.operators.Op.TheVariants as operators
 use Rattle.prl_base.specs.declared.ratios.TheConstants.{MAX_PART}
 use Rattle.prl_base.specs.declared.values.Ty.{Ty}
+use Rattle.prl_base.specs.declared.operators.Op.TheVariants as operators
+use Rattle.prl_plan.specs.Representable.{HasSmallShift}
 use Rattle.prl_plan.specs.declared.graphs.Edge.{Edge}
 use Rattle.prl_plan.specs.declared.graphs.Kind.{Kind}
 use Rattle.prl_plan.specs.declared.graphs.Producer.{Producer}
-use Rattle.prl_plan.specs.declared.graphs.Producer.TheVariants as producers
 use Rattle.prl_plan.specs.declared.graphs.Task.{Task}
+use Rattle.prl_plan.specs.declared.graphs.Producer.TheVariants as producers
 use Rattle.prl_plantext.specs.PlanTexts.{edge_words, kind_text, operator_words, operators_words, pair_text, producer_words, task_words}
-use Rattle.prl_plan.specs.Representable.{HasSmallShift}
 use Rattle.prl_plantext.specs.code.Graphs.{after, after_producer, before, count_named, edge_after, edge_in, first_of, fraction_in, fraction_or_none, is_reduced, is_small_fraction, kind_named, number_in, operators_in, producer_in, rest_of, small_in, task_in, type_in, value_in}
 use Rattle.prl_plantext.proofs.Bytes.{decimal_lacks, lacks_append, lacks_cons}
 use Rattle.prl_plantext.proofs.Cuts.{after_at, after_none, before_at, before_none}

@@ -7,18 +7,17 @@ use Rattle.prl_base.specs.Operators.{IsOperatorFor}
 use Rattle.prl_base.specs.declared.operators.Clock.{Clock}
 use Rattle.prl_base.specs.declared.operators.Op.{Op}
 use Rattle.prl_base.specs.declared.values.Ty.{Ty}
-use Rattle.prl_plan.specs.Graphs.{AreInOrder, AreNumbered, Divides, IsEdge, IsSource, IsTask, IsTaskName, IsWellFormed, PortsFollow, TakeClock}
-use Rattle.prl_plan.specs.Plans.{PlanView, IsPlan}
+use Rattle.prl_plan.specs.Vocabulary.{AreInOrder, AreNumbered, Divides, IsEdge, IsSource, IsTask, IsTaskName, IsWellFormed, PortsFollow, TakeClock, PlanView, IsPlan, HasSmallOutput, HasSmallShift}
+use Rattle.prl_plan.specs.Vocabulary.{IsRepresentable}
 use Rattle.prl_plan.specs.declared.graphs.Edge.{Edge}
 use Rattle.prl_plan.specs.declared.graphs.Kind.{Kind}
-use Rattle.prl_plan.specs.declared.graphs.Kind.TheVariants as kinds
 use Rattle.prl_plan.specs.declared.graphs.Producer.{Producer}
-use Rattle.prl_plan.specs.declared.graphs.Producer.TheVariants as producers
 use Rattle.prl_plan.specs.declared.graphs.Task.{Task}
 use Rattle.prl_plan.specs.declared.graphs.TaskGraph.{TaskGraph}
 use Rattle.prl_plan.specs.declared.limits.TheConstants.{MAX_EDGES, MAX_HYPER, MAX_TASKS}
+use Rattle.prl_plan.specs.declared.graphs.Kind.TheVariants as kinds
+use Rattle.prl_plan.specs.declared.graphs.Producer.TheVariants as producers
 use Rattle.prl_plantext.specs.PlanTexts.{cells_line_words, cells_words, dates_words, edge_words, kind_text, line, numbered, plan_text, task_words, word_words}
-use Rattle.prl_plan.specs.Representable.{HasSmallOutput, HasSmallShift, IsRepresentable}
 use Rattle.prl_plantext.specs.code.Graphs.{count_named, empty, first_of, graph_of, kind_named, lines_in, rest_of, with_lines, with_words}
 use Rattle.prl_plantext.proofs.Cuts.{ArePrinted, lines_of_line, words_of_line}
 use Rattle.prl_plantext.proofs.Numbers.{number_of_decimal}

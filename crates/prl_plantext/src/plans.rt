@@ -1,8 +1,7 @@
 //! The plan of a text.
 
 ghost use Rattle.std.specs.Prelude.{◌≡◌, ℕ, List, MatchResult};
-ghost use Rattle.prl_plan.specs.Graphs.{IsWellFormed};
-ghost use Rattle.prl_plan.specs.Plans.{PlanView, IsPlan};
+ghost use Rattle.prl_plan.specs.Vocabulary.{IsWellFormed, PlanView, IsPlan};
 ghost use Rattle.prl_plantext.specs.ReadTexts.{IsTextFault, IsTextOf};
 ghost use Rattle.prl_plantext.specs.code.Graphs.{graph_of};
 ghost use Rattle.prl_plantext.specs.code.Planned.{IsGraphFault, IsOtherText};

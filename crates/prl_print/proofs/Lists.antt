@@ -3,8 +3,8 @@ use Rattle.std.proofs.Common.{◌≡◌, ◌+◌, ◌<◌, ℕ, suc, codes, List
 use Rattle.std.proofs.lemmas.Bool.Decides.{nat_tests}
 use Rattle.std.proofs.lemmas.List.{append-nil, take_more, map_push, flat_map_more, length-map, length-take-le}
 use Rattle.std.specs.List.{flat_map}
-use Rattle.prl_ast.specs.declared.expressions.Expr.{Expr}
 use Rattle.prl_ast.specs.Trees.{Tree, tree_of}
+use Rattle.prl_ast.specs.declared.expressions.Expr.{Expr}
 use Rattle.prl_syntax.specs.Trees.{trees_from}
 use Rattle.prl_print.specs.Printing.{comma_before, printed_tree, printed_trees, printed_others}
 

@@ -4,24 +4,19 @@ use Rattle.std.proofs.lemmas.List.{append-nil, length-map}
 use Rattle.std.proofs.lemmas.Int.{ints}
 use Rattle.std.specs.List.{AllByRecursion}
 use Rattle.prl_base.specs.Values.{FitsValue}
+use Rattle.prl_ast.specs.Vocabulary.{IsCount, IsShift, IsRate, IsDue, IfThere, IsInRange, IsParamInRange, IsPrefix, IsPostfix, IsRootInRange, IsEquationInRange, Tree, Root, group, Trees, ProgramTree}
 use Rattle.prl_ast.specs.declared.declarations.Placed.{Placed}
-use Rattle.prl_ast.specs.InRange.{IsCount, IsShift, IsRate, IsDue, IfThere, IsInRange, IsParamInRange, IsPrefix, IsPostfix, IsRootInRange, IsEquationInRange}
-use Rattle.prl_grammar.specs.Lexemes.{Lexeme}
-use Rattle.prl_grammar.specs.Lexing.{lexemes_of}
-use Rattle.prl_grammar.specs.Productions.{inner}
+use Rattle.prl_grammar.specs.Vocabulary.{Lexeme, lexemes_of, inner, within, nested}
+use Rattle.prl_syntax.specs.Vocabulary.{class_of, program_vocabulary, StemTree, joined, param_of, note_or, first_note, params_of, port_of, root_of_name, trees_from, Declared, with_declared}
+use Rattle.prl_syntax.specs.Vocabulary.{program_of, Grammar, Const, Ratio, Postfix, Expr, Exprs, Base, Prefix, AfterConst, Stem, programs, Name, Names, Left, Equation, TypeName, Rate, Due}
+use Rattle.prl_syntax.specs.Vocabulary.{Note as NoteText, Item as ItemText, Run, Params, EndedRun, Locals, PortGroup, NextGroup, Ports, Wcet, Import, Device, Node, Declaration, Program, IsProgramOf}
 use Rattle.prl_syntax.specs.declared.words.Fixed.{Fixed}
 use Rattle.prl_syntax.specs.declared.parameters.Note.{Note}
 use Rattle.prl_syntax.specs.declared.parameters.Item.{Item}
-use Rattle.prl_syntax.specs.Words.{class_of, program_vocabulary}
-use Rattle.prl_syntax.specs.Trees.{StemTree, joined, param_of, note_or, first_note, params_of, port_of, root_of_name, trees_from, Declared, with_declared, program_of}
-use Rattle.prl_syntax.specs.Grammar.{Grammar, Const, Ratio, Postfix, Expr, Exprs, Base, Prefix, AfterConst, Stem, programs, Name, Names, Left, Equation, TypeName, Rate, Due, Note as NoteText, Item as ItemText, Run, Params, EndedRun, Locals, PortGroup, NextGroup, Ports, Wcet, Import, Device, Node, Declaration, Program}
-use Rattle.prl_syntax.specs.Parsing.{IsProgramOf}
 use Rattle.prl_print.proofs.Fractions.{is_shift}
 use Rattle.prl_print.proofs.Own.{IsOwnName, IsOwnPlaced, IsOwnPort, IsOwnParam, IsOwnImport, IsOwnDevice, all_of, IsFreeRoot, IsOwnTree, AreOwnTrees, IsOwnEquation, IsOwnNode, AreOwn}
 use Rattle.prl_print.proofs.Source.{deeper, Fine, fine, Sure, Any, Counting, s_action, s_both, s_either, s_give, s_many, s_placed, s_deep, s_at, s_place, s_close, s_named, s_number, s_count, s_second, s_first, s_maybe, s_list, s_parens, s_perhaps}
 use Rattle.prl_base.specs.declared.operators.Op.TheVariants as ops
-use Rattle.prl_ast.specs.Trees.{Tree, Root, group, Trees, ProgramTree}
-use Rattle.prl_grammar.specs.Language.{within, nested}
 use Rattle.prl_syntax.specs.declared.words.Fixed.TheVariants as fixed
 
 abbrev pub IsSome : {X : Type 0} → List X → Type 0

@@ -2,13 +2,14 @@
 use Rattle.std.specs.Prelude.{◌≡◌, List, [], ◌∷◌, None, ℕ}
 use Rattle.std.specs.List.{AllByRecursion}
 use Rattle.prl_base.specs.Names.{IsName}
+use Rattle.prl_ast.specs.Vocabulary.{IsParamInRange, IsImportInRange, IsCount, IsTreeInRange, AreTreesInRange, IsEquationInRange, IsNodeInRange, Tree, Root, const, var, apply, group, Trees, none}
+use Rattle.prl_ast.specs.Vocabulary.{more, EquationTree, NodeTree, ProgramTree}
 use Rattle.prl_ast.specs.declared.declarations.Device.{Device}
 use Rattle.prl_ast.specs.declared.declarations.Import.{Import}
 use Rattle.prl_ast.specs.declared.declarations.Param.{Param}
 use Rattle.prl_ast.specs.declared.declarations.Placed.{Placed}
 use Rattle.prl_ast.specs.declared.declarations.Port.{Port}
-use Rattle.prl_ast.specs.InRange.{IsParamInRange, IsImportInRange, IsCount, IsTreeInRange, AreTreesInRange, IsEquationInRange, IsNodeInRange}
-use Rattle.prl_ast.specs.Trees.{Tree, tree, Root, const, var, apply, group, Trees, none, more, EquationTree, NodeTree, ProgramTree}
+use Rattle.prl_ast.specs.Trees.{tree}
 use Rattle.prl_syntax.specs.Words.{keyword_of}
 
 abbrev pub IsOwnName : List ℕ → Type 0

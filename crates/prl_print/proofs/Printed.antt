@@ -8,22 +8,15 @@ use Rattle.std.proofs.lemmas.List.Folds.{flat_map-map}
 use Rattle.std.proofs.Math.Seq.{drop-append_seam}
 use Rattle.std.specs.Char.{is_ascii_digit}
 use Rattle.std.specs.List.{flat_map, AllByRecursion}
-use Rattle.prl_base.specs.declared.decimals.TheConstants.{MAX_NEGATIVE}
 use Rattle.prl_base.specs.Names.{is_word}
+use Rattle.prl_base.specs.declared.decimals.TheConstants.{MAX_NEGATIVE}
+use Rattle.prl_lex.specs.Vocabulary.{is_blank, is_one_byte_symbol, is_two_byte_symbol, depth_after}
 use Rattle.prl_lex.specs.declared.tokens.Kind.{Kind}
-use Rattle.prl_lex.specs.Tokens.{is_blank, is_one_byte_symbol, is_two_byte_symbol}
-use Rattle.prl_lex.specs.Lexing.{depth_after}
-use Rattle.prl_grammar.specs.Lexemes.{Lexeme, first_place}
-use Rattle.prl_grammar.specs.Language.{Text}
-use Rattle.prl_grammar.specs.Lexing.{word_lexeme}
-use Rattle.prl_grammar.specs.Productions.{token, give, action, both, either, many, placed, inner}
+use Rattle.prl_grammar.specs.Vocabulary.{Lexeme, first_place, Text, word_lexeme, token, give, action, both, either, many, placed, inner, ◌⊳◌, ◌⊲◌, named, number}
 use Rattle.prl_grammar.proofs.Growing.{to_nested}
-use Rattle.prl_grammar.specs.Combinators.{◌⊳◌, ◌⊲◌, named, number}
+use Rattle.prl_syntax.specs.Vocabulary.{class_of, keyword_of, symbol_of, Grammar, the, programs, Stem, StemTree}
 use Rattle.prl_syntax.specs.declared.words.Fixed.{Fixed}
 use Rattle.prl_syntax.specs.declared.words.Fixed.TheVariants as fixed
-use Rattle.prl_syntax.specs.Words.{class_of, keyword_of, symbol_of}
-use Rattle.prl_syntax.specs.Grammar.{Grammar, the, programs, Stem}
-use Rattle.prl_syntax.specs.Trees.{StemTree}
 use Rattle.prl_print.proofs.Tokens.{constant, part, loud, wordy, State, state, state_after, Scan, scan_loud, scan_blank, a_lexeme, IsToken, scan_token, word_token, digits_token, goes_on, symbol_token, one_byte}
 use Rattle.prl_print.proofs.Own.{IsOwnName}
 use Rattle.prl_print.specs.Printing.{separated}

@@ -6,16 +6,16 @@ use Rattle.std.proofs.lemmas.Grind.{flat_map-append}
 use Rattle.std.proofs.lemmas.List.{append-nil, map-append}
 use Rattle.std.specs.Fmt.{signed_decimal}
 use Rattle.std.specs.List.{flat_map, AllByRecursion}
+use Rattle.prl_base.specs.Vocabulary.{Fraction, value_text, fraction_text, type_text, FitsValue}
 use Rattle.prl_base.specs.declared.decimals.TheConstants.{MAX_NEGATIVE, MAX_POSITIVE}
 use Rattle.prl_base.specs.declared.operators.Op.{Op}
-use Rattle.prl_base.specs.declared.operators.Op.TheVariants as ops
 use Rattle.prl_base.specs.declared.values.Ty.{Ty}
-use Rattle.prl_base.specs.declared.values.Ty.TheVariants as types
 use Rattle.prl_base.specs.declared.values.Value.{Value}
+use Rattle.prl_base.specs.declared.operators.Op.TheVariants as ops
+use Rattle.prl_base.specs.declared.values.Ty.TheVariants as types
 use Rattle.prl_base.specs.declared.values.Value.TheVariants as values
-use Rattle.prl_base.specs.Ratios.{Fraction}
-use Rattle.prl_base.specs.Texts.{value_text, fraction_text, type_text}
-use Rattle.prl_base.specs.Values.{FitsValue}
+use Rattle.prl_ast.specs.Vocabulary.{IsCount, IsShift, IsRate, IsDue, IfThere, IsPrefix, IsPostfix, IsTreeInRange, IsRootInRange, AreTreesInRange, Tree, Root, const, var, apply, group, Trees, none}
+use Rattle.prl_ast.specs.Vocabulary.{more, EquationTree, NodeTree, ProgramTree}
 use Rattle.prl_ast.specs.declared.declarations.Device.{Device}
 use Rattle.prl_ast.specs.declared.declarations.Import.{Import}
 use Rattle.prl_ast.specs.declared.declarations.Param.{Param}
@@ -23,23 +23,17 @@ use Rattle.prl_ast.specs.declared.declarations.Placed.{Placed}
 use Rattle.prl_ast.specs.declared.declarations.Port.{Port}
 use Rattle.prl_ast.specs.declared.declarations.Rate.{Rate}
 use Rattle.prl_ast.specs.declared.expressions.PlacedOp.{PlacedOp}
-use Rattle.prl_ast.specs.InRange.{IsCount, IsShift, IsRate, IsDue, IfThere, IsPrefix, IsPostfix, IsTreeInRange, IsRootInRange, AreTreesInRange}
-use Rattle.prl_ast.specs.Trees.{Tree, tree, Root, const, var, apply, group, Trees, none, more, EquationTree, NodeTree, ProgramTree}
+use Rattle.prl_ast.specs.Trees.{tree}
 use Rattle.prl_lex.specs.Lexing.{tokens_from}
-use Rattle.prl_grammar.specs.Combinators.{◌⊳◌, ◌&◌, maybe, list_of, number}
-use Rattle.prl_grammar.specs.Language.{Text}
-use Rattle.prl_grammar.specs.Numbers.{positive, negative}
-use Rattle.prl_grammar.specs.Productions.{many}
-use Rattle.prl_grammar.specs.Ranges.{out_of_range}
-use Rattle.prl_grammar.specs.Texts.{IsTextOf}
+use Rattle.prl_grammar.specs.Vocabulary.{◌⊳◌, ◌&◌, maybe, list_of, number, Text, positive, negative, many, out_of_range, IsTextOf}
+use Rattle.prl_syntax.specs.Vocabulary.{program_texts, in_range, program_ranges, small, ratio_with, ratio_of, joined, param_of, note_or, params_of, port_of, StemTree, prefixed, root_of_name}
+use Rattle.prl_syntax.specs.Vocabulary.{trees_from, Declared, imported, sensor, actuator, with_declared, program_of, Grammar, the, in_parens, maybe_in_parens, Const, Ratio, Name, Names, TypeName}
+use Rattle.prl_syntax.specs.Vocabulary.{Rate as RateText, Due, Note as NoteText, Item as ItemText, Run, Params, EndedRun, Locals, PortGroup, NextGroup, Ports, Wcet, Import as ImportText}
+use Rattle.prl_syntax.specs.Vocabulary.{Device as DeviceText, programs, Postfix, Expr, Exprs, Base, Prefix, AfterConst, Stem, Left, Equation, Node, Declaration, Program}
 use Rattle.prl_syntax.specs.declared.words.Fixed.{Fixed}
-use Rattle.prl_syntax.specs.declared.words.Fixed.TheVariants as fixed
 use Rattle.prl_syntax.specs.declared.parameters.Note.{Note}
-use Rattle.prl_syntax.specs.Parsing.{program_texts}
-use Rattle.prl_syntax.specs.Ranges.{in_range, program_ranges}
-use Rattle.prl_syntax.specs.Values.{small, ratio_with, ratio_of}
-use Rattle.prl_syntax.specs.Trees.{joined, param_of, note_or, params_of, port_of, StemTree, prefixed, root_of_name, trees_from, Declared, imported, sensor, actuator, node, with_declared, program_of}
-use Rattle.prl_syntax.specs.Grammar.{Grammar, the, in_parens, maybe_in_parens, Const, Ratio, Name, Names, TypeName, Rate as RateText, Due, Note as NoteText, Item as ItemText, Run, Params, EndedRun, Locals, PortGroup, NextGroup, Ports, Wcet, Import as ImportText, Device as DeviceText, programs, Postfix, Expr, Exprs, Base, Prefix, AfterConst, Stem, Left, Equation, Node, Declaration, Program}
+use Rattle.prl_syntax.specs.Trees.{node}
+use Rattle.prl_syntax.specs.declared.words.Fixed.TheVariants as fixed
 use Rattle.prl_print.specs.Places.{nowhere, unplaced_port, unplaced_param, unplaced_device, unplaced_import, unplaced_name, unplaced_operator, unplaced_tree, unplaced_root, unplaced_trees, unplaced_equation, unplaced_node, unplaced}
 use Rattle.prl_print.specs.Printing.{printed_rate, printed_due, part, printed_note, printed_param, printed_params, printed_locals, printed_port, printed_ports, printed_wcet, printed_import, printed_device, separated, name_of, printed_operator, printed_operators, printed_tree, printed_root, printed_others, printed_lefts, printed_equation, printed_node, printed}
 use Rattle.prl_print.proofs.Tokens.{constant, part as a_part, loud, wordy, State, state, state_after, scan_end}

@@ -6,29 +6,20 @@ use Rattle.std.proofs.lemmas.List.{drop-drop, length-take-le}
 use Rattle.std.proofs.lemmas.Slice.Eq.{bytes_eq-Decides}
 use Rattle.std.specs.List.{list_all, AllByRecursion}
 use Rattle.std.specs.Str.{bytes_eq}
-use Rattle.prl_base.specs.Names.{is_word, IsName}
-use Rattle.prl_base.specs.Reading.{◌>>=◌}
-use Rattle.prl_lex.specs.declared.tokens.Kind.{Kind}
+use Rattle.prl_base.specs.Vocabulary.{is_word, IsName, ◌>>=◌}
+use Rattle.prl_lex.specs.Vocabulary.{kind_of, piece_of, FitsPiece, token_text, token_at, depth_after, checked, with_piece, tokens_from}
 use Rattle.prl_lex.specs.declared.tokens.Kind.TheVariants.{Word, Number, Symbol}
-use Rattle.prl_lex.specs.declared.tokens.Token.{Token}
-use Rattle.prl_lex.specs.declared.tokens.LexFault.{LexFault}
 use Rattle.prl_lex.specs.declared.pieces.Piece.{Piece}
+use Rattle.prl_lex.specs.declared.tokens.Kind.{Kind}
+use Rattle.prl_lex.specs.declared.tokens.LexFault.{LexFault}
+use Rattle.prl_lex.specs.declared.tokens.Token.{Token}
 use Rattle.prl_lex.specs.declared.pieces.Piece.TheVariants as pieces
-use Rattle.prl_lex.specs.Tokens.{kind_of, piece_of, FitsPiece}
-use Rattle.prl_lex.specs.Lexing.{token_text, token_at, depth_after, checked, with_piece, tokens_from}
 use Rattle.prl_lex.proofs.Fits.{piece_of_fits}
 use Rattle.prl_ast.specs.InRange.{IfThere, IsCount}
-use Rattle.prl_grammar.specs.Lexemes.{Lexeme}
-use Rattle.prl_grammar.specs.Lexing.{class_in, symbol_class, word_lexeme, kind_lexeme, lexeme_of, lexemes_of}
-use Rattle.prl_grammar.specs.Ranges.{inside_after, is_fault, out_of_range}
-use Rattle.prl_grammar.specs.Combinators.{◌⊳◌, ◌⊲◌, maybe, list_of, place, named, number}
-use Rattle.prl_grammar.specs.Productions.{token, give, action, both, either, many, placed, written}
+use Rattle.prl_grammar.specs.Vocabulary.{Lexeme, class_in, symbol_class, word_lexeme, kind_lexeme, lexeme_of, lexemes_of, inside_after, is_fault, out_of_range, ◌⊳◌, ◌⊲◌, maybe, list_of, place, named}
+use Rattle.prl_grammar.specs.Vocabulary.{number, token, give, action, both, either, many, placed, written}
+use Rattle.prl_syntax.specs.Vocabulary.{keyword_of, symbol_of, program_vocabulary, program_ranges, is_count, Grammar, in_parens, maybe_in_parens, StemTree, small}
 use Rattle.prl_syntax.specs.declared.words.TheConstants.{KEYWORDS, SYMBOLS}
-use Rattle.prl_syntax.specs.Words.{keyword_of, symbol_of, program_vocabulary}
-use Rattle.prl_syntax.specs.Ranges.{program_ranges, is_count}
-use Rattle.prl_syntax.specs.Grammar.{Grammar, in_parens, maybe_in_parens}
-use Rattle.prl_syntax.specs.Trees.{StemTree}
-use Rattle.prl_syntax.specs.Values.{small}
 use Rattle.prl_print.proofs.Own.{IsOwnName}
 
 -- the open parentheses after a token of the class

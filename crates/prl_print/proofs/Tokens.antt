@@ -9,21 +9,17 @@ use Rattle.std.specs.List.{list_all, prefix_len}
 use Rattle.std.specs.Str.Parse.{AllDigits, digits_value}
 use Rattle.prl_base.specs.Names.{is_word_start, is_word_byte, IsName}
 use Rattle.prl_base.specs.declared.decimals.TheConstants.{MAX_POSITIVE}
-use Rattle.prl_lex.specs.declared.tokens.Kind.{Kind}
+use Rattle.prl_lex.specs.Vocabulary.{is_blank, begins, piece_of, FitsPiece, is_one_byte_symbol, is_two_byte_symbol, is_symbol, token_by_first, symbol_by_bytes, token_text}
 use Rattle.prl_lex.specs.declared.tokens.Kind.TheVariants.{Word, Number, Symbol}
+use Rattle.prl_lex.specs.Vocabulary.{depth_after, checked, tokens_from}
+use Rattle.prl_lex.specs.declared.tokens.Kind.{Kind}
 use Rattle.prl_lex.specs.declared.tokens.Token.{Token}
 use Rattle.prl_lex.specs.declared.pieces.Piece.TheVariants as pieces
-use Rattle.prl_lex.specs.Tokens.{is_blank, begins, piece_of, FitsPiece, is_one_byte_symbol, is_two_byte_symbol, is_symbol}
-use Rattle.prl_lex.specs.FirstByte.{token_by_first, symbol_by_bytes}
-use Rattle.prl_lex.specs.Lexing.{token_text, depth_after, checked, tokens_from}
 use Rattle.prl_lex.proofs.Fits.{piece_of_fits}
 use Rattle.prl_lex.proofs.Longest.{token_by_first_longest}
 use Rattle.prl_lex.proofs.Steps.{step}
-use Rattle.prl_grammar.specs.Lexemes.{Lexeme}
-use Rattle.prl_grammar.specs.Lexing.{word_lexeme, symbol_class, kind_lexeme, lexemes_of}
-use Rattle.prl_grammar.specs.Ranges.{inside_after, is_fault, out_of_range}
-use Rattle.prl_syntax.specs.Ranges.{in_range, program_ranges}
-use Rattle.prl_syntax.specs.Words.{keyword_of, symbol_of, program_vocabulary}
+use Rattle.prl_grammar.specs.Vocabulary.{Lexeme, word_lexeme, symbol_class, kind_lexeme, lexemes_of, inside_after, is_fault, out_of_range}
+use Rattle.prl_syntax.specs.Vocabulary.{in_range, program_ranges, keyword_of, symbol_of, program_vocabulary}
 
 -- the numbers that may come next: constants, parts of ratios and dues, or counts
 abbrev pub constant : ℕ → Bool

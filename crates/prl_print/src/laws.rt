@@ -1,8 +1,7 @@
 //! Laws of programs of texts, as functions that do nothing: the contract of each is the law, over the definitions alone.
 
 ghost use Rattle.std.specs.Prelude.{ℕ, List, Ok};
-ghost use Rattle.prl_ast.specs.InRange.{IsInRange};
-ghost use Rattle.prl_ast.specs.Trees.{ProgramTree};
+ghost use Rattle.prl_ast.specs.Vocabulary.{IsInRange, ProgramTree};
 ghost use Rattle.prl_print.specs.Printing.{printed};
 ghost use Rattle.prl_print.specs.RoundTrip.{IsTextOf};
 ghost use Rattle.prl_syntax.specs.Parsing.{IsParsed, IsProgramOf};

@@ -2,8 +2,7 @@
 
 ghost use Rattle.std.specs.Prelude.{◌≡◌, ◌<◌, ◌^◌, Ok, IfOk, IfSome, length};
 ghost use Rattle.std.specs.Option.{option_copied};
-ghost use Rattle.prl_ast.specs.InRange.{IsInRange};
-ghost use Rattle.prl_ast.specs.Trees.{program_tree};
+ghost use Rattle.prl_ast.specs.Vocabulary.{IsInRange, program_tree};
 ghost use Rattle.prl_syntax.specs.Parsing.{IsParsed};
 ghost use Rattle.prl_types.specs.Typing.{IsTyped};
 ghost use Rattle.prl_clock.specs.Outcomes.{AreOnlyClocks};

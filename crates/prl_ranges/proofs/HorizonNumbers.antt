@@ -1,10 +1,8 @@
 -- The numbers of a horizon are within its limits.
 use Rattle.std.proofs.Common.{◌<◌, ◌≤◌, ℕ, length, arith}
+use Rattle.prl_plan.specs.Vocabulary.{sum_below, IsHorizon, constants_of, task_at, job_count, PlanView}
 use Rattle.prl_plan.specs.declared.horizons.Horizon.{Horizon}
 use Rattle.prl_plan.specs.declared.limits.TheConstants.{MAX_JOBS, MAX_EVENTS}
-use Rattle.prl_plan.specs.Horizons.{sum_below, IsHorizon, constants_of}
-use Rattle.prl_plan.specs.Jobs.{task_at, job_count}
-use Rattle.prl_plan.specs.Plans.{PlanView}
 use Rattle.prl_plan.proofs.PartsOfSums.{part_of_sum}
 
 pub jobs_small : (plan : PlanView) (h : Horizon) → IsHorizon plan h → (i : ℕ) → i < length plan.graph.tasks → (constants_of plan h).jobs i ≤ MAX_JOBS

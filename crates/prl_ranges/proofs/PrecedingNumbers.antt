@@ -2,11 +2,8 @@
 use Rattle.std.proofs.Common.{◌*◌, ◌<◌, ◌≤◌, ◌^◌, ℕ, length, arith}
 use Rattle.std.specs.Prelude.{ℤ, nat_abs}
 use Rattle.std.proofs.Math.Nat.{mul-le-mul_left, mul-le-mul_right}
+use Rattle.prl_plan.specs.Vocabulary.{task_at, IsWellFormed, PrecedingFits, edge_at}
 use Rattle.prl_plan.specs.declared.graphs.TaskGraph.{TaskGraph}
-use Rattle.prl_plan.specs.Jobs.{task_at}
-use Rattle.prl_plan.specs.Graphs.{IsWellFormed}
-use Rattle.prl_plan.specs.Ranges.{PrecedingFits}
-use Rattle.prl_plan.specs.Plans.{edge_at}
 use Rattle.prl_plan.proofs.PlanNumbers.{edge_fact}
 use Rattle.prl_plan.proofs.WalkNumbers.{preceding_fits}
 

@@ -4,18 +4,14 @@ use Rattle.std.specs.Prelude.{ℤ, pos, ◌+ℤ◌, slice_get}
 use Rattle.std.proofs.lemmas.Int.{ints}
 use Rattle.std.proofs.lemmas.Option.{slice_get-get_or}
 use Rattle.prl_base.specs.Operators.{IsOperatorFor}
-use Rattle.prl_base.specs.declared.values.Ty.{Ty}
 use Rattle.prl_base.specs.declared.operators.Clock.{Clock}
 use Rattle.prl_base.specs.declared.operators.Op.{Op}
+use Rattle.prl_base.specs.declared.values.Ty.{Ty}
+use Rattle.prl_plan.specs.Vocabulary.{IsWellFormed, IsEdge, TakeClock, Divides, task_at, preceding, IsWordOf, RepeatsAfter, number_at, edge_at, no_edge}
 use Rattle.prl_plan.specs.declared.graphs.Edge.{Edge}
 use Rattle.prl_plan.specs.declared.graphs.TaskGraph.{TaskGraph}
-use Rattle.prl_plan.specs.declared.walks.Operand.TheVariants as operands
 use Rattle.prl_plan.specs.declared.words.Word.{Word}
-use Rattle.prl_plan.specs.Graphs.{IsWellFormed, IsEdge, TakeClock, Divides}
-use Rattle.prl_plan.specs.Jobs.{task_at}
-use Rattle.prl_plan.specs.Precedence.{preceding}
-use Rattle.prl_plan.specs.Words.{IsWordOf, RepeatsAfter, number_at}
-use Rattle.prl_plan.specs.Plans.{edge_at, no_edge}
+use Rattle.prl_plan.specs.declared.walks.Operand.TheVariants as operands
 use Rattle.prl_plan.proofs.Periods.{preceding_shift}
 use Rattle.prl_plan.proofs.PlanNumbers.{walked_within}
 use Rattle.prl_plan.proofs.ReaderLaws.{reads_from, never_before}

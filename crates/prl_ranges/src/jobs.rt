@@ -3,16 +3,16 @@
 ghost use Rattle.std.specs.Prelude.{◌≡◌, ◌*◌, ◌<◌, ◌≤◌, ℕ, ℤ, pos, ◌+ℤ◌, ◌≤ℤ◌, List, length, IsSome, Some, slice_get};
 ghost use Rattle.prl_base.specs.Values.{IsOfType};
 ghost use Rattle.prl_base.specs.declared.values.Value.{Value};
+ghost use Rattle.prl_plan.specs.Vocabulary.{Family, AreLeastReleases, AreGreatestDeadlines};
+ghost use Rattle.prl_plan.specs.Vocabulary.{AreEncodedDates, RepeatsByHyper, encoded_release};
+ghost use Rattle.prl_plan.specs.Vocabulary.{encoded_deadline, IsWellFormed, TableRow, IsJobTable};
+ghost use Rattle.prl_plan.specs.Vocabulary.{job_table, Job, task_at, release_of, IsHorizonJob};
+ghost use Rattle.prl_plan.specs.Vocabulary.{operand_of, PlanView, IsPlan, edge_at, release_at};
+ghost use Rattle.prl_plan.specs.Vocabulary.{deadline_at, place_on, cell_of, preceding, ComesFrom};
+ghost use Rattle.prl_plan.specs.Vocabulary.{Precedes};
 ghost use Rattle.prl_plan.specs.declared.graphs.TaskGraph.{TaskGraph};
 ghost use Rattle.prl_plan.specs.declared.tables.Window.{Window};
 ghost use Rattle.prl_plan.specs.declared.walks.Operand.TheVariants as operands;
-ghost use Rattle.prl_plan.specs.Dates.{Family, AreLeastReleases, AreGreatestDeadlines, AreEncodedDates, RepeatsByHyper, encoded_release, encoded_deadline};
-ghost use Rattle.prl_plan.specs.Graphs.{IsWellFormed};
-ghost use Rattle.prl_plan.specs.JobTables.{TableRow, IsJobTable, job_table};
-ghost use Rattle.prl_plan.specs.Jobs.{Job, task_at, release_of, IsHorizonJob};
-ghost use Rattle.prl_plan.specs.Operands.{operand_of};
-ghost use Rattle.prl_plan.specs.Plans.{PlanView, IsPlan, edge_at, release_at, deadline_at, place_on, cell_of};
-ghost use Rattle.prl_plan.specs.Precedence.{preceding, ComesFrom, Precedes};
 
 /// A constant that a job reads on an edge has the type of the edge.
 pub fn constants_are_of_their_type()

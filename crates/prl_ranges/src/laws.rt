@@ -1,20 +1,16 @@
 //! Laws of the numbers of graphs and plans, as functions that do nothing: the contract of each is the law.
 
 ghost use Rattle.std.specs.Prelude.{◌≡◌, ◌+◌, ◌*◌, ◌<◌, ◌≤◌, ◌^◌, ℕ, ℤ, nat_abs, List, length};
+ghost use Rattle.prl_plan.specs.Vocabulary.{IsWordOf, RepeatsAfter, number_at, AreEncodedDates};
+ghost use Rattle.prl_plan.specs.Vocabulary.{window_at, IsWellFormed, IsHorizon, constants_of};
+ghost use Rattle.prl_plan.specs.Vocabulary.{task_at, walk, PlanView, HaveRoom, edge_at};
+ghost use Rattle.prl_plan.specs.Vocabulary.{PrecedingFits};
 ghost use Rattle.prl_plan.specs.declared.graphs.TaskGraph.{TaskGraph};
-ghost use Rattle.prl_plan.specs.declared.tables.Window.{Window};
-ghost use Rattle.prl_plan.specs.declared.walks.Operand.TheVariants as operands;
-ghost use Rattle.prl_plan.specs.declared.words.Word.{Word};
-ghost use Rattle.prl_plan.specs.Words.{IsWordOf, RepeatsAfter, number_at};
 ghost use Rattle.prl_plan.specs.declared.horizons.Horizon.{Horizon};
 ghost use Rattle.prl_plan.specs.declared.limits.TheConstants.{MAX_JOBS, MAX_EVENTS};
-ghost use Rattle.prl_plan.specs.Dates.{AreEncodedDates, window_at};
-ghost use Rattle.prl_plan.specs.Graphs.{IsWellFormed};
-ghost use Rattle.prl_plan.specs.Horizons.{IsHorizon, constants_of};
-ghost use Rattle.prl_plan.specs.Jobs.{task_at};
-ghost use Rattle.prl_plan.specs.Operands.{walk};
-ghost use Rattle.prl_plan.specs.Plans.{PlanView, HaveRoom, edge_at};
-ghost use Rattle.prl_plan.specs.Ranges.{PrecedingFits};
+ghost use Rattle.prl_plan.specs.declared.tables.Window.{Window};
+ghost use Rattle.prl_plan.specs.declared.words.Word.{Word};
+ghost use Rattle.prl_plan.specs.declared.walks.Operand.TheVariants as operands;
 
 /// What a job reads has no higher number than the job's date. The numbers on the way to the job that
 /// precedes fit where the job's number times its period is at most 2^62.

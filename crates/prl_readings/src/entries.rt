@@ -3,8 +3,7 @@
 ghost use Rattle.std.specs.Prelude.{◌≡◌};
 ghost use Rattle.std.specs.Option.{option_and_then, option_map};
 ghost use Rattle.csv.specs.Records.{fields_of};
-ghost use Rattle.prl_base.specs.Reading.{GivesBut};
-ghost use Rattle.prl_base.specs.Decimals.{decimal_of, integer_of};
+ghost use Rattle.prl_base.specs.Vocabulary.{GivesBut, decimal_of, integer_of};
 ghost use Rattle.prl_base.specs.declared.values.Value.TheVariants as values;
 ghost use Rattle.prl_readings.specs.Rows.{clock_of, date_on, dated_entry, entry_of, on_clock, timed_entry, value_of, with_date};
 ghost use Rattle.prl_sensors.specs.SensorRows.{truth_of};

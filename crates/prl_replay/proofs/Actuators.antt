@@ -3,12 +3,10 @@ use Rattle.std.proofs.Common.{◌≡◌, ◌+◌, ◌<◌, ◌≤◌, ℕ, zero,
 use Rattle.std.proofs.lemmas.Bool.{cases_order}
 use Rattle.std.proofs.lemmas.List.{get_or_default}
 use Rattle.prl_base.specs.Names.{IsName}
+use Rattle.prl_plan.specs.Vocabulary.{AreNumbered, IsTaskName, no_task, PlanView, IsPlan}
 use Rattle.prl_plan.specs.declared.graphs.Kind.{Kind}
-use Rattle.prl_plan.specs.declared.graphs.Kind.TheVariants as kinds
 use Rattle.prl_plan.specs.declared.graphs.Task.{Task}
-use Rattle.prl_plan.specs.Graphs.{AreNumbered, IsTaskName}
-use Rattle.prl_plan.specs.Jobs.{no_task}
-use Rattle.prl_plan.specs.Plans.{PlanView, IsPlan}
+use Rattle.prl_plan.specs.declared.graphs.Kind.TheVariants as kinds
 use Rattle.prl_track.specs.Machine.{Drives}
 
 -- numbers go on from at least as many actuators, and from one more after an actuator

@@ -5,26 +5,22 @@ use Rattle.std.proofs.lemmas.Bool.{cases_lt}
 use Rattle.std.proofs.lemmas.Int.{ints}
 use Rattle.std.proofs.lemmas.List.Elements.{All-nil, All-cons, All-append, All-same, All-filter}
 use Rattle.prl_base.specs.Clocks.{IsClock, date_at}
-use Rattle.prl_base.specs.declared.operators.Clock.{Clock}
 use Rattle.prl_base.specs.declared.numbers.CellNo.{CellNo}
 use Rattle.prl_base.specs.declared.numbers.EdgeNo.{EdgeNo}
 use Rattle.prl_base.specs.declared.numbers.TaskNo.{TaskNo}
-use Rattle.prl_flow.specs.Actuators.{AreUpTo}
-use Rattle.prl_flow.specs.Flows.{IsUpTo}
+use Rattle.prl_base.specs.declared.operators.Clock.{Clock}
+use Rattle.prl_flow.specs.Vocabulary.{AreUpTo, IsUpTo}
 use Rattle.prl_flow.specs.declared.programs.OutFlow.{OutFlow}
+use Rattle.prl_plan.specs.Vocabulary.{task_at, job_count, IsHorizonJob, IsPlan, IsLegal, IsComplete, KeepsLegal, first_unfinished, next_action}
 use Rattle.prl_plan.specs.declared.events.Action.{Action}
-use Rattle.prl_plan.specs.declared.events.Action.TheVariants as actions
 use Rattle.prl_plan.specs.declared.events.Event.{Event}
-use Rattle.prl_plan.specs.declared.events.Event.TheVariants as events
 use Rattle.prl_plan.specs.declared.graphs.Kind.{Kind}
+use Rattle.prl_plan.specs.declared.events.Action.TheVariants as actions
+use Rattle.prl_plan.specs.declared.events.Event.TheVariants as events
 use Rattle.prl_plan.specs.declared.graphs.Kind.TheVariants as kinds
-use Rattle.prl_plan.specs.Jobs.{task_at, job_count, IsHorizonJob}
-use Rattle.prl_plan.specs.Plans.{IsPlan}
-use Rattle.prl_plan.specs.Rules.{IsLegal, IsComplete, KeepsLegal, first_unfinished}
-use Rattle.prl_plan.specs.Runs.{next_action}
 use Rattle.prl_plan.proofs.RoundPeriods.{task_is}
-use Rattle.prl_track.specs.declared.seen.Seen.{Seen}
 use Rattle.prl_track.specs.Machine.{cell_no, sight_of_write}
+use Rattle.prl_track.specs.declared.seen.Seen.{Seen}
 use Rattle.prl_core.specs.Cores.{CoreView, constants, Tells, IsSightOf, IsSightOfRead}
 use Rattle.prl_schedules.specs.ReadTexts.{ReadsOfTasks}
 use Rattle.prl_replay.specs.Replays.{is_read, after, TellsAll, IsReplay, IsFlowOf, AddsFlow, AreFlowsBelow}

@@ -1,12 +1,11 @@
 -- A list of events is whole, or has one first fault.
 use Rattle.std.proofs.Common.{◌≡◌, ◌⊎◌, ℕ, ◌<◌, ◌≤◌, zero, suc, List, [], ◌∷◌, take, length, Some, None, refl, sym, ap, ◌∙◌, inl, inr, subst, arith}
 use Rattle.std.specs.Prelude.{slice_get}
+use Rattle.prl_plan.specs.Vocabulary.{RunConstants, ExecState, after_event, after_events, IsLegal, KeepsLegal, FirstBroken, IsComplete, IsFirstUnfinished, first_unfinished, HasJob}
 use Rattle.prl_plan.specs.declared.events.Event.{Event}
-use Rattle.prl_plan.specs.declared.events.Event.TheVariants as events
 use Rattle.prl_plan.specs.declared.events.Rule.{Rule}
+use Rattle.prl_plan.specs.declared.events.Event.TheVariants as events
 use Rattle.prl_plan.specs.declared.events.Rule.TheVariants as rules
-use Rattle.prl_plan.specs.Runs.{RunConstants, ExecState, after_event, after_events}
-use Rattle.prl_plan.specs.Rules.{IsLegal, KeepsLegal, FirstBroken, IsComplete, IsFirstUnfinished, first_unfinished, HasJob}
 
 -- an event that keeps the rules breaks none
 pub keeps_none_broken : (c : RunConstants) (s : ExecState) (e : Event) (rule : Rule) → KeepsLegal c s e → FirstBroken c s e rule → ⊥

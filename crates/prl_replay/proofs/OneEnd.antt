@@ -1,20 +1,16 @@
 -- A text is whole, or has one first fault.
 use Rattle.std.proofs.Common.{◌≡◌, ◌⊎◌, ◌+◌, ◌∙◌, ℕ, suc, List, [], ◌∷◌, Option, Some, None, Result, Ok, Err, inl, inr, refl, ap, subst, arith}
-use Rattle.prl_base.specs.Lines.{lines_of}
-use Rattle.prl_base.specs.Reading.{◌>>=◌}
+use Rattle.prl_base.specs.Vocabulary.{lines_of, ◌>>=◌}
 use Rattle.prl_base.specs.declared.numbers.TaskNo.{TaskNo}
+use Rattle.prl_plan.specs.Vocabulary.{RunConstants, ExecState, after_event, IsLegal, KeepsLegal, IsComplete, FirstBroken, IsFirstUnfinished}
 use Rattle.prl_plan.specs.declared.events.Event.{Event}
 use Rattle.prl_plan.specs.declared.events.Rule.{Rule}
-use Rattle.prl_plan.specs.Runs.{RunConstants, ExecState, after_event}
-use Rattle.prl_plan.specs.Rules.{IsLegal, KeepsLegal, IsComplete, FirstBroken, IsFirstUnfinished}
 use Rattle.prl_core.specs.Cores.{CoreView, constants}
+use Rattle.prl_schedules.specs.Vocabulary.{event_of, without_return, or_line, events_from, schedule_of, task_names}
 use Rattle.prl_schedules.specs.declared.schedules.ScheduleFault.{ScheduleFault}
 use Rattle.prl_schedules.specs.declared.schedules.ScheduleFault.TheVariants as lines
-use Rattle.prl_schedules.specs.Schedules.{event_of, without_return, or_line, events_from, schedule_of}
-use Rattle.prl_schedules.specs.ScheduleTexts.{task_names}
-use Rattle.prl_replay.specs.declared.faults.ReplayFault.{ReplayFault}
+use Rattle.prl_replay.specs.Vocabulary.{ReplayFault, after_all, IsRunFault, IsReplayFault, IsWholeText}
 use Rattle.prl_replay.specs.declared.faults.ReplayFault.TheVariants as faults
-use Rattle.prl_replay.specs.Replays.{after_all, IsRunFault, IsReplayFault, IsWholeText}
 use Rattle.prl_replay.proofs.Legality.{BreaksAt, legal_none_broken, one_break, complete_finished, one_unfinished}
 
 -- a text is never no schedule for want of memory

@@ -10,28 +10,20 @@ use Rattle.prl_base.specs.Clocks.{IsClock, date_at}
 use Rattle.prl_base.specs.declared.numbers.FlowNo.{FlowNo}
 use Rattle.prl_base.specs.declared.operators.Clock.{Clock}
 use Rattle.prl_base.specs.declared.values.Value.{Value}
+use Rattle.prl_flow.specs.Vocabulary.{AreUpTo, IsUpTo, Device, FlatProgram, IsFlat, AreClocks, Solves, clock_of, values_of}
 use Rattle.prl_flow.specs.declared.programs.OutFlow.{OutFlow}
-use Rattle.prl_flow.specs.Actuators.{AreUpTo}
-use Rattle.prl_flow.specs.Flows.{IsUpTo}
-use Rattle.prl_flow.specs.Programs.{Device, FlatProgram, IsFlat}
-use Rattle.prl_flow.specs.Solutions.{AreClocks, Solves, clock_of, values_of}
 use Rattle.prl_flow.proofs.ClockDates.{length_from_IsUpTo, value_at_date}
 use Rattle.prl_flow.proofs.Lists.{element_at, same_from_elements}
+use Rattle.prl_plan.specs.Vocabulary.{task_at, no_task, IsHorizonJob, edge_at, no_edge}
 use Rattle.prl_plan.specs.declared.graphs.Edge.{Edge}
 use Rattle.prl_plan.specs.declared.graphs.Kind.{Kind}
-use Rattle.prl_plan.specs.declared.graphs.Kind.TheVariants as kinds
 use Rattle.prl_plan.specs.declared.graphs.Task.{Task}
-use Rattle.prl_plan.specs.Jobs.{task_at, no_task, IsHorizonJob}
-use Rattle.prl_plan.specs.Plans.{edge_at, no_edge}
+use Rattle.prl_plan.specs.declared.graphs.Kind.TheVariants as kinds
 use Rattle.prl_values.specs.JobValues.{value_on}
-use Rattle.prl_graph.specs.EdgeValues.{value_on_date}
-use Rattle.prl_graph.specs.JobDates.{no_flow, values_on_dates}
-use Rattle.prl_graph.specs.Ports.{InputPort, actuator_no, actuator_ports, application_ports, node_no, ports_of}
-use Rattle.prl_graph.specs.TaskGraphs.{IsGraphOf}
-use Rattle.prl_graph.specs.Tasks.{IsActuatorTask, IsTaskOf, sensor, node, actuator}
+use Rattle.prl_graph.specs.Vocabulary.{value_on_date, no_flow, values_on_dates, InputPort, actuator_no, actuator_ports, application_ports, node_no, ports_of, IsGraphOf, IsActuatorTask, IsTaskOf}
+use Rattle.prl_graph.specs.Vocabulary.{sensor, node, actuator}
 use Rattle.prl_core.specs.Cores.{CoreView, values_of as job_values_of}
-use Rattle.prl_replay.specs.Replays.{IsFlowOf, AddsFlow, AreFlowsBelow}
-use Rattle.prl_replay.specs.Outputs.{out_flow, out_flows}
+use Rattle.prl_replay.specs.Vocabulary.{IsFlowOf, AddsFlow, AreFlowsBelow, out_flow, out_flows}
 
 -- an element of the second of two lists
 second_at : {A : Type 0} (xs ys : List A) (k : ℕ) → slice_get (xs ++ ys) (length xs + k) ≡ slice_get ys k

@@ -2,9 +2,8 @@
 use Rattle.std.proofs.Common.{◌≡◌, List, [], ◌∷◌, ◌++◌, refl, ap, sym, subst, ◌∙◌}
 use Rattle.std.specs.Prelude.{filter}
 use Rattle.std.proofs.lemmas.List.Elements.{filter-append}
+use Rattle.prl_plan.specs.Vocabulary.{RunConstants, ExecState, after_event, after_events, IsLegal, KeepsLegal}
 use Rattle.prl_plan.specs.declared.events.Event.{Event}
-use Rattle.prl_plan.specs.Runs.{RunConstants, ExecState, after_event, after_events}
-use Rattle.prl_plan.specs.Rules.{IsLegal, KeepsLegal}
 use Rattle.prl_track.specs.declared.seen.Seen.{Seen}
 use Rattle.prl_core.specs.Cores.{CoreView, constants, Tells}
 use Rattle.prl_replay.specs.Replays.{is_read, after, after_all, TellsAll}

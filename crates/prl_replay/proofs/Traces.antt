@@ -3,17 +3,13 @@ use Rattle.std.proofs.Common.{◌≡◌, ◌<◌, ◌≤◌, ◌++◌, ℕ, zero
 use Rattle.std.specs.Prelude.{filter}
 use Rattle.prl_base.specs.declared.values.Value.{Value}
 use Rattle.prl_flow.specs.declared.programs.OutFlow.{OutFlow}
+use Rattle.prl_plan.specs.Vocabulary.{HasPlanFacts, task_at, IsLegal, IsComplete, KeepsLegal, ExecState, IsSound}
 use Rattle.prl_plan.specs.declared.events.Event.{Event}
 use Rattle.prl_plan.specs.declared.graphs.Kind.{Kind}
 use Rattle.prl_plan.specs.declared.graphs.Kind.TheVariants as kinds
-use Rattle.prl_plan.specs.Facts.{HasPlanFacts}
-use Rattle.prl_plan.specs.Jobs.{task_at}
-use Rattle.prl_plan.specs.Rules.{IsLegal, IsComplete, KeepsLegal}
-use Rattle.prl_plan.specs.Runs.{ExecState}
-use Rattle.prl_plan.specs.States.{IsSound}
 use Rattle.prl_plan.proofs.StateLaws.{gated_event_keeps_sound, legal_event_is_gated}
-use Rattle.prl_track.specs.declared.seen.Seen.{Seen}
 use Rattle.prl_track.specs.Machine.{Drives}
+use Rattle.prl_track.specs.declared.seen.Seen.{Seen}
 use Rattle.prl_core.specs.Cores.{CoreView, constants, Tells, AreOutputs}
 use Rattle.prl_replay.specs.Replays.{is_read, after, after_all, TellsAll, AddsFlow, AreFlowsBelow, IsTrace}
 

@@ -2,3 +2,4 @@
 pub mod Replays
 -- the flows of main's outputs
 pub mod Outputs
+pub mod Vocabulary

@@ -3,15 +3,12 @@
 ghost use Rattle.std.specs.Prelude.{◌≡◌, ◌≢◌, ◌++◌, ◌∷◌, ◌<◌, ◌^◌, [], ℕ, List, Ok, All, IfOk, OnOk, MatchResult, filter, length};
 ghost use Rattle.std.specs.Vec.{vec_items};
 ghost use Rattle.prl_flow.specs.Actuators.{AreUpTo};
-ghost use Rattle.prl_plan.specs.Facts.{HasPlanFacts};
-ghost use Rattle.prl_plan.specs.Horizons.{IsHorizon, Placement, constants_on};
+ghost use Rattle.prl_plan.specs.Vocabulary.{HasPlanFacts, IsHorizon, Placement, constants_on};
 ghost use Rattle.prl_plan.specs.declared.events.Event.{Event as AnyEvent};
 ghost use Rattle.prl_values.specs.Fitting.{HaveTaskBodies, HaveTypedRows};
 ghost use Rattle.prl_track.specs.Machine.{IsOfPlan};
 ghost use Rattle.prl_core.specs.Cores.{opened, opened_on};
-ghost use Rattle.prl_schedules.specs.ReadTexts.{ReadsOfTasks};
-ghost use Rattle.prl_schedules.specs.ScheduleTexts.{task_names};
-ghost use Rattle.prl_schedules.specs.Schedules.{schedule_of};
+ghost use Rattle.prl_schedules.specs.Vocabulary.{ReadsOfTasks, task_names, schedule_of};
 ghost use Rattle.prl_replay.specs.declared.faults.ReplayFault.TheVariants as faults;
 ghost use Rattle.prl_replay.specs.Replays.{is_read, after_all, IsReplay, FailsWith, IsTrace, IsReplayFault};
 

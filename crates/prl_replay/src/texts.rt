@@ -2,8 +2,7 @@
 
 ghost use Rattle.std.specs.Prelude.{◌≡◌, ◌++◌, ◌<◌, ◌^◌, ℕ, All, IfOk, length};
 ghost use Rattle.prl_flow.specs.Actuators.{AreUpTo, actuator_text};
-ghost use Rattle.prl_schedules.specs.ReadTexts.{ReadsOfTasks, text_of_reads};
-ghost use Rattle.prl_schedules.specs.ScheduleTexts.{task_names};
+ghost use Rattle.prl_schedules.specs.Vocabulary.{ReadsOfTasks, text_of_reads, task_names};
 
 use crate::Trace;
 use prl_plan::Plan;

@@ -3,8 +3,7 @@ use Rattle.std.proofs.Common.{◌≡◌, ◌<◌, ◌≤◌, ◌↔◌, ℕ, zer
 use Rattle.std.specs.Prelude.{slice_get, pos, unwrap_or}
 use Rattle.std.proofs.lemmas.List.{get_or_default}
 use Rattle.std.proofs.lemmas.Option.{slice_get-get_or}
-use Rattle.prl_base.specs.Names.{IsName}
-use Rattle.prl_base.specs.Values.{type_of}
+use Rattle.prl_base.specs.Vocabulary.{IsName, type_of}
 use Rattle.prl_base.specs.declared.values.Value.{Value}
 use Rattle.prl_base.specs.declared.values.Value.TheVariants as values
 use Rattle.prl_board.specs.Closings.{AreOutputs as AreRead, ClosedView, Drives, IsClosed, IsLastState}
@@ -12,14 +11,10 @@ use Rattle.prl_core.specs.Cores.{AreOutputs, CoreView}
 use Rattle.prl_flow.specs.Actuators.{AreUpTo}
 use Rattle.prl_flow.specs.declared.programs.OutFlow.{OutFlow}
 use Rattle.prl_flow.proofs.Lists.{element_at}
+use Rattle.prl_plan.specs.Vocabulary.{IsTaskName, is_actuator, no_task, task_at, job_count, IsHorizonJob, IsPlan, PlanView, edge_at, no_edge, IsComplete, ExecState}
 use Rattle.prl_plan.specs.declared.graphs.Kind.{Kind}
-use Rattle.prl_plan.specs.declared.graphs.Kind.TheVariants as kinds
 use Rattle.prl_plan.specs.declared.graphs.Task.{Task}
-use Rattle.prl_plan.specs.Graphs.{IsTaskName, is_actuator}
-use Rattle.prl_plan.specs.Jobs.{no_task, task_at, job_count, IsHorizonJob}
-use Rattle.prl_plan.specs.Plans.{IsPlan, PlanView, edge_at, no_edge}
-use Rattle.prl_plan.specs.Rules.{IsComplete}
-use Rattle.prl_plan.specs.Runs.{ExecState}
+use Rattle.prl_plan.specs.declared.graphs.Kind.TheVariants as kinds
 use Rattle.prl_plan.proofs.RoundPeriods.{task_is}
 use Rattle.prl_replay.specs.Replays.{AddsFlow, AreFlowsBelow}
 use Rattle.prl_replay.proofs.Ends.{ended_all, flows_up_to}

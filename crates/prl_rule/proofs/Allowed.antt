@@ -5,13 +5,7 @@ use mathlib.Core.Option.{some}
 use lib.ListN.{get_elem?}
 use Rattle.atomic_table.specs.Table.{Me, Allows, Splits, keeps}
 use Rattle.prl_plan.specs.declared.events.Event.{Event}
-use Rattle.prl_rule.specs.declared.views.Constants.{Constants}
-use Rattle.prl_rule.specs.declared.views.TaskPart.{TaskPart}
-use Rattle.prl_rule.specs.declared.views.View.{View}
-use Rattle.prl_rule.specs.Agreement.{Witness}
-use Rattle.prl_rule.specs.Known.{run_of, values_of}
-use Rattle.prl_rule.specs.Rule.{Agreed, AgreesWith}
-use Rattle.prl_rule.specs.Steps.{given_to, only_part, without_part}
+use Rattle.prl_rule.specs.Vocabulary.{Constants, TaskPart, View, Witness, run_of, values_of, Agreed, AgreesWith, given_to, only_part, without_part}
 use Rattle.prl_rule.proofs.SeatSteps.{split_keeps}
 
 -- words, views and the list of events agree, with the seat's view

@@ -5,21 +5,13 @@ use mathlib.Core.Option.{some}
 use lib.ListN.{get_elem?}
 use Rattle.atomic_table.proofs.Lists.{set_again}
 use Rattle.prl_base.specs.declared.values.Value.{Value}
+use Rattle.prl_plan.specs.Vocabulary.{completes, operands_before, RunConstants, ExecState, action_at, IsJob}
 use Rattle.prl_plan.specs.declared.events.Action.{Action}
-use Rattle.prl_plan.specs.declared.events.Action.TheVariants as actions
 use Rattle.prl_plan.specs.declared.events.Event.{Event}
+use Rattle.prl_plan.specs.declared.events.Action.TheVariants as actions
 use Rattle.prl_plan.specs.declared.events.Event.TheVariants as events
-use Rattle.prl_plan.specs.Plans.{completes, operands_before}
-use Rattle.prl_plan.specs.Runs.{RunConstants, ExecState, action_at}
-use Rattle.prl_plan.specs.Facts.{IsJob}
-use Rattle.prl_rule.specs.declared.views.Constants.{Constants}
-use Rattle.prl_rule.specs.declared.views.TaskPart.{TaskPart}
-use Rattle.prl_rule.specs.declared.views.View.{View}
-use Rattle.prl_rule.specs.RunValues.{RunValues}
-use Rattle.prl_rule.specs.Agreement.{Witness, Shows, AgreesTask}
-use Rattle.prl_rule.specs.Rule.{AgreesWith, reached}
-use Rattle.prl_rule.specs.Steps.{with_part, taken, values_with, stand_moved, moved_on, AreConstants, caught_up, acts}
-use Rattle.prl_rule.specs.PlanLaws.{PlanLaws}
+use Rattle.prl_rule.specs.Vocabulary.{Constants, TaskPart, View, RunValues, Witness, Shows, AgreesTask, AgreesWith, reached, with_part, taken, values_with, stand_moved, moved_on, AreConstants}
+use Rattle.prl_rule.specs.Vocabulary.{caught_up, acts, PlanLaws}
 use Rattle.prl_rule.proofs.ValueSteps.{grows_by_one, values_move}
 use Rattle.prl_rule.proofs.Reading.{const_no_read, const_no_high, not_raised}
 use Rattle.prl_rule.proofs.Keeps.{moves_keep}

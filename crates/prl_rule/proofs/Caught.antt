@@ -5,29 +5,18 @@ use lib.ListN.{get_elem?}
 use Rattle.prl_base.specs.Values.{FitsValue}
 use Rattle.prl_base.specs.declared.numbers.EdgeNo.{EdgeNo}
 use Rattle.prl_plan.specs.declared.events.Action.TheVariants as actions
+use Rattle.prl_plan.specs.Vocabulary.{RunConstants, ReadsAt, IsHorizon, IsPlan}
 use Rattle.prl_plan.specs.declared.events.Event.{Event}
-use Rattle.prl_plan.specs.Runs.{RunConstants}
-use Rattle.prl_plan.specs.Facts.{ReadsAt}
-use Rattle.prl_plan.specs.Horizons.{IsHorizon}
-use Rattle.prl_plan.specs.Plans.{IsPlan}
 use Rattle.prl_plan.specs.declared.events.SlotNo.{SlotNo}
-use Rattle.prl_rule.specs.declared.views.Constants.{Constants}
+use Rattle.prl_rule.specs.Vocabulary.{Constants, TaskPart, View, value_of_halves, RunValues, word_of, done_word, slot_word, stop_word, Witness, AgreesTask, IsOverrun, AgreesWith, HasPart, StandsAt}
+use Rattle.prl_rule.specs.Vocabulary.{reached, HasRead, acts, caught_up, done_counted, half_loaded, half_stored, moved_on, part_raised, raised_by, stop_loaded, with_part, PlanLaws, run_of, IsReadBy}
+use Rattle.prl_rule.specs.Vocabulary.{LeftIsRead}
 use Rattle.prl_rule.specs.declared.views.Gate.TheVariants as gates
-use Rattle.prl_rule.specs.declared.views.TaskPart.{TaskPart}
-use Rattle.prl_rule.specs.declared.views.View.{View}
-use Rattle.prl_rule.specs.Halves.{value_of_halves}
-use Rattle.prl_rule.specs.RunValues.{RunValues, word_of}
-use Rattle.prl_rule.specs.Agreement.{done_word, slot_word, stop_word, Witness, AgreesTask, IsOverrun}
-use Rattle.prl_rule.specs.Rule.{AgreesWith, HasPart, StandsAt, reached}
-use Rattle.prl_rule.specs.Steps.{HasRead, acts, caught_up, done_counted, half_loaded, half_stored, moved_on, part_raised, raised_by, stop_loaded, with_part}
-use Rattle.prl_rule.specs.PlanLaws.{PlanLaws}
 use Rattle.prl_rule.proofs.Parts.{caught_ended, caught_kept, caught_now, set_found}
 use Rattle.prl_rule.proofs.Catching.{catch_up, settled}
 use Rattle.prl_rule.proofs.HalfSteps.{load_half_keeps, no_later_loaded, store_half_keeps, value_loaded}
 use Rattle.prl_rule.proofs.JobSteps.{store_done_keeps}
 use Rattle.prl_rule.proofs.StopSteps.{no_overrun, raise_keeps, load_stop_keeps}
-use Rattle.prl_rule.specs.Known.{run_of}
-use Rattle.prl_rule.specs.Told.{IsReadBy, LeftIsRead}
 use Rattle.prl_rule.proofs.Telling.{left_is_read, replaced_is_over, replaced_is_read}
 
 module _ (k : Constants) (c : RunConstants) (v : RunValues) where

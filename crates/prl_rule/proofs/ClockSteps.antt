@@ -5,20 +5,12 @@ use mathlib.Core.Option.{some}
 use mathlib.Core.Logic.{dite}
 use native.Mathlib.Decide.{ℕ_discrete}
 use lib.ListN.{get_elem?}
+use Rattle.prl_plan.specs.Vocabulary.{RunConstants, ExecState, IsJob}
 use Rattle.prl_plan.specs.declared.events.Event.{Event}
 use Rattle.prl_plan.specs.declared.events.Event.TheVariants as events
-use Rattle.prl_plan.specs.Runs.{RunConstants, ExecState}
-use Rattle.prl_plan.specs.Facts.{IsJob}
-use Rattle.prl_rule.specs.declared.views.Constants.{Constants}
+use Rattle.prl_rule.specs.Vocabulary.{Constants, TaskPart, ClockPart, View, RunValues, now_word, done_word, slot_word, stop_word, Witness, Shows, AgreesTask, AgreesClock, AgreesView, IsStop}
+use Rattle.prl_rule.specs.Vocabulary.{AgreesWith, reached, with_clock, ticked, looked, PlanLaws}
 use Rattle.prl_rule.specs.declared.views.Gate.TheVariants as gates
-use Rattle.prl_rule.specs.declared.views.TaskPart.{TaskPart}
-use Rattle.prl_rule.specs.declared.views.ClockPart.{ClockPart}
-use Rattle.prl_rule.specs.declared.views.View.{View}
-use Rattle.prl_rule.specs.RunValues.{RunValues}
-use Rattle.prl_rule.specs.Agreement.{now_word, done_word, slot_word, stop_word, Witness, Shows, AgreesTask, AgreesClock, AgreesView, IsStop}
-use Rattle.prl_rule.specs.Rule.{AgreesWith, reached}
-use Rattle.prl_rule.specs.Steps.{with_clock, ticked, looked}
-use Rattle.prl_rule.specs.PlanLaws.{PlanLaws}
 use Rattle.prl_rule.proofs.Keeps.{IsLater, keeps_state, keeps_event, task_later, other_view}
 
 module _ (k : Constants) (c : RunConstants) (v : RunValues) where

@@ -7,8 +7,8 @@ use Rattle.std.proofs.lemmas.Nat.{div-add-mod'}
 use Rattle.std.specs.Int.{cast_signed, cast_unsigned}
 use Rattle.prl_base.specs.Values.{type_of, FitsValue, IsOfType}
 use Rattle.prl_base.specs.declared.values.Ty.{Ty}
-use Rattle.prl_base.specs.declared.values.Ty.TheVariants as types
 use Rattle.prl_base.specs.declared.values.Value.{Value}
+use Rattle.prl_base.specs.declared.values.Ty.TheVariants as types
 use Rattle.prl_base.specs.declared.values.Value.TheVariants as values
 use Rattle.prl_rule.specs.Halves.{AreHalves, high_half, low_half, tagged, value_of_halves}
 

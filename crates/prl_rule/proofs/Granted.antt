@@ -6,22 +6,13 @@ use Rattle.atomic_table.specs.Table.{Me}
 use Rattle.prl_base.specs.Values.{FitsValue}
 use Rattle.prl_base.specs.declared.numbers.EdgeNo.{EdgeNo}
 use Rattle.prl_plan.specs.declared.events.Action.TheVariants as actions
+use Rattle.prl_plan.specs.Vocabulary.{IsJob, IsHorizon, IsPlan}
 use Rattle.prl_plan.specs.declared.events.Event.{Event}
 use Rattle.prl_plan.specs.declared.events.Event.TheVariants as events
-use Rattle.prl_plan.specs.Facts.{IsJob}
-use Rattle.prl_plan.specs.Horizons.{IsHorizon}
-use Rattle.prl_plan.specs.Plans.{IsPlan}
-use Rattle.prl_rule.specs.declared.views.Constants.{Constants}
+use Rattle.prl_rule.specs.Vocabulary.{Constants, ClockPart, View, word_of, now_word, done_word, slot_word, stop_word, IsOverrun, Witness, run_of, values_of, AgreesWith, HasPart, StandsAt, acts}
+use Rattle.prl_rule.specs.Vocabulary.{clock_stop_loaded, done_counted, half_loaded, half_stored, looked, now_loaded, part_raised, raised_by, stop_loaded, ticked, with_clock, with_part, ClockStopTold}
+use Rattle.prl_rule.specs.Vocabulary.{EndTold, HalfTold, IsAt, IsStopFor, LookTold, NowTold, RaiseTold, StopTold, TickTold, WriteTold, part_at, part_of, PlanLaws}
 use Rattle.prl_rule.specs.declared.views.Gate.TheVariants as gates
-use Rattle.prl_rule.specs.declared.views.ClockPart.{ClockPart}
-use Rattle.prl_rule.specs.declared.views.View.{View}
-use Rattle.prl_rule.specs.RunValues.{word_of}
-use Rattle.prl_rule.specs.Agreement.{now_word, done_word, slot_word, stop_word, IsOverrun, Witness}
-use Rattle.prl_rule.specs.Known.{run_of, values_of}
-use Rattle.prl_rule.specs.Rule.{AgreesWith, HasPart, StandsAt}
-use Rattle.prl_rule.specs.Steps.{acts, clock_stop_loaded, done_counted, half_loaded, half_stored, looked, now_loaded, part_raised, raised_by, stop_loaded, ticked, with_clock, with_part}
-use Rattle.prl_rule.specs.Told.{ClockStopTold, EndTold, HalfTold, IsAt, IsStopFor, LookTold, NowTold, RaiseTold, StopTold, TickTold, WriteTold, part_at, part_of}
-use Rattle.prl_rule.specs.PlanLaws.{PlanLaws}
 use Rattle.prl_rule.proofs.Allowed.{Grants, GrantsLoad}
 use Rattle.prl_rule.proofs.Caught.{gated_law, inside_law, left_law, load_half_law, load_stop_law, raise_law, store_done_law, store_half_law, value_law}
 use Rattle.prl_rule.proofs.ClockSteps.{look_finds_own, look_keeps, now_is_own, tick_keeps}

@@ -8,25 +8,15 @@ use lib.ListN.{get_elem?}
 use Rattle.prl_base.specs.Values.{type_of, FitsValue}
 use Rattle.prl_base.specs.declared.numbers.EdgeNo.{EdgeNo}
 use Rattle.prl_base.specs.declared.values.Value.{Value}
+use Rattle.prl_plan.specs.Vocabulary.{low, high, completes, operands_before, RunConstants, ExecState, action_at, IsJob, ReadsAt, WritesAt, IsTagged}
 use Rattle.prl_plan.specs.declared.events.Action.{Action}
-use Rattle.prl_plan.specs.declared.events.Action.TheVariants as actions
 use Rattle.prl_plan.specs.declared.events.Event.{Event}
+use Rattle.prl_plan.specs.declared.events.Action.TheVariants as actions
 use Rattle.prl_plan.specs.declared.events.Event.TheVariants as events
-use Rattle.prl_plan.specs.Plans.{low, high, completes, operands_before}
-use Rattle.prl_plan.specs.Runs.{RunConstants, ExecState, action_at}
-use Rattle.prl_plan.specs.Facts.{IsJob, ReadsAt, WritesAt}
-use Rattle.prl_plan.specs.States.{IsTagged}
-use Rattle.prl_rule.specs.declared.views.Constants.{Constants}
+use Rattle.prl_rule.specs.Vocabulary.{Constants, TaskPart, View, bits_of, low_half, high_half, value_of_halves, RunValues, half_with, half_of, word_of, done_word, slot_word, stop_word, Witness, Shows}
+use Rattle.prl_rule.specs.Vocabulary.{AgreesTask, IsStop, AgreesWith, reached, with_part, taken, values_with, half_taken, half_missed, half_loaded, half_stored, PlanLaws}
 use Rattle.prl_rule.specs.declared.views.Gate.TheVariants as gates
-use Rattle.prl_rule.specs.declared.views.TaskPart.{TaskPart}
-use Rattle.prl_rule.specs.declared.views.View.{View}
-use Rattle.prl_rule.specs.Halves.{bits_of, low_half, high_half, value_of_halves}
-use Rattle.prl_rule.specs.RunValues.{RunValues, half_with, half_of, word_of}
-use Rattle.prl_rule.specs.Agreement.{done_word, slot_word, stop_word, Witness, Shows, AgreesTask, IsStop}
-use Rattle.prl_rule.specs.Rule.{AgreesWith, reached}
-use Rattle.prl_rule.specs.Steps.{with_part, taken, values_with, half_taken, half_missed, half_loaded, half_stored}
 use Rattle.prl_rule.proofs.Exact.{unpacked, whole_again}
-use Rattle.prl_rule.specs.PlanLaws.{PlanLaws}
 use Rattle.prl_rule.proofs.ValueSteps.{grows_by_none, grows_by_one, values_move}
 use Rattle.prl_rule.proofs.Reading.{before_high, write_no_read, write_no_high, same_read, not_raised}
 use Rattle.prl_rule.proofs.Keeps.{keeps_state, view_with, next_of, moves_keep}

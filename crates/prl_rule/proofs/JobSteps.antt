@@ -6,21 +6,13 @@ use mathlib.Core.Option.{some}
 use mathlib.Core.Logic.{dite}
 use native.Mathlib.Decide.{ℕ_discrete}
 use lib.ListN.{get_elem?}
+use Rattle.prl_plan.specs.Vocabulary.{RunConstants, ExecState, action_at, after_action, FindsTag, KeepsFree, IsTagged}
 use Rattle.prl_plan.specs.declared.events.Action.{Action}
-use Rattle.prl_plan.specs.declared.events.Action.TheVariants as actions
 use Rattle.prl_plan.specs.declared.events.Event.{Event}
+use Rattle.prl_plan.specs.declared.events.Action.TheVariants as actions
 use Rattle.prl_plan.specs.declared.events.Event.TheVariants as events
-use Rattle.prl_plan.specs.Runs.{RunConstants, ExecState, action_at, after_action}
-use Rattle.prl_plan.specs.Rules.{FindsTag, KeepsFree}
-use Rattle.prl_plan.specs.States.{IsTagged}
-use Rattle.prl_rule.specs.declared.views.Constants.{Constants}
-use Rattle.prl_rule.specs.declared.views.TaskPart.{TaskPart}
-use Rattle.prl_rule.specs.declared.views.View.{View}
-use Rattle.prl_rule.specs.RunValues.{RunValues}
-use Rattle.prl_rule.specs.Agreement.{now_word, done_word, slot_word, stop_word, Witness, Shows, AgreesTask, IsStop}
-use Rattle.prl_rule.specs.Rule.{AgreesWith, reached}
-use Rattle.prl_rule.specs.Steps.{with_part, done_counted, now_loaded}
-use Rattle.prl_rule.specs.PlanLaws.{PlanLaws}
+use Rattle.prl_rule.specs.Vocabulary.{Constants, TaskPart, View, RunValues, now_word, done_word, slot_word, stop_word, Witness, Shows, AgreesTask, IsStop, AgreesWith, reached, with_part, done_counted}
+use Rattle.prl_rule.specs.Vocabulary.{now_loaded, PlanLaws}
 use Rattle.prl_rule.proofs.ValueSteps.{values_end}
 use Rattle.prl_rule.proofs.Reading.{end_no_read, no_high_first}
 use Rattle.prl_rule.proofs.Keeps.{IsLater, keeps_state, keeps_event, view_with, next_of, task_later, clock_later, other_view}

@@ -3,25 +3,13 @@ use Rattle.std.proofs.Common.{◌≡◌, ℕ, ◌+◌, ◌<◌, ◌≤◌, ◌�
 use mathlib.Core.Option.{some}
 use lib.ListN.{get_elem?}
 use Rattle.atomic_table.proofs.Lists.{at_set}
+use Rattle.prl_plan.specs.Vocabulary.{RunConstants, ExecState, opening, action_at, next_action, after_action, after_event, HasJob, ActsReleased, FindsTag, KeepsGated, KeepsFree, IsTagged}
 use Rattle.prl_plan.specs.declared.events.Action.{Action}
 use Rattle.prl_plan.specs.declared.events.Event.{Event}
 use Rattle.prl_plan.specs.declared.events.Event.TheVariants as events
-use Rattle.prl_plan.specs.Runs.{RunConstants, ExecState, opening, action_at, next_action, after_action, after_event}
-use Rattle.prl_plan.specs.Rules.{HasJob, ActsReleased, FindsTag, KeepsGated, KeepsFree}
-use Rattle.prl_plan.specs.States.{IsTagged}
-use Rattle.prl_rule.specs.declared.views.Constants.{Constants}
+use Rattle.prl_rule.specs.Vocabulary.{Constants, Standing, KeptHalf, HeldValues, TaskPart, ClockPart, View, RunValues, Witness, Shows, AgreesStanding, AgreesHalf, AgreesValues, AgreesTask}
+use Rattle.prl_rule.specs.Vocabulary.{AgreesClock, AgreesView, AgreesWith, reached, with_part, stand_moved, PlanLaws}
 use Rattle.prl_rule.specs.declared.views.Gate.TheVariants as gates
-use Rattle.prl_rule.specs.declared.views.Standing.{Standing}
-use Rattle.prl_rule.specs.declared.views.KeptHalf.{KeptHalf}
-use Rattle.prl_rule.specs.declared.views.HeldValues.{HeldValues}
-use Rattle.prl_rule.specs.declared.views.TaskPart.{TaskPart}
-use Rattle.prl_rule.specs.declared.views.ClockPart.{ClockPart}
-use Rattle.prl_rule.specs.declared.views.View.{View}
-use Rattle.prl_rule.specs.RunValues.{RunValues}
-use Rattle.prl_rule.specs.Agreement.{Witness, Shows, AgreesStanding, AgreesHalf, AgreesValues, AgreesTask, AgreesClock, AgreesView}
-use Rattle.prl_rule.specs.Rule.{AgreesWith, reached}
-use Rattle.prl_rule.specs.Steps.{with_part, stand_moved}
-use Rattle.prl_rule.specs.PlanLaws.{PlanLaws}
 
 -- a state is s or later, and no task but i stands elsewhere in it
 pub record IsLater (i : ℕ) (s later : ExecState) : Type 0 where

@@ -2,14 +2,9 @@
 use Rattle.std.proofs.Common.{◌≡◌, ℕ, zero, suc, ◌+◌, ◌<◌, List, [], ◌∷◌, length, get_or, replicate, refl, sym, ap, ◌∙◌, subst, inl, arith, false, Some}
 use mathlib.Core.Option.{some, some-injective, some-ne-none}
 use lib.ListN.{get_elem?}
-use Rattle.prl_plan.specs.Runs.{RunConstants, opening}
-use Rattle.prl_plan.specs.Facts.{HasPlanFacts}
-use Rattle.prl_rule.specs.declared.views.Constants.{Constants}
-use Rattle.prl_rule.specs.declared.views.TaskPart.{TaskPart}
-use Rattle.prl_rule.specs.declared.views.View.{View}
-use Rattle.prl_rule.specs.RunValues.{RunValues, HasValueFacts, word_of}
-use Rattle.prl_rule.specs.Agreement.{done_word, slot_word, stop_word, word_count, AgreesTask, AgreesClock, AgreesView}
-use Rattle.prl_rule.specs.Rule.{AgreesWith, first_witness, first_part, first_parts, first_view}
+use Rattle.prl_plan.specs.Vocabulary.{RunConstants, opening, HasPlanFacts}
+use Rattle.prl_rule.specs.Vocabulary.{Constants, TaskPart, View, RunValues, HasValueFacts, word_of, done_word, slot_word, stop_word, word_count, AgreesTask, AgreesClock, AgreesView, AgreesWith}
+use Rattle.prl_rule.specs.Vocabulary.{first_witness, first_part, first_parts, first_view}
 use Rattle.prl_rule.proofs.ValueSteps.{first_values}
 
 copies_or : (n i z : ℕ) → get_or (replicate n z) i z ≡ z

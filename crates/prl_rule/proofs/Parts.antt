@@ -3,9 +3,7 @@ use Rattle.std.proofs.Common.{◌≡◌, ℕ, zero, suc, List, [], ◌∷◌, ge
 use mathlib.Core.Option.{some, some-injective, some-ne-none}
 use lib.ListN.{get_elem?}
 use Rattle.prl_plan.specs.Runs.{RunConstants}
-use Rattle.prl_rule.specs.declared.views.TaskPart.{TaskPart}
-use Rattle.prl_rule.specs.RunValues.{RunValues}
-use Rattle.prl_rule.specs.Steps.{caught_up, moved_on}
+use Rattle.prl_rule.specs.Vocabulary.{TaskPart, RunValues, caught_up, moved_on}
 
 -- a part that is there is found
 pub part_there : (ps : List (Option TaskPart)) (i : ℕ) (p : TaskPart) → get_elem? ps i ≡ some (Some p) → get_or ps i None ≡ Some p

@@ -2,12 +2,10 @@
 use Rattle.std.proofs.Common.{◌≡◌, ℕ, ◌+◌, ◌-◌, sym, ap, ◌∙◌, subst, arith, Bool, true, false}
 use Rattle.prl_base.specs.declared.numbers.EdgeNo.{EdgeNo}
 use Rattle.prl_base.specs.declared.values.Value.{Value}
-use Rattle.prl_plan.specs.declared.events.SlotNo.{SlotNo}
+use Rattle.prl_plan.specs.Vocabulary.{low, high, IsHigh, low_of, RunConstants, action_at, HasPlanFacts, IsJob}
 use Rattle.prl_plan.specs.declared.events.Action.{Action}
+use Rattle.prl_plan.specs.declared.events.SlotNo.{SlotNo}
 use Rattle.prl_plan.specs.declared.events.Action.TheVariants as actions
-use Rattle.prl_plan.specs.Plans.{low, high, IsHigh, low_of}
-use Rattle.prl_plan.specs.Runs.{RunConstants, action_at}
-use Rattle.prl_plan.specs.Facts.{HasPlanFacts, IsJob}
 
 pub write_no_read : (e : EdgeNo) (m : ℕ) (h : SlotNo) (port : ℕ) (e' : EdgeNo) (m' : ℕ) (h' : SlotNo) → actions.Write e m h ≡ actions.Read port e' m' h' → ⊥
 write_no_read e m h port e' m' h' is = cc

@@ -11,29 +11,21 @@ use Rattle.prl_base.specs.declared.numbers.EdgeNo.{EdgeNo}
 use Rattle.prl_base.specs.declared.values.Value.{Value}
 use Rattle.prl_base.specs.declared.values.Value.TheVariants as values
 use Rattle.prl_body.specs.declared.bodies.CheckedBody.{CheckedBody}
+use Rattle.prl_plan.specs.Vocabulary.{HasCells, no_used, encoded_release, encoded_deadline, IsJob, AreInOrder, PortsFollow, task_at, IsHorizonJob, operand_of, operand_from, walk, PlanView, IsPlan}
+use Rattle.prl_plan.specs.Vocabulary.{IsActionOf, IsAtPort, IsHalfOf, actions_of, cell_of, edge_at, no_edge, operands_before, operands_in, place_on, reading, reads_of, writes_of}
 use Rattle.prl_plan.specs.declared.events.Action.{Action}
-use Rattle.prl_plan.specs.declared.events.Action.TheVariants as actions
 use Rattle.prl_plan.specs.declared.events.SlotNo.{SlotNo}
 use Rattle.prl_plan.specs.declared.graphs.Edge.{Edge}
 use Rattle.prl_plan.specs.declared.graphs.Kind.{Kind}
-use Rattle.prl_plan.specs.declared.graphs.Kind.TheVariants as kinds
 use Rattle.prl_plan.specs.declared.graphs.Producer.{Producer}
-use Rattle.prl_plan.specs.declared.graphs.Producer.TheVariants as producers
 use Rattle.prl_plan.specs.declared.tables.Used.{Used}
 use Rattle.prl_plan.specs.declared.walks.Operand.{Operand}
+use Rattle.prl_plan.specs.declared.events.Action.TheVariants as actions
+use Rattle.prl_plan.specs.declared.graphs.Kind.TheVariants as kinds
+use Rattle.prl_plan.specs.declared.graphs.Producer.TheVariants as producers
 use Rattle.prl_plan.specs.declared.walks.Operand.TheVariants as operands
-use Rattle.prl_plan.specs.Cells.{HasCells, no_used}
-use Rattle.prl_plan.specs.Dates.{encoded_release, encoded_deadline}
-use Rattle.prl_plan.specs.Facts.{IsJob}
-use Rattle.prl_plan.specs.Graphs.{AreInOrder, PortsFollow}
-use Rattle.prl_plan.specs.Jobs.{task_at, IsHorizonJob}
-use Rattle.prl_plan.specs.Operands.{operand_of, operand_from, walk}
-use Rattle.prl_plan.specs.Plans.{PlanView, IsPlan, IsActionOf, IsAtPort, IsHalfOf, actions_of, cell_of, edge_at, no_edge, operands_before, operands_in, place_on, reading, reads_of, writes_of}
-use Rattle.prl_values.specs.BodyRuns.{place_of_run}
-use Rattle.prl_values.specs.JobValues.{JobValues, AreJobValues, body_of_task, gives, read_on, reads_of_job, reads_over, value_from, value_on}
-use Rattle.prl_rule.specs.declared.views.Constants.{Constants}
-use Rattle.prl_rule.specs.Known.{edge_in, instance_on, job_values_of, registers_of, run_in, run_of, run_with, values_of}
-use Rattle.prl_rule.specs.RunValues.{HasValueFacts}
+use Rattle.prl_values.specs.Vocabulary.{place_of_run, JobValues, AreJobValues, body_of_task, gives, read_on, reads_of_job, reads_over, value_from, value_on}
+use Rattle.prl_rule.specs.Vocabulary.{Constants, edge_in, instance_on, job_values_of, registers_of, run_in, run_of, run_with, values_of, HasValueFacts}
 use Rattle.prl_rule.proofs.CellEdges.{edge_in_range}
 
 eq_yes : (a b : ℕ) → a ≡ b → eqb a b ≡ true

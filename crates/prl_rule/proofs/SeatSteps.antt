@@ -3,17 +3,11 @@ use Rattle.std.proofs.Common.{◌≡◌, ℕ, zero, suc, ◌<◌, ◌≢◌, ◌
 use mathlib.Core.Option.{some, some-injective, some-ne-none}
 use lib.ListN.{get_elem?}
 use Rattle.atomic_table.proofs.Lists.{at_set}
-use Rattle.prl_plan.specs.declared.events.Event.{Event}
 use Rattle.prl_plan.specs.Runs.{RunConstants, ExecState}
-use Rattle.prl_rule.specs.declared.views.Constants.{Constants}
-use Rattle.prl_rule.specs.declared.views.TaskPart.{TaskPart}
-use Rattle.prl_rule.specs.declared.views.ClockPart.{ClockPart}
-use Rattle.prl_rule.specs.declared.views.View.{View}
-use Rattle.prl_rule.specs.RunValues.{RunValues}
-use Rattle.prl_rule.specs.Agreement.{Witness, AgreesTask, AgreesView}
-use Rattle.prl_rule.specs.Rule.{AgreesWith, reached}
+use Rattle.prl_plan.specs.declared.events.Event.{Event}
+use Rattle.prl_rule.specs.Vocabulary.{Constants, TaskPart, ClockPart, View, RunValues, Witness, AgreesTask, AgreesView, AgreesWith, reached, without_part, only_part, first_of, merged, joined, spent}
+use Rattle.prl_rule.specs.Vocabulary.{bare, given_to, moved_owner, taken_in}
 use Rattle.prl_rule.proofs.Parts.{part_there}
-use Rattle.prl_rule.specs.Steps.{without_part, only_part, first_of, merged, joined, spent, bare, given_to, moved_owner, taken_in}
 
 -- lists that grow by one at their end
 at_grown : {A : Type 0} (l : List A) (a b : A) (j : ℕ) → get_elem? (l ++ a ∷ []) j ≡ some b → (get_elem? l j ≡ some b) ⊎ ((j ≡ length l) × (a ≡ b))

@@ -5,19 +5,11 @@ use mathlib.Core.Logic.{dite}
 use native.Mathlib.Decide.{ℕ_discrete}
 use lib.ListN.{get_elem?}
 use Rattle.prl_plan.specs.declared.events.Action.TheVariants as actions
+use Rattle.prl_plan.specs.Vocabulary.{RunConstants, ExecState, ReadsAt}
 use Rattle.prl_plan.specs.declared.events.Event.{Event}
-use Rattle.prl_plan.specs.Runs.{RunConstants, ExecState}
-use Rattle.prl_plan.specs.Facts.{ReadsAt}
-use Rattle.prl_rule.specs.declared.views.Constants.{Constants}
+use Rattle.prl_rule.specs.Vocabulary.{Constants, TaskPart, ClockPart, View, RunValues, done_word, slot_word, stop_word, Witness, AgreesTask, AgreesClock, IsOverrun, IsStop, IsToldStop, AgreesWith}
+use Rattle.prl_rule.specs.Vocabulary.{reached, with_part, with_clock, part_raised, stop_loaded, clock_stop_loaded, raised_by, PlanLaws}
 use Rattle.prl_rule.specs.declared.views.Gate.TheVariants as gates
-use Rattle.prl_rule.specs.declared.views.TaskPart.{TaskPart}
-use Rattle.prl_rule.specs.declared.views.ClockPart.{ClockPart}
-use Rattle.prl_rule.specs.declared.views.View.{View}
-use Rattle.prl_rule.specs.RunValues.{RunValues}
-use Rattle.prl_rule.specs.Agreement.{done_word, slot_word, stop_word, Witness, AgreesTask, AgreesClock, IsOverrun, IsStop, IsToldStop}
-use Rattle.prl_rule.specs.Rule.{AgreesWith, reached}
-use Rattle.prl_rule.specs.Steps.{with_part, with_clock, part_raised, stop_loaded, clock_stop_loaded, raised_by}
-use Rattle.prl_rule.specs.PlanLaws.{PlanLaws}
 use Rattle.prl_rule.proofs.Keeps.{keeps_state, view_with, next_of}
 use Rattle.prl_rule.proofs.ClockSteps.{clock_with}
 

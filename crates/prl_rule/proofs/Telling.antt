@@ -4,29 +4,16 @@ use Rattle.std.proofs.lemmas.Bool.{cases_lt}
 use mathlib.Core.Option.{some}
 use lib.ListN.{get_elem?}
 use Rattle.prl_base.specs.declared.numbers.EdgeNo.{EdgeNo}
-use Rattle.prl_plan.specs.Horizons.{IsHorizon}
-use Rattle.prl_plan.specs.Plans.{IsPlan}
-use Rattle.prl_plan.specs.declared.events.SlotNo.{SlotNo}
+use Rattle.prl_plan.specs.Vocabulary.{IsHorizon, IsPlan, RunConstants, ExecState, opening, action_at, next_action, after_action, after_events, IsFree, IsGated, IsUnfinished, IsJob, ReadsAt, WritesAt}
+use Rattle.prl_plan.specs.Vocabulary.{IsTagged, IsDone, IsWriter, IsLeft, last_tag}
 use Rattle.prl_plan.specs.declared.events.Action.{Action}
-use Rattle.prl_plan.specs.declared.events.Action.TheVariants as actions
 use Rattle.prl_plan.specs.declared.events.Event.{Event}
+use Rattle.prl_plan.specs.declared.events.SlotNo.{SlotNo}
+use Rattle.prl_plan.specs.declared.events.Action.TheVariants as actions
 use Rattle.prl_plan.specs.declared.events.Event.TheVariants as events
-use Rattle.prl_plan.specs.Runs.{RunConstants, ExecState, opening, action_at, next_action, after_action, after_events}
-use Rattle.prl_plan.specs.Rules.{IsFree, IsGated, IsUnfinished}
-use Rattle.prl_plan.specs.Facts.{IsJob, ReadsAt, WritesAt}
-use Rattle.prl_plan.specs.States.{IsTagged, IsDone}
-use Rattle.prl_plan.specs.LastTags.{IsWriter, IsLeft, last_tag}
-use Rattle.prl_rule.specs.declared.views.Constants.{Constants}
+use Rattle.prl_rule.specs.Vocabulary.{Constants, ClockPart, TaskPart, View, RunValues, word_of, now_word, done_word, slot_word, Witness, AgreesTask, AgreesClock, AgreesWith, reached, run_of, PlanLaws}
+use Rattle.prl_rule.specs.Vocabulary.{IsReadBy, LeftIsRead}
 use Rattle.prl_rule.specs.declared.views.Gate.TheVariants as gates
-use Rattle.prl_rule.specs.declared.views.ClockPart.{ClockPart}
-use Rattle.prl_rule.specs.declared.views.TaskPart.{TaskPart}
-use Rattle.prl_rule.specs.declared.views.View.{View}
-use Rattle.prl_rule.specs.RunValues.{RunValues, word_of}
-use Rattle.prl_rule.specs.Agreement.{now_word, done_word, slot_word, Witness, AgreesTask, AgreesClock}
-use Rattle.prl_rule.specs.Rule.{AgreesWith, reached}
-use Rattle.prl_rule.specs.Known.{run_of}
-use Rattle.prl_rule.specs.PlanLaws.{PlanLaws}
-use Rattle.prl_rule.specs.Told.{IsReadBy, LeftIsRead}
 use Rattle.prl_rule.proofs.HalfSteps.{loaded_tag}
 use Rattle.prl_rule.proofs.Keeps.{next_of}
 

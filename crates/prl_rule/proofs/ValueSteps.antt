@@ -8,16 +8,10 @@ use mathlib.Core.Logic.{dite}
 use native.Mathlib.Decide.{ℕ_discrete}
 use Rattle.prl_base.specs.declared.values.Value.{Value}
 use Rattle.prl_body.specs.Bodies.{Stepped}
+use Rattle.prl_plan.specs.Vocabulary.{completes, operands_before, RunConstants, action_at, IsJob}
 use Rattle.prl_plan.specs.declared.events.Action.{Action}
 use Rattle.prl_plan.specs.declared.events.Action.TheVariants as actions
-use Rattle.prl_plan.specs.Plans.{completes, operands_before}
-use Rattle.prl_plan.specs.Runs.{RunConstants, action_at}
-use Rattle.prl_plan.specs.Facts.{IsJob}
-use Rattle.prl_rule.specs.declared.views.Standing.{Standing}
-use Rattle.prl_rule.specs.declared.views.HeldValues.{HeldValues}
-use Rattle.prl_rule.specs.RunValues.{RunValues, HasValueFacts, outputs_before}
-use Rattle.prl_rule.specs.Agreement.{AgreesValues, steps_at}
-use Rattle.prl_rule.specs.Steps.{values_run, values_with, stand_moved}
+use Rattle.prl_rule.specs.Vocabulary.{Standing, HeldValues, RunValues, HasValueFacts, outputs_before, AgreesValues, steps_at, values_run, values_with, stand_moved}
 
 -- an action completes its operands, and a place after all actions none
 operands_next : (list : List Action) (place : ℕ) → operands_before list (suc place) ≡ operands_before list place + completes (get_or list place actions.End)

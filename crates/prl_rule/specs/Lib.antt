@@ -14,3 +14,4 @@ pub mod Steps
 pub mod Told
 -- the laws of plans on which the steps rest
 pub mod PlanLaws
+pub mod Vocabulary

@@ -1,15 +1,11 @@
 -- The dispatched list is legal and complete.
 use Rattle.std.proofs.Common.{◌≡◌, ◌++◌, ◌<◌, ◌⊎◌, ℕ, zero, suc, List, [], ◌∷◌, Option, Some, None, subst, sym, arith}
 use Rattle.std.proofs.lemmas.List.{append_assoc}
+use Rattle.prl_plan.specs.Vocabulary.{HasPlanFacts, KeepsLegal, IsLegal, IsComplete, IsFirstUnfinished, IsSound, RunConstants, ExecState, after_event, after_events}
 use Rattle.prl_plan.specs.declared.events.Event.{Event}
-use Rattle.prl_plan.specs.Facts.{HasPlanFacts}
-use Rattle.prl_plan.specs.Rules.{KeepsLegal, IsLegal, IsComplete, IsFirstUnfinished}
-use Rattle.prl_plan.specs.States.{IsSound}
 use Rattle.prl_plan.proofs.StateLaws.{gated_event_keeps_sound, legal_event_is_gated}
-use Rattle.prl_track.specs.Lefts.{left_in}
+use Rattle.prl_track.specs.Vocabulary.{left_in, IsNext}
 use Rattle.prl_track.proofs.Falls.{legal_event_leaves_less}
-use Rattle.prl_plan.specs.Runs.{RunConstants, ExecState, after_event, after_events}
-use Rattle.prl_track.specs.Tracks.{IsNext}
 use Rattle.prl_track.proofs.NextLaws.{next_keeps_legal, some_next}
 use Rattle.prl_schedules.specs.Dispatches.{IsDispatched}
 

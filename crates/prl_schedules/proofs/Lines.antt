@@ -1,11 +1,9 @@
 -- Events line by line.
 use Rattle.std.proofs.Common.{◌≡◌, ℕ, ◌+◌, ◌<◌, List, [], ◌∷◌, ◌++◌, length, Some, None, Result, Ok, Err, refl, sym, ap, ◌∙◌, arith, append_assoc, append-nil}
-use Rattle.prl_base.specs.Lines.{cut_line, lines_of}
-use Rattle.prl_base.specs.Reading.{◌>>=◌}
+use Rattle.prl_base.specs.Vocabulary.{cut_line, lines_of, ◌>>=◌}
 use Rattle.prl_base.proofs.LineCuts.{lines_of_cut, lines_of_end, length_lines_of}
 use Rattle.prl_plan.specs.declared.events.Event.{Event}
-use Rattle.prl_schedules.specs.declared.schedules.ScheduleFault.{ScheduleFault}
-use Rattle.prl_schedules.specs.Schedules.{or_line, event_of, without_return, events_from}
+use Rattle.prl_schedules.specs.Vocabulary.{ScheduleFault, or_line, event_of, without_return, events_from}
 
 -- events with more events in front of them
 abbrev pub with_front : List Event → Result (List Event) ScheduleFault → Result (List Event) ScheduleFault

@@ -8,11 +8,9 @@ use Rattle.std.specs.Ordering.{nat_cmp}
 use Rattle.std.specs.Option.{is_some, option_map}
 use Rattle.std.specs.Str.{bytes_eq}
 use Rattle.prl_names.specs.Lookups.{index_from, index_of}
-use Rattle.prl_schedules.specs.Schedules.{task_no, task_from}
+use Rattle.prl_schedules.specs.Vocabulary.{task_no, task_from, names_of, number_in, AreNumbers}
 use Rattle.prl_names.proofs.FirstIndices.{kept, new}
 use Rattle.prl_plan.specs.declared.graphs.Task.{Task}
-use Rattle.prl_schedules.specs.ScheduleTexts.{names_of}
-use Rattle.prl_schedules.specs.code.Numbers.{number_in, AreNumbers}
 
 names_with : (tasks : List Task) (k : ℕ) (x : Task) → k < length tasks → x ≡ get_or tasks k x →
     names_of (take (k + 1) tasks) ≡ names_of (take k tasks) ++ x.name ∷ []

@@ -4,3 +4,4 @@ pub mod ScheduleTexts
 pub mod ReadTexts
 -- what private functions say to one another
 pub mod code
+pub mod Vocabulary

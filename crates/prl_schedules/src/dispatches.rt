@@ -1,10 +1,9 @@
 //! The dispatched list of a plan.
 
 ghost use Rattle.std.specs.Prelude.{◌≡◌, IfOk, length};
-ghost use Rattle.prl_plan.specs.Facts.{HasPlanFacts};
-ghost use Rattle.prl_plan.specs.Horizons.{IsHorizon, Placement, constants_of, constants_on};
-ghost use Rattle.prl_plan.specs.Rules.{IsLegal, IsComplete};
-ghost use Rattle.prl_plan.specs.Runs.{opening, after_events};
+ghost use Rattle.prl_plan.specs.Vocabulary.{HasPlanFacts, IsHorizon, Placement, constants_of};
+ghost use Rattle.prl_plan.specs.Vocabulary.{constants_on, IsLegal, IsComplete, opening};
+ghost use Rattle.prl_plan.specs.Vocabulary.{after_events};
 ghost use Rattle.prl_schedules.specs.Dispatches.{IsDispatched};
 
 use prl_plan::{Event, Horizon, Placed, Plan, plan_facts, plan_is_one};

@@ -1,14 +1,12 @@
 //! Laws of dispatched lists, as functions that do nothing: the contract of each is the law, over the definitions alone.
 
 ghost use Rattle.std.specs.Prelude.{List};
-ghost use Rattle.prl_plan.specs.declared.horizons.Horizon.{Horizon as AnyHorizon};
-ghost use Rattle.prl_plan.specs.Facts.{HasPlanFacts};
-ghost use Rattle.prl_plan.specs.Horizons.{IsHorizon, constants_of};
-ghost use Rattle.prl_plan.specs.Plans.{PlanView, IsPlan};
-ghost use Rattle.prl_plan.specs.Rules.{IsLegal, IsComplete};
-ghost use Rattle.prl_plan.specs.Runs.{RunConstants, ExecState, opening, after_events};
-ghost use Rattle.prl_schedules.specs.Dispatches.{IsDispatched};
+ghost use Rattle.prl_plan.specs.Vocabulary.{HasPlanFacts, IsHorizon, constants_of, PlanView};
+ghost use Rattle.prl_plan.specs.Vocabulary.{IsPlan, IsLegal, IsComplete, RunConstants, ExecState};
+ghost use Rattle.prl_plan.specs.Vocabulary.{opening, after_events};
 ghost use Rattle.prl_plan.specs.declared.events.Event.{Event as AnyEvent};
+ghost use Rattle.prl_plan.specs.declared.horizons.Horizon.{Horizon as AnyHorizon};
+ghost use Rattle.prl_schedules.specs.Dispatches.{IsDispatched};
 
 use prl_plan::{events_are_decided, plans_keep_facts};
 

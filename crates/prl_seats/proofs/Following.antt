@@ -6,23 +6,17 @@ use mathlib.Core.Option.{some}
 use lib.ListN.{get_elem?}
 use Rattle.prl_base.specs.declared.numbers.TaskNo.{TaskNo}
 use Rattle.prl_base.specs.declared.values.Value.{Value}
+use Rattle.prl_plan.specs.Vocabulary.{IsJob, RunConstants, action_at}
 use Rattle.prl_plan.specs.declared.events.Action.{Action}
 use Rattle.prl_plan.specs.declared.events.Action.TheVariants as actions
-use Rattle.prl_plan.specs.Facts.{IsJob}
-use Rattle.prl_plan.specs.Runs.{RunConstants, action_at}
-use Rattle.prl_seats.specs.declared.jobs.Stage.{Stage}
+use Rattle.prl_seats.specs.Vocabulary.{Stage, BoardView, Follows, HasFirstPart, HasPartOf, IsSeatOf, IsStage, JobSeatView}
 use Rattle.prl_seats.specs.declared.jobs.Stage.TheVariants as stages
+use Rattle.prl_rule.specs.Vocabulary.{RunValues, run_of, values_of, StandsAt, first_part, caught_up, done_counted, half_loaded, half_missed, half_stored, half_taken, moved_on, now_loaded, with_part}
+use Rattle.prl_rule.specs.Vocabulary.{EndTold, HalfTold, IsAt, NowTold, WriteTold, part_at, part_of, part_or}
 use Rattle.prl_rule.specs.declared.views.Constants.{Constants}
 use Rattle.prl_rule.specs.declared.views.Standing.{Standing}
 use Rattle.prl_rule.specs.declared.views.TaskPart.{TaskPart}
 use Rattle.prl_rule.specs.declared.views.View.{View}
-use Rattle.prl_rule.specs.RunValues.{RunValues}
-use Rattle.prl_rule.specs.Known.{run_of, values_of}
-use Rattle.prl_rule.specs.Rule.{StandsAt, first_part}
-use Rattle.prl_rule.specs.Steps.{caught_up, done_counted, half_loaded, half_missed, half_stored, half_taken, moved_on, now_loaded, with_part}
-use Rattle.prl_rule.specs.Told.{EndTold, HalfTold, IsAt, NowTold, WriteTold, part_at, part_of, part_or}
-use Rattle.prl_seats.specs.Boards.{BoardView}
-use Rattle.prl_seats.specs.JobSeats.{Follows, HasFirstPart, HasPartOf, IsSeatOf, IsStage, JobSeatView}
 use Rattle.prl_rule.proofs.Parts.{caught_ended, caught_open, part_there, set_found}
 
 -- the part of a view with this part

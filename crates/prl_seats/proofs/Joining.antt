@@ -6,17 +6,12 @@ use lib.ListN.{get_elem?}
 use Rattle.atomic_table.specs.Table.{Me, Allows, Enters, Joins, Final, Seen, keeps}
 use Rattle.atomic_table.proofs.Lists.{at_set, set_again}
 use Rattle.prl_plan.specs.declared.events.Event.{Event}
+use Rattle.prl_rule.specs.Vocabulary.{Witness, run_of, values_of, Agreed, AgreesWith, all_parts, first_part, bare, joined, spent, taken_in}
 use Rattle.prl_rule.specs.declared.views.ClockPart.{ClockPart}
 use Rattle.prl_rule.specs.declared.views.Constants.{Constants}
 use Rattle.prl_rule.specs.declared.views.TaskPart.{TaskPart}
 use Rattle.prl_rule.specs.declared.views.View.{View}
-use Rattle.prl_rule.specs.Agreement.{Witness}
-use Rattle.prl_rule.specs.Known.{run_of, values_of}
-use Rattle.prl_rule.specs.Rule.{Agreed, AgreesWith, all_parts, first_part}
-use Rattle.prl_rule.specs.Steps.{bare, joined, spent, taken_in}
-use Rattle.prl_seats.specs.Boards.{IsClosing}
-use Rattle.prl_seats.specs.code.Joining.{IsLive, joined_apart, refused}
-use Rattle.prl_seats.specs.Parts.{has_clock, overlap, share_part}
+use Rattle.prl_seats.specs.Vocabulary.{IsClosing, IsLive, joined_apart, refused, has_clock, overlap, share_part}
 
 overlap_none : (ps qs : List (Option TaskPart)) → ((j : ℕ) (p q : TaskPart) → get_elem? ps j ≡ some (Some p) → get_elem? qs j ≡ some (Some q) → ⊥) → overlap ps qs ≡ false
 overlap_none [] qs apart = refl

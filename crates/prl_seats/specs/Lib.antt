@@ -6,3 +6,4 @@ pub mod Parts
 pub mod JobSeats
 -- what private functions say to one another
 pub mod code
+pub mod Vocabulary

@@ -7,11 +7,9 @@ ghost use Rattle.prl_base.specs.declared.numbers.EdgeNo.{EdgeNo};
 ghost use Rattle.prl_base.specs.declared.values.Value.{Value};
 ghost use Rattle.prl_plan.specs.declared.events.Action.TheVariants as actions;
 ghost use Rattle.prl_seats.specs.declared.jobs.Stage.TheVariants as stages;
-ghost use Rattle.prl_rule.specs.Told.{RaiseTold, WriteTold};
+ghost use Rattle.prl_rule.specs.Vocabulary.{RaiseTold, WriteTold, run_of, values_of, half_of};
 ghost use Rattle.prl_rule.specs.declared.views.Constants.{Constants};
 ghost use Rattle.prl_seats.specs.JobSeats.{AnswersRelease, Ends, Follows, GoesOn, HasFirstPart, HasPartOf, IsFirstSeat, IsSameSeat, IsSeatOf, IsShut, IsStage, LoadsHalf, MayRaise, StaysAt, TellsStop, reseated};
-ghost use Rattle.prl_rule.specs.Known.{run_of, values_of};
-ghost use Rattle.prl_rule.specs.RunValues.{half_of};
 
 use crate::board::{Board, Seat};
 use prl_base::TaskNo;

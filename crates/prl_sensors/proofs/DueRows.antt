@@ -11,8 +11,8 @@ use Rattle.prl_base.specs.Clocks.{IsClock, IsDate}
 use Rattle.prl_base.specs.declared.operators.Clock.{Clock}
 use Rattle.prl_base.specs.declared.values.Value.{Value}
 use Rattle.prl_calendar.specs.Calendars.{AreAllClocks, AreDue, HasDate}
-use Rattle.prl_flow.specs.declared.programs.OutFlow.{OutFlow}
 use Rattle.prl_flow.specs.Actuators.{Row, is_date, row_at, row_text}
+use Rattle.prl_flow.specs.declared.programs.OutFlow.{OutFlow}
 use Rattle.prl_sensors.specs.Ends.{EndsBefore}
 use Rattle.prl_sensors.proofs.RowDates.{date_of}
 

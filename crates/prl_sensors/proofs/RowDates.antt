@@ -9,9 +9,8 @@ use Rattle.std.proofs.lemmas.Nat.{div-add-mod'}
 use Rattle.std.proofs.lemmas.Option.{slice_get_past}
 use Rattle.prl_base.specs.Clocks.{date_at}
 use Rattle.prl_base.specs.declared.operators.Clock.{Clock}
+use Rattle.prl_flow.specs.Vocabulary.{value_at, AreUpTo, is_date, row_at, actuator_rows, actuator_text, row_text}
 use Rattle.prl_flow.specs.declared.programs.OutFlow.{OutFlow}
-use Rattle.prl_flow.specs.Flows.{value_at}
-use Rattle.prl_flow.specs.Actuators.{AreUpTo, is_date, row_at, actuator_rows, actuator_text, row_text}
 use Rattle.prl_sensors.specs.Ends.{EndsBefore}
 
 -- a date of the clock has a number

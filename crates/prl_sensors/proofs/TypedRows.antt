@@ -8,13 +8,11 @@ use Rattle.std.proofs.lemmas.Bool.{cases_eq, leb-true, ltb-false, ltb-true}
 use Rattle.std.proofs.lemmas.Grind.{get_or-set_at}
 use Rattle.std.proofs.lemmas.List.{get_or-set_other, length-map, length-set}
 use Rattle.std.proofs.lemmas.Option.{slice_get_within}
+use Rattle.prl_base.specs.Vocabulary.{decimal_of, integer_of, negative, positive, ◌>>=◌, IsOfType}
 use Rattle.prl_base.specs.declared.decimals.TheConstants.{MAX_NEGATIVE, MAX_POSITIVE}
-use Rattle.prl_base.specs.Decimals.{decimal_of, integer_of, negative, positive}
-use Rattle.prl_base.specs.Reading.{◌>>=◌}
-use Rattle.prl_base.specs.Values.{IsOfType}
 use Rattle.prl_base.specs.declared.values.Ty.{Ty}
-use Rattle.prl_base.specs.declared.values.Ty.TheVariants as types
 use Rattle.prl_base.specs.declared.values.Value.{Value}
+use Rattle.prl_base.specs.declared.values.Ty.TheVariants as types
 use Rattle.prl_base.specs.declared.values.Value.TheVariants as values
 use Rattle.prl_flow.specs.Rows.{Rows, rows_of}
 use Rattle.prl_names.specs.Lookups.{index_of}

@@ -1,8 +1,7 @@
 //! The inputs by their names.
 
 ghost use Rattle.std.specs.Prelude.{◌≡◌, ◌<◌, ◌↔◌, IfOk, IfSome, Some, length, slice_get, true};
-ghost use Rattle.prl_names.specs.Lookups.{index_of};
-ghost use Rattle.prl_names.specs.Tables.{AreIndices};
+ghost use Rattle.prl_names.specs.Vocabulary.{index_of, AreIndices};
 
 use prl_base::{Name, Span};
 use prl_names::{Indices, Mention, found, index_has_the_name, indices};

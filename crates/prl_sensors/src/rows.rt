@@ -4,8 +4,7 @@ ghost use Rattle.std.specs.Prelude.{◌≡◌, ◌<◌, ◌+◌, ◌/◌, ℕ, L
 ghost use Rattle.std.specs.Option.{option_map};
 ghost use Rattle.std.specs.Vec.{vec_items};
 ghost use Rattle.csv.specs.Records.{fields_of};
-ghost use Rattle.prl_base.specs.Decimals.{integer_of};
-ghost use Rattle.prl_base.specs.Reading.{GivesBut};
+ghost use Rattle.prl_base.specs.Vocabulary.{integer_of, GivesBut};
 ghost use Rattle.prl_base.specs.declared.values.Value.TheVariants as values;
 ghost use Rattle.prl_sensors.specs.SensorRows.{is_header, no_rows, records_of, sensors_of, short_of, truth_of, unless_short, value_of, with_record, with_records, with_row, with_three, with_value};
 

@@ -4,26 +4,21 @@ use Rattle.std.specs.Prelude.{ℤ, pos, negsuc, int_lt}
 use Rattle.std.proofs.lemmas.Option.{slice_get_within}
 use Rattle.std.proofs.lemmas.Bool.{cases_lt}
 use Rattle.std.proofs.Math.Nat.{mul-le-mul_left, mul-le-mul_right, mul_assoc, mul_comm, div-mul-le_self, le_of_mul-le-mul_left}
-use Rattle.prl_base.specs.Clocks.{IsClock, date_at}
-use Rattle.prl_base.specs.Operators.{IsOperatorFor, IsResultClock, Origin, constant, delays, instance, origin_of}
+use Rattle.prl_base.specs.Vocabulary.{IsClock, date_at, IsOperatorFor, IsResultClock, Origin, constant, delays, instance, origin_of}
 use Rattle.prl_base.specs.declared.numbers.FlowNo.{FlowNo}
 use Rattle.prl_base.specs.declared.operators.Clock.{Clock}
 use Rattle.prl_base.specs.declared.operators.Op.{Op}
-use Rattle.prl_base.specs.declared.operators.Op.TheVariants as operators
 use Rattle.prl_base.specs.declared.values.Ty.{Ty}
 use Rattle.prl_base.specs.declared.values.Value.{Value}
-use Rattle.prl_body.specs.declared.bodies.CheckedBody.{CheckedBody}
+use Rattle.prl_base.specs.declared.operators.Op.TheVariants as operators
 use Rattle.prl_body.specs.Bodies.{body_named, body_step}
-use Rattle.prl_flow.specs.Applications.{nth_step, registers_before}
-use Rattle.prl_flow.specs.Programs.{FlatProgram, HasType, IsFlat, IsWellDefined}
-use Rattle.prl_flow.specs.Rows.{Rows}
-use Rattle.prl_flow.specs.Solutions.{AgreesClock, AreClocks, clock_of}
-use Rattle.prl_flow.specs.Uses.{IsArgument, NamesNow, UsesNow}
+use Rattle.prl_body.specs.declared.bodies.CheckedBody.{CheckedBody}
+use Rattle.prl_flow.specs.Vocabulary.{nth_step, registers_before, FlatProgram, HasType, IsFlat, IsWellDefined, Rows, AgreesClock, AreClocks, clock_of, IsArgument, NamesNow, UsesNow}
 use Rattle.prl_flow.specs.declared.programs.App.{App}
 use Rattle.prl_flow.specs.declared.programs.Arg.{Arg}
 use Rattle.prl_flow.specs.declared.programs.Def.{Def}
-use Rattle.prl_flow.specs.declared.programs.Def.TheVariants as definitions
 use Rattle.prl_flow.specs.declared.programs.Flow.{Flow}
+use Rattle.prl_flow.specs.declared.programs.Def.TheVariants as definitions
 use Rattle.prl_solutions.specs.Tables.{Table, taken, inputs_of, output_of, applied_of, value_of, Reads, nothing}
 
 taken_local : (f g : ℕ → Value) (o : Origin) → ((m : ℕ) → o ≡ instance m → f m ≡ g m) → taken f o ≡ taken g o

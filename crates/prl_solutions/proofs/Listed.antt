@@ -8,16 +8,10 @@ use Rattle.prl_base.specs.declared.numbers.FlowNo.{FlowNo}
 use Rattle.prl_base.specs.declared.operators.Clock.{Clock}
 use Rattle.prl_base.specs.declared.values.Value.{Value}
 use Rattle.prl_body.specs.declared.bodies.CheckedBody.{CheckedBody}
-use Rattle.prl_flow.specs.Applications.{HaveBodies}
-use Rattle.prl_flow.specs.Counts.{dates_before}
-use Rattle.prl_flow.specs.Programs.{FlatProgram, IsFlat}
-use Rattle.prl_flow.specs.Rows.{Rows}
-use Rattle.prl_flow.specs.Solutions.{AreClocks, HasRows, Solves, clock_of, values_of}
-use Rattle.prl_flow.specs.Uses.{IsOrder}
+use Rattle.prl_flow.specs.Vocabulary.{HaveBodies, dates_before, FlatProgram, IsFlat, Rows, AreClocks, HasRows, Solves, clock_of, values_of, IsOrder}
 use Rattle.prl_flow.proofs.ClockDates.{dates_before_number, length_from_IsUpTo}
 use Rattle.prl_flow.proofs.Lists.{same_from_elements}
-use Rattle.prl_solutions.specs.Conditions.{HaveTypedBodies}
-use Rattle.prl_solutions.specs.Tables.{IsFixed, Table, nothing, table_of}
+use Rattle.prl_solutions.specs.Vocabulary.{HaveTypedBodies, IsFixed, Table, nothing, table_of}
 use Rattle.prl_solutions.proofs.Rounds.{fixed_along, fixed_same, the_table, the_table_fixed}
 use Rattle.prl_solutions.proofs.Solved.{fixed_from_solves, solves_from_fixed}
 

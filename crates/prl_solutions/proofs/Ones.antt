@@ -3,23 +3,15 @@ use Rattle.std.proofs.Common.{◌≡◌, ◌<◌, ℕ, List, [], length, take, S
 use Rattle.std.specs.List.{AllByRecursion}
 use Rattle.std.proofs.lemmas.List.{length-take}
 use Rattle.std.proofs.lemmas.Option.{get_or_from_slice_get, slice_get_within}
-use Rattle.prl_base.specs.Clocks.{date_at}
-use Rattle.prl_base.specs.Values.{type_of}
+use Rattle.prl_base.specs.Vocabulary.{date_at, type_of}
 use Rattle.prl_base.specs.declared.numbers.FlowNo.{FlowNo}
 use Rattle.prl_base.specs.declared.operators.Clock.{Clock}
 use Rattle.prl_base.specs.declared.values.Value.{Value}
-use Rattle.prl_body.specs.declared.bodies.CheckedBody.{CheckedBody}
 use Rattle.prl_body.specs.Bodies.{IsWellTyped}
-use Rattle.prl_flow.specs.Applications.{HaveBodies}
-use Rattle.prl_flow.specs.Programs.{FlatProgram, IsFlat}
-use Rattle.prl_flow.specs.Rows.{Rows, rows_of}
-use Rattle.prl_flow.specs.Solutions.{AreClocks, HasRows, MeetsDefinition, Solves, clock_of, values_of}
-use Rattle.prl_flow.specs.States.{IsSolution, State}
-use Rattle.prl_flow.specs.Uses.{IsOrder}
+use Rattle.prl_body.specs.declared.bodies.CheckedBody.{CheckedBody}
+use Rattle.prl_flow.specs.Vocabulary.{HaveBodies, FlatProgram, IsFlat, Rows, rows_of, AreClocks, HasRows, MeetsDefinition, Solves, clock_of, values_of, IsSolution, State, IsOrder}
 use Rattle.prl_flow.specs.declared.programs.Def.{Def}
-use Rattle.prl_solutions.specs.Conditions.{AreTyped, AreTypedRows, HaveTypedBodies, clocks_in, values_in}
-use Rattle.prl_solutions.specs.Tables.{nothing, table_of}
-use Rattle.prl_solutions.specs.Uniqueness.{ExactlyOne}
+use Rattle.prl_solutions.specs.Vocabulary.{AreTyped, AreTypedRows, HaveTypedBodies, clocks_in, values_in, nothing, table_of, ExactlyOne}
 use Rattle.prl_solutions.proofs.Listed.{all_listed, solutions_same, table_solves}
 use Rattle.prl_solutions.proofs.OwnBodies.{own_bodies, own_have, own_solution, own_typed, own_typed_bodies}
 use Rattle.prl_solutions.proofs.Registers.{states_same}

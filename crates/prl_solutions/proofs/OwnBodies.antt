@@ -6,13 +6,10 @@ use Rattle.std.specs.Str.{bytes_eq}
 use Rattle.std.proofs.lemmas.Bool.{cases_Bool}
 use Rattle.std.proofs.lemmas.Slice.Eq.{bytes_eq-Decides}
 use Rattle.prl_base.specs.declared.values.Value.{Value}
-use Rattle.prl_body.specs.declared.bodies.CheckedBody.{CheckedBody}
 use Rattle.prl_body.specs.Bodies.{IsWellTyped, body_named}
-use Rattle.prl_flow.specs.Applications.{HaveBodies}
-use Rattle.prl_flow.specs.Programs.{FlatProgram}
-use Rattle.prl_flow.specs.Rows.{Rows}
-use Rattle.prl_flow.specs.Rules.{Rule, rated, constant, operator, applied, same, sensed, flat_rules, mark_rule}
-use Rattle.prl_flow.specs.States.{Holds, IsSolution, State, Timed, flow_at, registers_at}
+use Rattle.prl_body.specs.declared.bodies.CheckedBody.{CheckedBody}
+use Rattle.prl_flow.specs.Vocabulary.{HaveBodies, FlatProgram, Rows, Rule, rated, constant, operator, applied, same, sensed, flat_rules, mark_rule, Holds, IsSolution, State, Timed, flow_at}
+use Rattle.prl_flow.specs.Vocabulary.{registers_at}
 use Rattle.prl_flow.specs.declared.programs.App.{App}
 use Rattle.prl_behaviours.proofs.Lists.{all_both, some_inner}
 use Rattle.prl_solutions.specs.Conditions.{HaveTypedBodies}

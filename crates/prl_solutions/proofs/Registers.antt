@@ -6,13 +6,10 @@ use Rattle.prl_base.specs.Clocks.{IsClock, date_at}
 use Rattle.prl_base.specs.declared.numbers.FlowNo.{FlowNo}
 use Rattle.prl_base.specs.declared.operators.Clock.{Clock}
 use Rattle.prl_base.specs.declared.values.Value.{Value}
-use Rattle.prl_body.specs.declared.bodies.CheckedBody.{CheckedBody}
 use Rattle.prl_body.specs.Bodies.{body_step, first_values}
-use Rattle.prl_flow.specs.Counts.{dates_before}
-use Rattle.prl_flow.specs.Programs.{FlatProgram, IsFlat}
-use Rattle.prl_flow.specs.Rows.{Rows}
-use Rattle.prl_flow.specs.Rules.{Rule, app_rule, apps_rules, flat_rules, flows_rules, mark_rule}
-use Rattle.prl_flow.specs.States.{Holds, IsApplied, IsSolution, IsStep, IsTimed, State, Timed, flow_at, registers_at}
+use Rattle.prl_body.specs.declared.bodies.CheckedBody.{CheckedBody}
+use Rattle.prl_flow.specs.Vocabulary.{dates_before, FlatProgram, IsFlat, Rows, Rule, app_rule, apps_rules, flat_rules, flows_rules, mark_rule, Holds, IsApplied, IsSolution, IsStep, IsTimed, State}
+use Rattle.prl_flow.specs.Vocabulary.{Timed, flow_at, registers_at}
 use Rattle.prl_flow.specs.declared.programs.App.{App}
 use Rattle.prl_flow.specs.declared.programs.Arg.{Arg}
 use Rattle.prl_flow.proofs.ClockDates.{dates_before_number}

@@ -8,10 +8,7 @@ use Rattle.prl_base.specs.declared.numbers.FlowNo.{FlowNo}
 use Rattle.prl_base.specs.declared.operators.Clock.{Clock}
 use Rattle.prl_base.specs.declared.values.Value.{Value}
 use Rattle.prl_body.specs.declared.bodies.CheckedBody.{CheckedBody}
-use Rattle.prl_flow.specs.Programs.{FlatProgram, IsFlat}
-use Rattle.prl_flow.specs.Rows.{Rows}
-use Rattle.prl_flow.specs.Solutions.{AreClocks, clock_of}
-use Rattle.prl_flow.specs.Uses.{IsOrder, UsesNow}
+use Rattle.prl_flow.specs.Vocabulary.{FlatProgram, IsFlat, Rows, AreClocks, clock_of, IsOrder, UsesNow}
 use Rattle.prl_flow.specs.declared.programs.Flow.{Flow}
 use Rattle.prl_flow.proofs.Lists.{element_at}
 use Rattle.prl_solutions.specs.Tables.{IsFixed, Reads, Table, nothing, value_of}

@@ -2,33 +2,26 @@
 use Rattle.std.proofs.Common.{◌≡◌, ◌<◌, ◌≤◌, ℕ, List, [], ◌∷◌, map, length, take, Some, slice_get, slice_index_or, refl, sym, ◌∙◌, ap, subst, arith}
 use Rattle.std.proofs.lemmas.List.{length-take-le, length-map}
 use Rattle.std.proofs.lemmas.Option.{get_or_from_slice_get, slice_get-get_or, slice_get_within}
-use Rattle.prl_base.specs.Clocks.{IsClock, date_at}
-use Rattle.prl_base.specs.Operators.{IsOperatorFor, Origin, constant, instance, origin_of}
+use Rattle.prl_base.specs.Vocabulary.{IsClock, date_at, IsOperatorFor, Origin, constant, instance, origin_of}
 use Rattle.prl_base.specs.declared.operators.Clock.{Clock}
 use Rattle.prl_base.specs.declared.operators.Op.{Op}
-use Rattle.prl_base.specs.declared.operators.Op.TheVariants as operators
 use Rattle.prl_base.specs.declared.values.Ty.{Ty}
 use Rattle.prl_base.specs.declared.values.Value.{Value}
+use Rattle.prl_base.specs.declared.operators.Op.TheVariants as operators
+use Rattle.prl_body.specs.Vocabulary.{IsWellTyped, body_named, input_types, output_types, register_types, value_expressions, value}
 use Rattle.prl_body.specs.declared.bodies.CheckedBody.{CheckedBody}
-use Rattle.prl_body.specs.Bodies.{IsWellTyped, body_named, input_types, output_types, register_types, value_expressions}
-use Rattle.prl_body.specs.Values.{value}
 use Rattle.prl_body.proofs.Sound as sound
-use Rattle.prl_flow.specs.Applications.{HaveBodies, nth_step, registers_before, values_at}
-use Rattle.prl_flow.specs.Counts.{dates_before}
-use Rattle.prl_flow.specs.Instances.{IsDenominated, instance_values, value_from}
-use Rattle.prl_flow.specs.Programs.{FlatProgram, IsFlat, IsWellDefined}
-use Rattle.prl_flow.specs.Rows.{Rows, rows_of}
-use Rattle.prl_flow.specs.Solutions.{AgreesClock, AreClocks, HasRows, MeetsDefinition, Solves, argument_flows, clock_of, values_of}
+use Rattle.prl_flow.specs.Vocabulary.{HaveBodies, nth_step, registers_before, values_at, dates_before, IsDenominated, instance_values, value_from, FlatProgram, IsFlat, IsWellDefined, Rows, rows_of}
+use Rattle.prl_flow.specs.Vocabulary.{AgreesClock, AreClocks, HasRows, MeetsDefinition, Solves, argument_flows, clock_of, values_of}
 use Rattle.prl_flow.specs.declared.programs.App.{App}
 use Rattle.prl_flow.specs.declared.programs.Arg.{Arg}
 use Rattle.prl_flow.specs.declared.programs.Def.{Def}
-use Rattle.prl_flow.specs.declared.programs.Def.TheVariants as definitions
 use Rattle.prl_flow.specs.declared.programs.Flow.{Flow}
+use Rattle.prl_flow.specs.declared.programs.Def.TheVariants as definitions
 use Rattle.prl_flow.proofs.Applied.{length_HaveTypes, values_at_instance}
 use Rattle.prl_flow.proofs.ClockDates.{IsUpTo_from_length, OperatorByDate_from_instances, dates_before_number, dates_before_within, value_at_date, value_at_number, value_of_operator_date}
 use Rattle.prl_flow.proofs.Lists.{same_from_elements, slice_get_take}
-use Rattle.prl_solutions.specs.Conditions.{HaveTypedBodies}
-use Rattle.prl_solutions.specs.Tables.{IsFixed, Reads, Table, applied_of, inputs_of, nothing, table_of, taken, value_of}
+use Rattle.prl_solutions.specs.Vocabulary.{HaveTypedBodies, IsFixed, Reads, Table, applied_of, inputs_of, nothing, table_of, taken, value_of}
 use Rattle.prl_solutions.proofs.Earlier.{reads_before, reads_earlier, step_local}
 
 read_at : (flows : List (List Value)) (i n : ℕ) → n < length (values_of flows i) → slice_get (values_of flows i) n ≡ Some (table_of flows i n)

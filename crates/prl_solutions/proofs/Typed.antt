@@ -1,30 +1,23 @@
 -- The values of a table that is fixed have the types of their flows.
 use Rattle.std.proofs.Common.{◌≡◌, ◌<◌, ◌≤◌, ℕ, zero, suc, List, [], ◌∷◌, map, length, Some, slice_get, slice_index_or, refl, sym, ◌∙◌, ap, subst, arith}
 use Rattle.std.proofs.lemmas.Option.{slice_get-get_or, slice_get_within}
-use Rattle.prl_base.specs.Clocks.{date_at}
-use Rattle.prl_base.specs.Operators.{IsOperatorFor, Origin, constant, instance, origin_of}
-use Rattle.prl_base.specs.Values.{type_of}
+use Rattle.prl_base.specs.Vocabulary.{date_at, IsOperatorFor, Origin, constant, instance, origin_of, type_of}
 use Rattle.prl_base.specs.declared.numbers.FlowNo.{FlowNo}
 use Rattle.prl_base.specs.declared.operators.Clock.{Clock}
 use Rattle.prl_base.specs.declared.operators.Op.{Op}
-use Rattle.prl_base.specs.declared.operators.Op.TheVariants as operators
 use Rattle.prl_base.specs.declared.values.Ty.{Ty}
 use Rattle.prl_base.specs.declared.values.Value.{Value}
-use Rattle.prl_body.specs.declared.bodies.CheckedBody.{CheckedBody}
+use Rattle.prl_base.specs.declared.operators.Op.TheVariants as operators
 use Rattle.prl_body.specs.Bodies.{IsWellTyped, input_types, output_types, register_types}
+use Rattle.prl_body.specs.declared.bodies.CheckedBody.{CheckedBody}
 use Rattle.prl_body.proofs.Sound.{types_step}
-use Rattle.prl_flow.specs.Applications.{HaveBodies, HaveTypes, nth_step, registers_before}
-use Rattle.prl_flow.specs.Programs.{FlatProgram, IsFlat, IsWellDefined}
-use Rattle.prl_flow.specs.Rows.{Rows, rows_of}
-use Rattle.prl_flow.specs.Solutions.{AreClocks, HasRows, clock_of}
-use Rattle.prl_flow.specs.Uses.{IsArgument, IsOrder}
+use Rattle.prl_flow.specs.Vocabulary.{HaveBodies, HaveTypes, nth_step, registers_before, FlatProgram, IsFlat, IsWellDefined, Rows, rows_of, AreClocks, HasRows, clock_of, IsArgument, IsOrder}
 use Rattle.prl_flow.specs.declared.programs.Arg.{Arg}
 use Rattle.prl_flow.specs.declared.programs.Def.{Def}
-use Rattle.prl_flow.specs.declared.programs.Def.TheVariants as definitions
 use Rattle.prl_flow.specs.declared.programs.Flow.{Flow}
+use Rattle.prl_flow.specs.declared.programs.Def.TheVariants as definitions
 use Rattle.prl_flow.proofs.Applied.{length_HaveTypes, type_of_element}
-use Rattle.prl_solutions.specs.Conditions.{AreTypedRows, HaveTypedBodies}
-use Rattle.prl_solutions.specs.Tables.{IsFixed, Reads, Table, inputs_of, nothing, taken, value_of}
+use Rattle.prl_solutions.specs.Vocabulary.{AreTypedRows, HaveTypedBodies, IsFixed, Reads, Table, inputs_of, nothing, taken, value_of}
 use Rattle.prl_solutions.proofs.Rounds.{along_reads}
 use Rattle.prl_solutions.proofs.Solved.{applied_is, outputs_count}
 

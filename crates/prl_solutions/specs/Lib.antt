@@ -4,3 +4,4 @@ pub mod Tables
 pub mod Uniqueness
 -- what the laws ask of bodies and of the rows of sensors, and what they say of the types of values
 pub mod Conditions
+pub mod Vocabulary

@@ -5,12 +5,8 @@ ghost use Rattle.std.specs.Prelude.{◌≡◌, ℕ, List};
 ghost use Rattle.prl_base.specs.declared.numbers.FlowNo.{FlowNo};
 ghost use Rattle.prl_base.specs.declared.operators.Clock.{Clock};
 ghost use Rattle.prl_body.specs.declared.bodies.CheckedBody.{CheckedBody};
-ghost use Rattle.prl_flow.specs.Applications.{HaveBodies};
-ghost use Rattle.prl_flow.specs.Programs.{FlatProgram, IsFlat};
-ghost use Rattle.prl_flow.specs.Rows.{Rows};
-ghost use Rattle.prl_flow.specs.Solutions.{AreClocks, HasRows};
-ghost use Rattle.prl_flow.specs.States.{State, IsSolution};
-ghost use Rattle.prl_flow.specs.Uses.{IsOrder};
+ghost use Rattle.prl_flow.specs.Vocabulary.{HaveBodies, FlatProgram, IsFlat, Rows, AreClocks};
+ghost use Rattle.prl_flow.specs.Vocabulary.{HasRows, State, IsSolution, IsOrder};
 ghost use Rattle.prl_solutions.specs.Conditions.{AreTyped, AreTypedRows, HaveTypedBodies, clocks_in, values_in};
 ghost use Rattle.prl_solutions.specs.Uniqueness.{ExactlyOne};
 

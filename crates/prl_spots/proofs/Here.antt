@@ -3,12 +3,12 @@ use Rattle.std.proofs.Common.{◌≡◌, ◌≢◌, ◌++◌, ℕ, List, [], ◌
 use Rattle.std.specs.Prelude.{All}
 use Rattle.std.proofs.lemmas.List.Elements.{All-nil}
 use Rattle.std.proofs.lemmas.List.{append-nil}
-use Rattle.prl_lex.specs.declared.tokens.Token.{Token}
 use Rattle.prl_lex.specs.Lexing.{token_text, tokens_of}
+use Rattle.prl_lex.specs.declared.tokens.Token.{Token}
 use Rattle.prl_ast.specs.Trees.{ProgramTree}
+use Rattle.prl_syntax.specs.Parsing.{IsParsed}
 use Rattle.prl_syntax.specs.declared.parsing.ParseFault.{ParseFault}
 use Rattle.prl_syntax.specs.declared.parsing.ParseFault.TheVariants as faults
-use Rattle.prl_syntax.specs.Parsing.{IsParsed}
 use Rattle.prl_spots.specs.declared.unexpected.Trial.{Trial}
 use Rattle.prl_spots.specs.Unexpected.{AreOfRefusal, IsReadOn, IsRefusedAt, IsTokenThere, IsUnexpected, IsWordTold, MayStand, stands_text, trials_text}
 

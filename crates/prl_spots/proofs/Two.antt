@@ -1,7 +1,7 @@
 -- What is told of a name that stands twice.
 use Rattle.std.proofs.Common.{◌≡◌, ◌<◌, ℕ, List, [], Ok, inl, inr}
-use Rattle.prl_lex.specs.declared.tokens.Token.{Token}
 use Rattle.prl_lex.specs.Lexing.{tokens_of}
+use Rattle.prl_lex.specs.declared.tokens.Token.{Token}
 use Rattle.prl_spots.specs.Twice.{IsNameAt, IsTwice, two_text}
 
 -- two places

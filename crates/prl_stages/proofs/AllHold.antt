@@ -1,9 +1,6 @@
 -- Where no stage of a list refuses, all of them hold.
 use Rattle.std.proofs.Common.{◌≡◌, ◌++◌, List, [], ◌∷◌, Some, None, inl, inr}
-use Rattle.prl_stages.specs.declared.faults.Fault.{Fault}
-use Rattle.prl_stages.specs.declared.stages.Stage.{Stage}
-use Rattle.prl_stages.specs.Given.{Given}
-use Rattle.prl_stages.specs.Stages.{Comes, Holds}
+use Rattle.prl_stages.specs.Vocabulary.{Fault, Stage, Given, Comes, Holds}
 
 -- the first of stages that all hold, and the others
 pub first_holds : (g : Given) (stage : Stage) (rest : List Stage) → Comes g (stage ∷ rest) None → Holds g stage × Comes g rest None

@@ -10,19 +10,14 @@ use Rattle.prl_board.specs.Closings.{AreOutputs as AreRead, ClosedView, IsLastSt
 use Rattle.prl_core.specs.Cores.{AreOutputs}
 use Rattle.prl_exec.specs.Runs.{HasEnded}
 use Rattle.prl_flow.specs.declared.programs.OutFlow.{OutFlow}
+use Rattle.prl_plan.specs.Vocabulary.{is_actuator, IsHorizonJob, job_count, task_at, IsPlan, edge_at, no_edge, IsComplete, ExecState}
 use Rattle.prl_plan.specs.declared.graphs.Kind.{Kind}
 use Rattle.prl_plan.specs.declared.graphs.Kind.TheVariants as kinds
-use Rattle.prl_plan.specs.Graphs.{is_actuator}
-use Rattle.prl_plan.specs.Jobs.{IsHorizonJob, job_count, task_at}
-use Rattle.prl_plan.specs.Plans.{IsPlan, edge_at, no_edge}
-use Rattle.prl_plan.specs.Rules.{IsComplete}
-use Rattle.prl_plan.specs.Runs.{ExecState}
 use Rattle.prl_plan.proofs.RoundPeriods.{task_is}
 use Rattle.prl_replay.specs.Replays.{AddsFlow, AreFlowsBelow}
 use Rattle.prl_results.specs.Shown.{AddsShown, AreShown, AreShownBelow, core_in}
+use Rattle.prl_rule.specs.Vocabulary.{job_values_of, run_of, values_of, spent}
 use Rattle.prl_rule.specs.declared.views.Constants.{Constants}
-use Rattle.prl_rule.specs.Known.{job_values_of, run_of, values_of}
-use Rattle.prl_rule.specs.Steps.{spent}
 use Rattle.prl_seats.specs.declared.jobs.Stage.TheVariants as seat_stages
 use Rattle.prl_seats.specs.JobSeats.{JobSeatView}
 use Rattle.prl_values.specs.JobValues.{reads_of_job, value_on}

@@ -3,15 +3,12 @@ use Rattle.std.proofs.Common.{◌≤◌, ◌<◌, ◌^◌, ◌++◌, Bool, true,
 use Rattle.std.specs.Prelude.{is_some}
 use Rattle.prl_arguments.specs.declared.arguments.Command.{Command}
 use Rattle.prl_arguments.specs.declared.arguments.Mode.{Mode}
-use Rattle.prl_arguments.specs.declared.arguments.Mode.TheVariants as modes
-use Rattle.prl_stages.specs.declared.faults.InputFile.{InputFile}
-use Rattle.prl_stages.specs.declared.faults.InputFile.TheVariants as parts
-use Rattle.prl_stages.specs.declared.stages.Stage.{Stage}
-use Rattle.prl_stages.specs.declared.stages.Stage.TheVariants as stages
 use Rattle.prl_arguments.specs.declared.arguments.TheConstants.{MAX_UNTIL}
-use Rattle.prl_stages.specs.Given.{Folder, Given, IsGivenIn, IsGivenTo}
-use Rattle.prl_stages.specs.Stages.{Holds, IsDecided, AreDecided, files, front, graphed, named_bodies, planned, ran, stages_after, stages_of}
-use Rattle.prl_stages.specs.code.Ones.{FindOne}
+use Rattle.prl_arguments.specs.declared.arguments.Mode.TheVariants as modes
+use Rattle.prl_stages.specs.Vocabulary.{InputFile, Stage, Folder, Given, IsGivenIn, IsGivenTo, Holds, IsDecided, AreDecided, files, front, graphed, named_bodies, planned, ran, stages_after, stages_of}
+use Rattle.prl_stages.specs.Vocabulary.{FindOne}
+use Rattle.prl_stages.specs.declared.faults.InputFile.TheVariants as parts
+use Rattle.prl_stages.specs.declared.stages.Stage.TheVariants as stages
 use Rattle.prl_stages.proofs.OneParts.{one_clocks, one_flat}
 use Rattle.prl_stages.proofs.OnePlan.{one_graph}
 use Rattle.prl_stages.proofs.OneRun.{one_plan}

@@ -1,37 +1,27 @@
 -- Lists of stages come to an end, and the first stages are decided.
 use Rattle.std.proofs.Common.{◌≡◌, ◌≢◌, ℕ, List, [], ◌∷◌, Option, Some, None, Result, Ok, Err, refl, ap, ◌∙◌, inl, inr, subst}
 use Rattle.prl_base.specs.declared.values.Ty.{Ty}
-use Rattle.prl_ast.specs.declared.declarations.Import.{Import}
 use Rattle.prl_ast.specs.Trees.{ProgramTree}
+use Rattle.prl_ast.specs.declared.declarations.Import.{Import}
+use Rattle.prl_syntax.specs.Parsing.{IsParsed}
 use Rattle.prl_syntax.specs.declared.parsing.ParseFault.{ParseFault}
 use Rattle.prl_syntax.specs.declared.parsing.ParseFault.TheVariants as parsing
-use Rattle.prl_syntax.specs.Parsing.{IsParsed}
-use Rattle.prl_names.specs.Checks.{names_of}
-use Rattle.prl_names.specs.Named.{IsNamed}
-use Rattle.prl_names.specs.Uses.{used_imports}
+use Rattle.prl_names.specs.Vocabulary.{names_of, IsNamed, used_imports}
+use Rattle.prl_types.specs.Typing.{IsOutcome}
 use Rattle.prl_types.specs.declared.faults.TypeFault.{TypeFault}
 use Rattle.prl_types.specs.declared.faults.TypeFault.TheVariants as typing
-use Rattle.prl_types.specs.Typing.{IsOutcome}
+use Rattle.prl_body.specs.Vocabulary.{BodyTree, checked, TextTree}
 use Rattle.prl_body.specs.declared.faults.BodyFault.{BodyFault}
 use Rattle.prl_body.specs.declared.faults.BodyFault.TheVariants as body_faults
-use Rattle.prl_body.specs.Checks.{BodyTree, checked}
-use Rattle.prl_body.specs.Texts.{TextTree}
 use Rattle.prl_bodytext.specs.Parsing.{IsParsed as IsParsedBodies}
-use Rattle.prl_stages.specs.declared.faults.GrammarRefusal.{GrammarRefusal}
+use Rattle.prl_stages.specs.Vocabulary.{GrammarRefusal, TypesRefusal, BodiesRefusal, Fault, InputFile, Stage, Given, content_of, text_of, RefusesBodies, grammar_fault, types_fault, bodies_fault}
+use Rattle.prl_stages.specs.Vocabulary.{Holds, Comes, IsDecided, AreDecided}
 use Rattle.prl_stages.specs.declared.faults.GrammarRefusal.TheVariants as bad_grammar
-use Rattle.prl_stages.specs.declared.faults.TypesRefusal.{TypesRefusal}
 use Rattle.prl_stages.specs.declared.faults.TypesRefusal.TheVariants as bad_types
-use Rattle.prl_stages.specs.declared.faults.BodiesRefusal.{BodiesRefusal}
 use Rattle.prl_stages.specs.declared.faults.BodiesRefusal.TheVariants as bad_bodies
-use Rattle.prl_stages.specs.declared.faults.Fault.{Fault}
 use Rattle.prl_stages.specs.declared.faults.Fault.TheVariants as faults
-use Rattle.prl_stages.specs.declared.faults.InputFile.{InputFile}
 use Rattle.prl_stages.specs.declared.faults.InputFile.TheVariants as parts
-use Rattle.prl_stages.specs.declared.stages.Stage.{Stage}
 use Rattle.prl_stages.specs.declared.stages.Stage.TheVariants as stages
-use Rattle.prl_stages.specs.Given.{Given, content_of, text_of}
-use Rattle.prl_stages.specs.Parts.{RefusesBodies, grammar_fault, types_fault, bodies_fault}
-use Rattle.prl_stages.specs.Stages.{Holds, Comes, IsDecided, AreDecided}
 
 pub some_end : (g : Given) (list : List Stage) → AreDecided g list → (end : Option (Stage × Fault)) × Comes g list end
 some_end g [] h = (None, refl)

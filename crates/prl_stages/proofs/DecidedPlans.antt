@@ -1,32 +1,25 @@
 -- The stages that make a plan of a task graph are decided, by the laws of the crates below: words, dates and cells.
 use Rattle.std.proofs.Common.{◌≡◌, ◌≢◌, ◌≤◌, ◌⊎◌, ℕ, List, refl, inl, inr, subst, ⊎_elim}
 use Rattle.std.specs.Prelude.{sum}
+use Rattle.prl_buffers.specs.CellFaults.{IsCellFault}
 use Rattle.prl_buffers.specs.declared.tables.CellFault.{CellFault}
 use Rattle.prl_buffers.specs.declared.tables.CellFault.TheVariants as cell_faults
-use Rattle.prl_buffers.specs.CellFaults.{IsCellFault}
+use Rattle.prl_dates.specs.Faults.{IsDateFault, IsOfGraph}
 use Rattle.prl_dates.specs.declared.faults.DateFault.{DateFault}
 use Rattle.prl_dates.specs.declared.faults.DateFault.TheVariants as date_faults
-use Rattle.prl_dates.specs.Faults.{IsDateFault, IsOfGraph}
+use Rattle.prl_plan.specs.Vocabulary.{AreLeastCells, AreEncodedDates, IsWellFormed, task_at, AreShortGaps, AreShortWindows, HaveRoom, AreWords}
 use Rattle.prl_plan.specs.declared.graphs.TaskGraph.{TaskGraph}
 use Rattle.prl_plan.specs.declared.limits.TheConstants.{MAX_CELLS}
 use Rattle.prl_plan.specs.declared.tables.Used.{Used}
 use Rattle.prl_plan.specs.declared.tables.Window.{Window}
 use Rattle.prl_plan.specs.declared.words.Word.{Word}
-use Rattle.prl_plan.specs.Cells.{AreLeastCells}
-use Rattle.prl_plan.specs.Dates.{AreEncodedDates}
-use Rattle.prl_plan.specs.Graphs.{IsWellFormed}
-use Rattle.prl_plan.specs.Jobs.{task_at}
-use Rattle.prl_plan.specs.Plans.{AreShortGaps, AreShortWindows, HaveRoom}
-use Rattle.prl_plan.specs.Words.{AreWords}
+use Rattle.prl_words.specs.GraphWords.{IsWordFault}
 use Rattle.prl_words.specs.declared.graphs.WordFault.{WordFault}
 use Rattle.prl_words.specs.declared.graphs.WordFault.TheVariants as word_faults
-use Rattle.prl_words.specs.GraphWords.{IsWordFault}
 use Rattle.prl_stages.specs.declared.faults.DatesRefusal.TheVariants as bad_dates
 use Rattle.prl_stages.specs.declared.faults.Fault.TheVariants as faults
 use Rattle.prl_stages.specs.declared.stages.Stage.TheVariants as stages
-use Rattle.prl_stages.specs.Given.{Given}
-use Rattle.prl_stages.specs.Planned.{HasDates, HasGraph, HasWords}
-use Rattle.prl_stages.specs.Stages.{Holds, IsDecided}
+use Rattle.prl_stages.specs.Vocabulary.{Given, HasDates, HasGraph, HasWords, Holds, IsDecided}
 
 -- the laws of the crates below
 pub record Laws : Type 0 where

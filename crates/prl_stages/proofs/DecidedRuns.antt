@@ -12,50 +12,32 @@ use Rattle.prl_clock.specs.declared.calculus.ClockFault.{ClockFault}
 use Rattle.prl_clock.specs.declared.calculus.ClockFault.TheVariants as clock_faults
 use Rattle.prl_core.specs.Cores.{CoreView}
 use Rattle.prl_evaluation.specs.declared.evaluation.TheConstants.{MAX_VALUES}
-use Rattle.prl_expand.specs.Expansions.{Expansion, IsExpansion}
-use Rattle.prl_expand.specs.Flats.{flat_of}
+use Rattle.prl_expand.specs.Vocabulary.{Expansion, IsExpansion, flat_of}
 use Rattle.prl_expand.specs.declared.counts.TheConstants.{MAX_FLOWS}
-use Rattle.prl_flow.specs.Counts.{values_before}
-use Rattle.prl_flow.specs.Programs.{FlatProgram, IsFlat}
-use Rattle.prl_flow.specs.Solutions.{AreClocks}
-use Rattle.prl_flow.specs.Rows.{Rows}
-use Rattle.prl_flow.specs.Uses.{HasNoCycle, IsCycleLabel}
+use Rattle.prl_flow.specs.Vocabulary.{values_before, FlatProgram, IsFlat, AreClocks, Rows, HasNoCycle, IsCycleLabel}
+use Rattle.prl_graph.specs.TaskGraphs.{AreSmallClocks, IsGraphFault, IsGraphOf, IsOfProgram}
 use Rattle.prl_graph.specs.declared.faults.GraphFault.{GraphFault}
 use Rattle.prl_graph.specs.declared.faults.GraphFault.TheVariants as graph_faults
-use Rattle.prl_graph.specs.TaskGraphs.{AreSmallClocks, IsGraphFault, IsGraphOf, IsOfProgram}
+use Rattle.prl_plan.specs.Vocabulary.{IsWellFormed, IsHorizon, IsPastLimit, task_at, IsPlan, PlanView}
 use Rattle.prl_plan.specs.declared.graphs.TaskGraph.{TaskGraph}
 use Rattle.prl_plan.specs.declared.horizons.Horizon.{Horizon}
-use Rattle.prl_plan.specs.Graphs.{IsWellFormed}
-use Rattle.prl_plan.specs.Horizons.{IsHorizon, IsPastLimit}
-use Rattle.prl_plan.specs.Jobs.{task_at}
-use Rattle.prl_plan.specs.Plans.{IsPlan, PlanView}
+use Rattle.prl_replay.specs.Replays.{IsReplayFault, IsWholeText}
 use Rattle.prl_replay.specs.declared.faults.ReplayFault.{ReplayFault}
 use Rattle.prl_replay.specs.declared.faults.ReplayFault.TheVariants as causes
-use Rattle.prl_replay.specs.Replays.{IsReplayFault, IsWholeText}
 use Rattle.prl_sensors.specs.declared.faults.SensorFault.{SensorFault}
 use Rattle.prl_sensors.specs.declared.faults.SensorFault.TheVariants as sensor_faults
 use Rattle.prl_sensors.specs.SensorRows.{Inputs, sensors_of}
 use Rattle.prl_types.specs.Typing.{IsTyped}
-use Rattle.prl_stages.specs.declared.faults.ClocksRefusal.{ClocksRefusal}
+use Rattle.prl_stages.specs.Vocabulary.{ClocksRefusal, GraphRefusal, SensorsRefusal, HasClocks, IsCausal, clock_fault, Given, text_of, IsMain, graph_fault, bare, inputs_of, needs_of, rows_for}
+use Rattle.prl_stages.specs.Vocabulary.{sensors_fault, too_many, HasHorizon, Holds, IsDecided, PartLaws}
 use Rattle.prl_stages.specs.declared.faults.ClocksRefusal.TheVariants as bad_clocks
 use Rattle.prl_stages.specs.declared.faults.Fault.TheVariants as faults
-use Rattle.prl_stages.specs.declared.faults.GraphRefusal.{GraphRefusal}
 use Rattle.prl_stages.specs.declared.faults.GraphRefusal.TheVariants as bad_graph
 use Rattle.prl_stages.specs.declared.faults.InputFile.TheVariants as parts
 use Rattle.prl_stages.specs.declared.faults.ScheduleRefusal.TheVariants as bad_schedule
-use Rattle.prl_stages.specs.declared.faults.SensorsRefusal.{SensorsRefusal}
 use Rattle.prl_stages.specs.declared.faults.SensorsRefusal.TheVariants as bad_rows
 use Rattle.prl_stages.specs.declared.stages.Stage.TheVariants as stages
-use Rattle.prl_stages.specs.Flattened.{HasClocks, IsCausal, clock_fault}
-use Rattle.prl_stages.specs.Given.{Given, text_of}
-use Rattle.prl_stages.specs.Parts.{IsMain}
-use Rattle.prl_stages.specs.Planned.{graph_fault}
-use Rattle.prl_stages.specs.Replayed.{bare}
-use Rattle.prl_stages.specs.Runs.{inputs_of, needs_of, rows_for, sensors_fault, too_many}
-use Rattle.prl_stages.specs.Scheduled.{HasHorizon}
-use Rattle.prl_stages.specs.Stages.{Holds, IsDecided}
 use Rattle.prl_stages.proofs.OneParts.{is_flat}
-use Rattle.prl_stages.specs.code.Ones.{PartLaws}
 use Rattle.prl_stages.proofs.SmallClocks.{small_clocks}
 
 -- the laws of the crates below

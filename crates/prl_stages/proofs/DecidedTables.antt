@@ -5,45 +5,29 @@ use Rattle.prl_core.specs.Cores.{CoreView, opened_on}
 use Rattle.prl_cores.specs.declared.texts.CoresFault.{CoresFault}
 use Rattle.prl_cores.specs.declared.texts.CoresFault.TheVariants as unplaced
 use Rattle.prl_cores.specs.Processors.{processors_of}
+use Rattle.prl_plan.specs.Vocabulary.{IsHorizon, Placement, constants_on, task_at, IsPlan, PlanView, IsComplete, IsLegal, after_events, opening, IsSpread}
 use Rattle.prl_plan.specs.declared.events.Event.{Event}
 use Rattle.prl_plan.specs.declared.horizons.Horizon.{Horizon}
-use Rattle.prl_plan.specs.Horizons.{IsHorizon, Placement, constants_on}
-use Rattle.prl_plan.specs.Jobs.{task_at}
-use Rattle.prl_plan.specs.Plans.{IsPlan, PlanView}
-use Rattle.prl_plan.specs.Rules.{IsComplete, IsLegal}
-use Rattle.prl_plan.specs.Runs.{after_events, opening}
-use Rattle.prl_plan.specs.Spread.{IsSpread}
+use Rattle.prl_replay.specs.Replays.{IsReplayFault, IsWholeText}
 use Rattle.prl_replay.specs.declared.faults.ReplayFault.{ReplayFault}
 use Rattle.prl_replay.specs.declared.faults.ReplayFault.TheVariants as causes
-use Rattle.prl_replay.specs.Replays.{IsReplayFault, IsWholeText}
-use Rattle.prl_schedules.specs.Dispatches.{IsDispatched}
-use Rattle.prl_schedules.specs.ScheduleTexts.{task_names}
+use Rattle.prl_schedules.specs.Vocabulary.{IsDispatched, task_names}
+use Rattle.prl_table.specs.MakeFaults.{IsMade, IsMakeFault}
 use Rattle.prl_table.specs.declared.making.MakeFault.{MakeFault}
 use Rattle.prl_table.specs.declared.making.MakeFault.TheVariants as making
-use Rattle.prl_table.specs.MakeFaults.{IsMade, IsMakeFault}
+use Rattle.prl_tables.specs.Vocabulary.{IsFault, IsGood, entries_of}
 use Rattle.prl_tables.specs.declared.reading.TableFault.{TableFault}
-use Rattle.prl_tables.specs.declared.reading.TableFault.TheVariants as checking
 use Rattle.prl_tables.specs.declared.tables.Entry.{Entry}
-use Rattle.prl_tables.specs.Checks.{IsFault}
-use Rattle.prl_tables.specs.Tables.{IsGood}
-use Rattle.prl_tables.specs.TableTexts.{entries_of}
+use Rattle.prl_tables.specs.declared.reading.TableFault.TheVariants as checking
 use Rattle.prl_stages.specs.declared.faults.CoresRefusal.TheVariants as bad_cores
 use Rattle.prl_stages.specs.declared.faults.Fault.TheVariants as faults
 use Rattle.prl_stages.specs.declared.faults.InputFile.TheVariants as parts
-use Rattle.prl_stages.specs.declared.faults.MakeRefusal.{MakeRefusal}
+use Rattle.prl_stages.specs.Vocabulary.{MakeRefusal, ScheduleRefusal, TableRefusal, Given, text_of, HasPlacement, Lists, HasPlan, schedule_refusal, HasHorizon, Holds, IsDecided, IsTableFault}
+use Rattle.prl_stages.specs.Vocabulary.{make_refusal, table_refusal}
 use Rattle.prl_stages.specs.declared.faults.MakeRefusal.TheVariants as bad_making
-use Rattle.prl_stages.specs.declared.faults.ScheduleRefusal.{ScheduleRefusal}
 use Rattle.prl_stages.specs.declared.faults.ScheduleRefusal.TheVariants as bad_schedule
-use Rattle.prl_stages.specs.declared.faults.TableRefusal.{TableRefusal}
 use Rattle.prl_stages.specs.declared.faults.TableRefusal.TheVariants as bad_table
 use Rattle.prl_stages.specs.declared.stages.Stage.TheVariants as stages
-use Rattle.prl_stages.specs.Given.{Given, text_of}
-use Rattle.prl_stages.specs.Placed.{HasPlacement, Lists}
-use Rattle.prl_stages.specs.Planned.{HasPlan}
-use Rattle.prl_stages.specs.Replayed.{schedule_refusal}
-use Rattle.prl_stages.specs.Scheduled.{HasHorizon}
-use Rattle.prl_stages.specs.Stages.{Holds, IsDecided}
-use Rattle.prl_stages.specs.Tabled.{IsTableFault, make_refusal, table_refusal}
 
 -- the laws of the crates below
 pub record Laws : Type 0 where

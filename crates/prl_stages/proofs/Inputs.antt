@@ -11,12 +11,8 @@ use Rattle.prl_base.specs.declared.values.Ty.TheVariants as types
 use Rattle.prl_ast.specs.Trees.{ProgramTree}
 use Rattle.prl_behaviours.specs.Annotations.{Entered, entered, flows_in, right_flows}
 use Rattle.prl_behaviours.specs.Asked.{inputs_of as entered_inputs, outputs_of as entered_outputs}
-use Rattle.prl_expand.specs.Flats.{flow_no}
-use Rattle.prl_expand.specs.Expanding.{IsExpanded}
-use Rattle.prl_flow.specs.Counts.{dates_before}
-use Rattle.prl_flow.specs.Programs.{Device, FlatProgram, IsFlat, name_of}
-use Rattle.prl_flow.specs.Rows.{Rows}
-use Rattle.prl_flow.specs.Solutions.{AreClocks, HasRows, clock_of}
+use Rattle.prl_expand.specs.Vocabulary.{flow_no, IsExpanded}
+use Rattle.prl_flow.specs.Vocabulary.{dates_before, Device, FlatProgram, IsFlat, name_of, Rows, AreClocks, HasRows, clock_of}
 use Rattle.prl_flow.proofs.ClockDates.{dates_before_number}
 use Rattle.prl_sensors.specs.Facts.{AreRowsFor}
 use Rattle.prl_sensors.specs.SensorRows.{Inputs, sensors_of}

@@ -6,25 +6,14 @@ use Rattle.prl_base.specs.declared.operators.Clock.{Clock}
 use Rattle.prl_base.specs.declared.values.Ty.{Ty}
 use Rattle.prl_base.specs.declared.values.Value.{Value}
 use Rattle.prl_ast.specs.Trees.{ProgramTree}
-use Rattle.prl_behaviours.specs.Annotations.{Entered, flows_in, imports_in}
-use Rattle.prl_behaviours.specs.Asked.{outputs_of}
-use Rattle.prl_behaviours.specs.Behaviours.{Behaviour, Satisfies, behaviour_of, state_in}
-use Rattle.prl_behaviours.specs.Texts.{IsText, node_at}
+use Rattle.prl_behaviours.specs.Vocabulary.{Entered, flows_in, imports_in, outputs_of, Behaviour, Satisfies, behaviour_of, state_in, IsText, node_at}
 use Rattle.prl_body.specs.declared.bodies.CheckedBody.{CheckedBody}
 use Rattle.prl_clock.specs.Outcomes.{AreOnlyClocks}
 use Rattle.prl_evaluation.specs.Evaluations.{AreSolution}
-use Rattle.prl_expand.specs.Correspondence.{IsOneToOne}
-use Rattle.prl_expand.specs.Expansions.{AreCounted, Expansion, IsExpansion}
-use Rattle.prl_expand.specs.Flats.{flat_of, flow_no}
-use Rattle.prl_expand.specs.Expanding.{IsExpanded}
+use Rattle.prl_expand.specs.Vocabulary.{IsOneToOne, AreCounted, Expansion, IsExpansion, flat_of, flow_no, IsExpanded}
+use Rattle.prl_flow.specs.Vocabulary.{AreUpTo, IsUpTo, FlatProgram, IsFlat, Rows, IsSolution, IsTimed, State, flow_at}
 use Rattle.prl_flow.specs.declared.programs.OutFlow.{OutFlow}
-use Rattle.prl_flow.specs.Actuators.{AreUpTo}
-use Rattle.prl_flow.specs.Flows.{IsUpTo}
-use Rattle.prl_flow.specs.Programs.{FlatProgram, IsFlat}
-use Rattle.prl_flow.specs.Rows.{Rows}
-use Rattle.prl_flow.specs.States.{IsSolution, IsTimed, State, flow_at}
-use Rattle.prl_solutions.specs.Conditions.{clocks_in, values_in}
-use Rattle.prl_solutions.specs.Uniqueness.{ExactlyOne}
+use Rattle.prl_solutions.specs.Vocabulary.{clocks_in, values_in, ExactlyOne}
 use Rattle.prl_types.specs.Typing.{IsTyped}
 use Rattle.prl_stages.specs.Runs.{named_flows}
 use Rattle.prl_replay.specs.Outputs.{out_flows}

@@ -2,10 +2,9 @@
 use Rattle.std.proofs.Common.{◌≡◌, ◌<◌, ◌≤◌, ℕ, List, [], ◌∷◌, Option, Some, None, refl, sym, ap, ◌∙◌, inl, inr, subst, arith}
 use Rattle.std.specs.Prelude.{slice_index}
 use Rattle.std.proofs.lemmas.Bool.{cases_order}
+use Rattle.prl_plan.specs.Vocabulary.{IsComplete, IsUnfinished, first_unfinished, ExecState, RunConstants, after_event}
 use Rattle.prl_plan.specs.declared.events.Event.{Event}
 use Rattle.prl_plan.specs.declared.events.Event.TheVariants as events
-use Rattle.prl_plan.specs.Rules.{IsComplete, IsUnfinished, first_unfinished}
-use Rattle.prl_plan.specs.Runs.{ExecState, RunConstants, after_event}
 use Rattle.prl_schedules.specs.Dispatches.{IsDispatched}
 use Rattle.prl_track.specs.Tracks.{IsEarliest, IsIdle, IsNext}
 

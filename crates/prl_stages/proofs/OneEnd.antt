@@ -2,9 +2,8 @@
 use Rattle.std.proofs.Common.{◌≡◌, ◌<◌, ℕ, length, List, [], ◌∷◌, Option, Some, Result, Ok, Err, refl, sym, ap, ◌∙◌, inl, inr, subst, arith}
 use Rattle.prl_ast.specs.Trees.{ProgramTree}
 use Rattle.prl_types.specs.Typing.{IsFault}
+use Rattle.prl_body.specs.Vocabulary.{BodyTree, checked, TextTree}
 use Rattle.prl_body.specs.declared.faults.BodyFault.{BodyFault}
-use Rattle.prl_body.specs.Checks.{BodyTree, checked}
-use Rattle.prl_body.specs.Texts.{TextTree}
 use Rattle.prl_bodytext.specs.Parsing.{IsParsed}
 use Rattle.prl_names.specs.Uses.{used_imports}
 use Rattle.prl_base.specs.declared.operators.Clock.{Clock}
@@ -12,28 +11,18 @@ use Rattle.prl_behaviours.specs.Annotations.{flows_in}
 use Rattle.prl_clock.specs.Outcomes.{IsOutcome as IsClockOutcome}
 use Rattle.prl_evaluation.specs.declared.evaluation.TheConstants.{MAX_VALUES}
 use Rattle.prl_expand.specs.Expansions.{Expansion}
-use Rattle.prl_flow.specs.Programs.{FlatProgram}
-use Rattle.prl_flow.specs.Rows.{Rows}
-use Rattle.prl_flow.specs.Uses.{HasNoCycle, IsCycleLabel}
-use Rattle.prl_flow.specs.Counts.{values_before}
+use Rattle.prl_flow.specs.Vocabulary.{FlatProgram, Rows, HasNoCycle, IsCycleLabel, values_before}
 use Rattle.prl_sensors.specs.declared.faults.SensorFault.{SensorFault}
 use Rattle.prl_stages.specs.declared.faults.InputFile.TheVariants as parts
-use Rattle.prl_stages.specs.declared.faults.Fault.{Fault}
+use Rattle.prl_stages.specs.Vocabulary.{Fault, Stage, Given, content_of, text_of, IsMain, AreBodies, RefusesBodies, grammar_fault, types_fault, bodies_fault, HasClocks, clock_fault, too_many}
+use Rattle.prl_stages.specs.Vocabulary.{rows_for, sensors_fault, told_parse, told_types, told_clocks, told_body, told_sensors, Holds, Refuses, Comes, FindOne}
 use Rattle.prl_stages.specs.declared.faults.Fault.TheVariants as faults
-use Rattle.prl_stages.specs.declared.stages.Stage.{Stage}
 use Rattle.prl_stages.specs.declared.stages.Stage.TheVariants as stages
-use Rattle.prl_stages.specs.Given.{Given, content_of, text_of}
-use Rattle.prl_stages.specs.Parts.{IsMain, AreBodies, RefusesBodies, grammar_fault, types_fault, bodies_fault}
-use Rattle.prl_stages.specs.Flattened.{HasClocks, clock_fault}
-use Rattle.prl_stages.specs.Runs.{too_many, rows_for, sensors_fault}
-use Rattle.prl_stages.specs.Told.{told_parse, told_types, told_clocks, told_body, told_sensors}
 use Rattle.prl_stages.proofs.OnePlan.{cells_apart, cells_one, dates_apart, dates_one, graph_apart, graph_one, one_graph, words_apart, words_one}
 use Rattle.prl_stages.proofs.OnePlaced.{cores_apart, cores_one, placed_apart, placed_one}
 use Rattle.prl_stages.proofs.OneTable.{TableLaws, made_apart, made_one, table_apart, table_one}
 use Rattle.prl_stages.proofs.OneRun.{horizon_apart, horizon_one, schedule_apart, schedule_one}
 use Rattle.prl_stages.proofs.Told.{grammar_told, types_told, clocks_told, bodies_told, sensors_told, same_told}
-use Rattle.prl_stages.specs.Stages.{Holds, Refuses, Comes}
-use Rattle.prl_stages.specs.code.Ones.{FindOne}
 use Rattle.prl_stages.proofs.OneParts as ones
 use Rattle.prl_stages.proofs.OneParts.{ok_ok, ok_err, err_err}
 

@@ -3,38 +3,23 @@ use Rattle.std.proofs.Common.{◌≡◌, ℕ, List, Option, Result, Ok, map, sym
 use Rattle.prl_ast.specs.Trees.{ProgramTree}
 use Rattle.prl_base.specs.declared.operators.Clock.{Clock}
 use Rattle.prl_base.specs.declared.values.Ty.{Ty}
-use Rattle.prl_behaviours.specs.Asked.{outputs_of}
-use Rattle.prl_behaviours.specs.Behaviours.{Behaviour, Satisfies, state_in}
-use Rattle.prl_behaviours.specs.Texts.{node_at}
-use Rattle.prl_body.specs.Checks.{BodyTree, body_tree, checked}
-use Rattle.prl_body.specs.Texts.{TextTree}
+use Rattle.prl_behaviours.specs.Vocabulary.{outputs_of, Behaviour, Satisfies, state_in, node_at}
+use Rattle.prl_body.specs.Vocabulary.{BodyTree, body_tree, checked, TextTree}
 use Rattle.prl_body.specs.declared.bodies.CheckedBody.{CheckedBody}
 use Rattle.prl_body.specs.declared.faults.BodyFault.{BodyFault}
 use Rattle.prl_clock.specs.Outcomes.{AreOnlyClocks}
 use Rattle.prl_core.specs.Cores.{opened_on}
-use Rattle.prl_expand.specs.Correspondence.{IsOneToOne}
-use Rattle.prl_expand.specs.Expansions.{Expansion, IsExpansion}
-use Rattle.prl_expand.specs.Flats.{flat_of}
-use Rattle.prl_flow.specs.Programs.{FlatProgram, IsFlat}
-use Rattle.prl_flow.specs.Rows.{Rows}
-use Rattle.prl_flow.specs.States.{IsSolution, State}
+use Rattle.prl_expand.specs.Vocabulary.{IsOneToOne, Expansion, IsExpansion, flat_of}
+use Rattle.prl_flow.specs.Vocabulary.{FlatProgram, IsFlat, Rows, IsSolution, State}
 use Rattle.prl_names.specs.Uses.{used_imports}
+use Rattle.prl_plan.specs.Vocabulary.{Placement, alone, constants_on, PlanView, opening}
 use Rattle.prl_plan.specs.declared.graphs.TaskGraph.{TaskGraph}
 use Rattle.prl_plan.specs.declared.horizons.Horizon.{Horizon}
-use Rattle.prl_plan.specs.Horizons.{Placement, alone, constants_on}
-use Rattle.prl_plan.specs.Plans.{PlanView}
-use Rattle.prl_plan.specs.Runs.{opening}
 use Rattle.prl_solutions.specs.Conditions.{clocks_in}
 use Rattle.prl_types.specs.Typing.{IsTyped}
 use Rattle.prl_values.specs.JobValues.{job_values}
 use Rattle.prl_stages.specs.declared.faults.InputFile.TheVariants as parts
-use Rattle.prl_stages.specs.Given.{Given, text_of}
-use Rattle.prl_stages.specs.Parts.{AreBodies}
-use Rattle.prl_stages.specs.Planned.{HasGraph}
-use Rattle.prl_stages.specs.Flattened.{HasClocks, IsFlattened}
-use Rattle.prl_stages.specs.Replayed.{Execution}
-use Rattle.prl_stages.specs.Runs.{Meaning, meant_flows, named_flows, rows_for}
-use Rattle.prl_stages.specs.code.Ones.{FindOne}
+use Rattle.prl_stages.specs.Vocabulary.{Given, text_of, AreBodies, HasGraph, HasClocks, IsFlattened, Execution, Meaning, meant_flows, named_flows, rows_for, FindOne}
 use Rattle.prl_stages.proofs.OneParts.{is_flat, ok_ok, one_clocks, one_flat, one_main, one_program}
 use Rattle.prl_stages.proofs.OnePlan.{one_graph}
 use Rattle.prl_stages.proofs.OneRun.{moved, one_plan}

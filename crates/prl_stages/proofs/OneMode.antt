@@ -2,10 +2,8 @@
 use Rattle.std.proofs.Common.{◌≡◌, ◌++◌, ℕ, Bool, List, [], ◌∷◌, None}
 use Rattle.prl_arguments.specs.declared.arguments.Mode.{Mode}
 use Rattle.prl_arguments.specs.declared.arguments.Mode.TheVariants as modes
-use Rattle.prl_stages.specs.declared.stages.Stage.{Stage}
+use Rattle.prl_stages.specs.Vocabulary.{Stage, Given, Comes, Holds, IsText, front, stages_after}
 use Rattle.prl_stages.specs.declared.stages.Stage.TheVariants as stages
-use Rattle.prl_stages.specs.Given.{Given}
-use Rattle.prl_stages.specs.Stages.{Comes, Holds, IsText, front, stages_after}
 use Rattle.prl_stages.proofs.AllHold.{first_holds}
 use Rattle.prl_stages.proofs.OneText as one
 use Rattle.prl_stages.proofs.OneText.{Laws}

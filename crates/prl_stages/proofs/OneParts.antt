@@ -1,19 +1,15 @@
 -- The texts of a command have one program, one main node, one flat program and one list of clocks.
 use Rattle.std.proofs.Common.{◌≡◌, ℕ, List, Result, Ok, Err, refl, sym, ap, ◌∙◌, subst}
+use Rattle.prl_base.specs.declared.operators.Clock.{Clock}
 use Rattle.prl_base.specs.declared.values.Ty.{Ty}
 use Rattle.prl_ast.specs.Trees.{ProgramTree}
-use Rattle.prl_types.specs.declared.faults.TypeFault.{TypeFault}
 use Rattle.prl_types.specs.Typing.{IsTyped, IsFault}
-use Rattle.prl_base.specs.declared.operators.Clock.{Clock}
+use Rattle.prl_types.specs.declared.faults.TypeFault.{TypeFault}
 use Rattle.prl_clock.specs.Outcomes.{AreOnlyClocks}
-use Rattle.prl_expand.specs.Expansions.{Expansion, IsExpansion}
-use Rattle.prl_expand.specs.Flats.{flat_of}
+use Rattle.prl_expand.specs.Vocabulary.{Expansion, IsExpansion, flat_of}
 use Rattle.prl_flow.specs.Programs.{FlatProgram, IsFlat}
 use Rattle.prl_stages.specs.declared.faults.InputFile.TheVariants as parts
-use Rattle.prl_stages.specs.Given.{Given, text_of}
-use Rattle.prl_stages.specs.Parts.{IsProgram, IsMain}
-use Rattle.prl_stages.specs.Flattened.{IsFlattened, HasClocks}
-use Rattle.prl_stages.specs.code.Ones.{PartLaws}
+use Rattle.prl_stages.specs.Vocabulary.{Given, text_of, IsProgram, IsMain, IsFlattened, HasClocks, PartLaws}
 
 pub ok_ok : {A F : Type 0} (r : Result A F) (a b : A) → r ≡ Ok a → r ≡ Ok b → a ≡ b
 ok_ok r a b h k = cc

@@ -3,31 +3,20 @@ use Rattle.std.proofs.Common.{◌≡◌, ◌+◌, ℕ, Bool, List, [], Some, Ok,
 use Rattle.prl_core.specs.Cores.{opened_on}
 use Rattle.prl_cores.specs.declared.texts.CoresFault.{CoresFault}
 use Rattle.prl_cores.specs.Processors.{processors_of}
+use Rattle.prl_plan.specs.Vocabulary.{Placement, constants_on, PlanView, IsLegal, FirstBroken, IsFirstUnfinished, RunConstants, opening, after_events, IsSpread}
 use Rattle.prl_plan.specs.declared.events.Event.{Event}
 use Rattle.prl_plan.specs.declared.graphs.TaskGraph.{TaskGraph}
 use Rattle.prl_plan.specs.declared.horizons.Horizon.{Horizon}
-use Rattle.prl_plan.specs.Horizons.{Placement, constants_on}
-use Rattle.prl_plan.specs.Plans.{PlanView}
-use Rattle.prl_plan.specs.Rules.{IsLegal, FirstBroken, IsFirstUnfinished}
-use Rattle.prl_plan.specs.Runs.{RunConstants, opening, after_events}
-use Rattle.prl_plan.specs.Spread.{IsSpread}
+use Rattle.prl_replay.specs.Replays.{IsReplayFault}
 use Rattle.prl_replay.specs.declared.faults.ReplayFault.{ReplayFault}
 use Rattle.prl_replay.specs.declared.faults.ReplayFault.TheVariants as causes
-use Rattle.prl_replay.specs.Replays.{IsReplayFault}
 use Rattle.prl_schedules.specs.declared.schedules.ScheduleFault.TheVariants as lines
-use Rattle.prl_schedules.specs.Schedules.{schedule_of}
-use Rattle.prl_schedules.specs.ScheduleTexts.{task_names}
+use Rattle.prl_schedules.specs.Vocabulary.{schedule_of, task_names}
 use Rattle.std.specs.Prelude.{slice_get, take}
 use Rattle.prl_stages.specs.declared.faults.InputFile.TheVariants as parts
-use Rattle.prl_stages.specs.declared.faults.Fault.{Fault}
+use Rattle.prl_stages.specs.Vocabulary.{Fault, Given, text_of, HasPlacement, IsPlacedRun, Lists, RefusesCores, RefusesPlaced, cores_refusal, HasGraph, HasPlan, schedule_refusal, HasHorizon, RunLaws}
 use Rattle.prl_stages.specs.declared.faults.Fault.TheVariants as faults
-use Rattle.prl_stages.specs.Given.{Given, text_of}
-use Rattle.prl_stages.specs.Placed.{HasPlacement, IsPlacedRun, Lists, RefusesCores, RefusesPlaced, cores_refusal}
-use Rattle.prl_stages.specs.Planned.{HasGraph, HasPlan}
-use Rattle.prl_stages.specs.Replayed.{schedule_refusal}
-use Rattle.prl_stages.specs.Scheduled.{HasHorizon}
 use Rattle.prl_stages.proofs.OneRun.{one_plan, moved}
-use Rattle.prl_stages.specs.code.Ones.{RunLaws}
 use Rattle.prl_stages.proofs.Told.{some_some}
 
 ok_ok : {A F : Type 0} (r : Result A F) (x y : A) → r ≡ Ok x → r ≡ Ok y → x ≡ y

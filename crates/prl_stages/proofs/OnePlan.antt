@@ -3,38 +3,27 @@ use Rattle.std.proofs.Common.{◌≡◌, ◌<◌, ℕ, ℤ, pos, List, Some, Non
 use Rattle.std.specs.Prelude.{◌≤ℤ◌}
 use borrow.Author.Differences.{ints}
 use Rattle.prl_base.specs.declared.limits.Limit.{Limit}
-use Rattle.prl_base.specs.declared.limits.What.TheVariants as whats
 use Rattle.prl_base.specs.declared.numbers.TaskNo.{TaskNo}
 use Rattle.prl_base.specs.declared.operators.Clock.{Clock}
+use Rattle.prl_base.specs.declared.limits.What.TheVariants as whats
 use Rattle.prl_flow.specs.Programs.{FlatProgram}
-use Rattle.prl_graph.specs.declared.faults.GraphFault.{GraphFault}
 use Rattle.prl_graph.specs.TaskGraphs.{IsGraphOf, IsGraphFault, IsOfProgram}
+use Rattle.prl_graph.specs.declared.faults.GraphFault.{GraphFault}
+use Rattle.prl_plan.specs.Vocabulary.{AreLeastCells, IsBest, AreEncodedDates, jobs_in_hyperperiod, Job, AreShortWindows, PlanView}
 use Rattle.prl_plan.specs.declared.graphs.TaskGraph.{TaskGraph}
 use Rattle.prl_plan.specs.declared.limits.TheConstants.{MAX_PREFIX}
 use Rattle.prl_plan.specs.declared.tables.Used.{Used}
 use Rattle.prl_plan.specs.declared.tables.Window.{Window}
 use Rattle.prl_plan.specs.declared.words.Word.{Word}
-use Rattle.prl_plan.specs.Cells.{AreLeastCells}
-use Rattle.prl_plan.specs.Chains.{IsBest}
-use Rattle.prl_plan.specs.Dates.{AreEncodedDates}
-use Rattle.prl_plan.specs.Graphs.{jobs_in_hyperperiod}
-use Rattle.prl_plan.specs.Jobs.{Job}
-use Rattle.prl_plan.specs.Plans.{AreShortWindows, PlanView}
 use Rattle.prl_words.specs.GraphWords.{constant_reads}
+use Rattle.prl_dates.specs.Faults.{EndsLoop, HasNarrowChain, HasNoNarrowChain, IsDateFault, IsLate, IsLowest, IsOfGraph, IsSomehowLate, NoneOfPeriod}
 use Rattle.prl_dates.specs.declared.faults.DateFault.{DateFault}
 use Rattle.prl_dates.specs.declared.faults.DateFault.TheVariants as date_faults
-use Rattle.prl_dates.specs.Faults.{EndsLoop, HasNarrowChain, HasNoNarrowChain, IsDateFault, IsLate, IsLowest, IsOfGraph, IsSomehowLate, NoneOfPeriod}
 use Rattle.prl_plantext.proofs.Counts.{constants_are, counts_are_one}
-use Rattle.prl_stages.specs.declared.faults.DatesRefusal.{DatesRefusal}
-use Rattle.prl_stages.specs.declared.faults.GraphRefusal.{GraphRefusal}
+use Rattle.prl_stages.specs.Vocabulary.{DatesRefusal, GraphRefusal, Fault, Given, HasClocks, IsFlattened, HasDates, HasGraph, HasPlan, HasWords, RefusesCells, RefusesDates, RefusesGraph, RefusesWords}
+use Rattle.prl_stages.specs.Vocabulary.{dates_refusal, graph_fault, told_graph, PlanLaws}
 use Rattle.prl_stages.specs.declared.faults.GraphRefusal.TheVariants as bad_graph
-use Rattle.prl_stages.specs.declared.faults.Fault.{Fault}
 use Rattle.prl_stages.specs.declared.faults.Fault.TheVariants as faults
-use Rattle.prl_stages.specs.Given.{Given}
-use Rattle.prl_stages.specs.Flattened.{HasClocks, IsFlattened}
-use Rattle.prl_stages.specs.Planned.{HasDates, HasGraph, HasPlan, HasWords, RefusesCells, RefusesDates, RefusesGraph, RefusesWords, dates_refusal, graph_fault}
-use Rattle.prl_stages.specs.Told.{told_graph}
-use Rattle.prl_stages.specs.code.Ones.{PlanLaws}
 use Rattle.prl_stages.proofs.Told.{graph_told, same_told, some_some}
 
 -- a refusal of the task graph is of the program

@@ -1,20 +1,14 @@
 -- A program has one horizon, and its schedule is whole or is refused with one fault.
 use Rattle.std.proofs.Common.{◌≡◌, Some, sym, ap, ◌∙◌, subst}
 use Rattle.prl_base.specs.declared.limits.Limit.{Limit}
+use Rattle.prl_plan.specs.Vocabulary.{IsHorizon, IsPastLimit, PlanView}
 use Rattle.prl_plan.specs.declared.graphs.TaskGraph.{TaskGraph}
 use Rattle.prl_plan.specs.declared.horizons.Horizon.{Horizon}
-use Rattle.prl_plan.specs.Horizons.{IsHorizon, IsPastLimit}
-use Rattle.prl_plan.specs.Plans.{PlanView}
-use Rattle.prl_replay.specs.declared.faults.ReplayFault.{ReplayFault}
 use Rattle.prl_replay.specs.Replays.{IsReplayFault}
+use Rattle.prl_replay.specs.declared.faults.ReplayFault.{ReplayFault}
 use Rattle.prl_stages.specs.declared.faults.InputFile.TheVariants as parts
-use Rattle.prl_stages.specs.declared.faults.Fault.{Fault}
+use Rattle.prl_stages.specs.Vocabulary.{Fault, Given, text_of, HasGraph, HasPlan, IsWholeRun, RefusesSchedule, bare, schedule_refusal, HasHorizon, RefusesHorizon, RunLaws}
 use Rattle.prl_stages.specs.declared.faults.Fault.TheVariants as faults
-use Rattle.prl_stages.specs.Given.{Given, text_of}
-use Rattle.prl_stages.specs.Planned.{HasGraph, HasPlan}
-use Rattle.prl_stages.specs.Replayed.{IsWholeRun, RefusesSchedule, bare, schedule_refusal}
-use Rattle.prl_stages.specs.Scheduled.{HasHorizon, RefusesHorizon}
-use Rattle.prl_stages.specs.code.Ones.{RunLaws}
 use Rattle.prl_stages.proofs.Told.{some_some}
 
 module _ (law : RunLaws) (g : Given) (one_graph : (a b : TaskGraph) → HasGraph g a → HasGraph g b → a ≡ b) where

@@ -1,26 +1,19 @@
 -- A program has one made table or one fault of making, and the table of a text is good or has one fault.
 use Rattle.std.proofs.Common.{◌≡◌, ◌≢◌, List, Some, None, Ok, Err, Result, sym, ap, ◌∙◌, inl, inr, subst}
-use Rattle.prl_plan.specs.declared.graphs.TaskGraph.{TaskGraph}
 use Rattle.prl_plan.specs.Plans.{PlanView, IsPlan}
+use Rattle.prl_plan.specs.declared.graphs.TaskGraph.{TaskGraph}
+use Rattle.prl_tables.specs.Vocabulary.{IsFault, IsGood, entries_of}
 use Rattle.prl_tables.specs.declared.reading.TableFault.{TableFault}
-use Rattle.prl_tables.specs.declared.reading.TableFault.TheVariants as checking
 use Rattle.prl_tables.specs.declared.tables.Entry.{Entry}
-use Rattle.prl_tables.specs.Checks.{IsFault}
-use Rattle.prl_tables.specs.Tables.{IsGood}
-use Rattle.prl_tables.specs.TableTexts.{entries_of}
+use Rattle.prl_tables.specs.declared.reading.TableFault.TheVariants as checking
+use Rattle.prl_table.specs.MakeFaults.{IsMade, IsMakeFault}
 use Rattle.prl_table.specs.declared.making.MakeFault.{MakeFault}
 use Rattle.prl_table.specs.declared.making.MakeFault.TheVariants as making
-use Rattle.prl_table.specs.MakeFaults.{IsMade, IsMakeFault}
 use Rattle.prl_stages.specs.declared.faults.InputFile.TheVariants as parts
-use Rattle.prl_stages.specs.declared.faults.Fault.{Fault}
+use Rattle.prl_stages.specs.Vocabulary.{Fault, MakeRefusal, TableRefusal, Given, text_of, HasGraph, HasMadeTable, HasTable, IsTableFault, RefusesMade, RefusesTable, make_refusal, table_refusal}
+use Rattle.prl_stages.specs.Vocabulary.{RunLaws}
 use Rattle.prl_stages.specs.declared.faults.Fault.TheVariants as faults
-use Rattle.prl_stages.specs.declared.faults.MakeRefusal.{MakeRefusal}
-use Rattle.prl_stages.specs.declared.faults.TableRefusal.{TableRefusal}
-use Rattle.prl_stages.specs.Given.{Given, text_of}
-use Rattle.prl_stages.specs.Planned.{HasGraph}
-use Rattle.prl_stages.specs.Tabled.{HasMadeTable, HasTable, IsTableFault, RefusesMade, RefusesTable, make_refusal, table_refusal}
 use Rattle.prl_stages.proofs.OneRun.{one_plan}
-use Rattle.prl_stages.specs.code.Ones.{RunLaws}
 use Rattle.prl_stages.proofs.Told.{some_some}
 
 -- the laws of the crates below

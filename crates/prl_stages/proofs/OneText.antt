@@ -5,45 +5,26 @@ use Rattle.prl_arguments.specs.declared.arguments.Mode.TheVariants as modes
 use Rattle.prl_base.specs.declared.operators.Clock.{Clock}
 use Rattle.prl_core.specs.Cores.{opened, opened_on}
 use Rattle.prl_cores.specs.Processors.{processors_of}
+use Rattle.prl_edf.specs.Vocabulary.{wcets_of, IsVerdict, verdict_line}
 use Rattle.prl_edf.specs.declared.analysis.Verdict.{Verdict}
-use Rattle.prl_edf.specs.UnitLists.{wcets_of}
-use Rattle.prl_edf.specs.Verdicts.{IsVerdict}
-use Rattle.prl_edf.specs.VerdictTexts.{verdict_line}
-use Rattle.prl_flow.specs.Actuators.{actuator_text}
-use Rattle.prl_flow.specs.Programs.{FlatProgram}
+use Rattle.prl_flow.specs.Vocabulary.{actuator_text, FlatProgram}
 use Rattle.prl_flow.specs.declared.programs.OutFlow.{OutFlow}
+use Rattle.prl_plan.specs.Vocabulary.{HasPlanFacts, IsHorizon, Placement, constants_of, constants_on, IsPlan, PlanView, RunConstants, opening, IsSpread}
 use Rattle.prl_plan.specs.declared.events.Event.{Event}
 use Rattle.prl_plan.specs.declared.horizons.Horizon.{Horizon}
-use Rattle.prl_plan.specs.Facts.{HasPlanFacts}
-use Rattle.prl_plan.specs.Horizons.{IsHorizon, Placement, constants_of, constants_on}
-use Rattle.prl_plan.specs.Plans.{IsPlan, PlanView}
-use Rattle.prl_plan.specs.Runs.{RunConstants, opening}
-use Rattle.prl_plan.specs.Spread.{IsSpread}
 use Rattle.prl_plantext.specs.PlanTexts.{plan_text}
 use Rattle.prl_print.specs.Printing.{printed}
 use Rattle.prl_replay.specs.Replays.{IsReplay}
 use Rattle.prl_rule.specs.declared.views.Gate.{Gate}
-use Rattle.prl_schedules.specs.Dispatches.{IsDispatched}
-use Rattle.prl_schedules.specs.ReadTexts.{text_of_reads}
-use Rattle.prl_schedules.specs.Schedules.{schedule_of}
-use Rattle.prl_schedules.specs.ScheduleTexts.{task_names, text_of_events}
+use Rattle.prl_schedules.specs.Vocabulary.{IsDispatched, text_of_reads, schedule_of, task_names, text_of_events}
 use Rattle.prl_table.specs.MakeFaults.{IsMade}
-use Rattle.prl_tables.specs.declared.tables.Entry.{Entry}
 use Rattle.prl_tables.specs.TableTexts.{text_of as table_text}
+use Rattle.prl_tables.specs.declared.tables.Entry.{Entry}
 use Rattle.prl_track.specs.declared.seen.Seen.{Seen}
 use Rattle.prl_stages.specs.declared.faults.InputFile.TheVariants as parts
+use Rattle.prl_stages.specs.Vocabulary.{IsEdfText, HasClocks, Given, text_of, HasPlacement, IsCoresText, Lists, HasPlan, accepted_line, IsCycleText, IsRunText, IsSummary, sum_of, summary_line}
+use Rattle.prl_stages.specs.Vocabulary.{Execution, IsReplayText, IsFlowsText, meant_flows, HasHorizon, IsScheduleText, IsText, IsTableText}
 use Rattle.prl_stages.specs.declared.ran.Ran.{Ran}
-use Rattle.prl_stages.specs.Feasible.{IsEdfText}
-use Rattle.prl_stages.specs.Flattened.{HasClocks}
-use Rattle.prl_stages.specs.Given.{Given, text_of}
-use Rattle.prl_stages.specs.Placed.{HasPlacement, IsCoresText, Lists}
-use Rattle.prl_stages.specs.Planned.{HasPlan, accepted_line}
-use Rattle.prl_stages.specs.Ran.{IsCycleText, IsRunText, IsSummary, sum_of, summary_line}
-use Rattle.prl_stages.specs.Replayed.{Execution, IsReplayText}
-use Rattle.prl_stages.specs.Runs.{IsFlowsText, meant_flows}
-use Rattle.prl_stages.specs.Scheduled.{HasHorizon, IsScheduleText}
-use Rattle.prl_stages.specs.Stages.{IsText}
-use Rattle.prl_stages.specs.Tabled.{IsTableText}
 use Rattle.prl_stages.proofs.OneDispatch.{one_dispatched}
 use Rattle.prl_stages.proofs.OneMeaning.{MeaningLaws, graphs, one_meant, same_alone, same_flows, same_horizon, same_machines, same_plan}
 use Rattle.prl_stages.proofs.OneParts.{ok_ok, one_program}

@@ -6,17 +6,15 @@ use Rattle.prl_base.specs.declared.numbers.EdgeNo.{EdgeNo}
 use Rattle.prl_base.specs.declared.numbers.TaskNo.{TaskNo}
 use Rattle.prl_base.specs.declared.values.Value.{Value}
 use Rattle.prl_core.specs.Cores.{CoreView, IsSightOf, IsSightOfRead, Tells, constants, values_of}
+use Rattle.prl_plan.specs.Vocabulary.{PlanView, edge_at, first_unfinished, ExecState, RunConstants, after_event, next_action}
 use Rattle.prl_plan.specs.declared.events.Action.{Action}
-use Rattle.prl_plan.specs.declared.events.Action.TheVariants as actions
 use Rattle.prl_plan.specs.declared.events.Event.{Event}
+use Rattle.prl_plan.specs.declared.events.Action.TheVariants as actions
 use Rattle.prl_plan.specs.declared.events.Event.TheVariants as events
-use Rattle.prl_plan.specs.Plans.{PlanView, edge_at}
-use Rattle.prl_plan.specs.Rules.{first_unfinished}
-use Rattle.prl_plan.specs.Runs.{ExecState, RunConstants, after_event, next_action}
 use Rattle.prl_replay.specs.Replays.{IsReplay, TellsAll, after, is_read}
+use Rattle.prl_track.specs.Machine.{cell_no}
 use Rattle.prl_track.specs.declared.seen.Seen.{Seen}
 use Rattle.prl_track.specs.declared.seen.Seen.TheVariants as sights
-use Rattle.prl_track.specs.Machine.{cell_no}
 use Rattle.prl_values.specs.JobValues.{JobValues, value_on}
 
 -- two machines of one plan, with the same constants, values by instance and state

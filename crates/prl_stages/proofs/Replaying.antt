@@ -2,61 +2,36 @@
 use Rattle.std.proofs.Common.{◌≡◌, ◌++◌, ℕ, List, Ok, length, map, refl, sym, subst}
 use Rattle.prl_base.specs.declared.numbers.FlowNo.{FlowNo}
 use Rattle.prl_base.specs.declared.operators.Clock.{Clock}
-use Rattle.prl_ast.specs.InRange.{IsInRange}
-use Rattle.prl_ast.specs.Trees.{ProgramTree}
+use Rattle.prl_ast.specs.Vocabulary.{IsInRange, ProgramTree}
+use Rattle.prl_body.specs.Vocabulary.{body_tree, HaveBodiesOf}
 use Rattle.prl_body.specs.declared.bodies.CheckedBody.{CheckedBody}
-use Rattle.prl_body.specs.Checks.{body_tree}
-use Rattle.prl_body.specs.Used.{HaveBodiesOf}
 use Rattle.prl_track.specs.declared.seen.Seen.{Seen}
+use Rattle.prl_flow.specs.Vocabulary.{AreUpTo, actuator_text, FlatProgram, IsFlat, Rows, IsOrder, IsSolution}
 use Rattle.prl_flow.specs.declared.programs.OutFlow.{OutFlow}
-use Rattle.prl_flow.specs.Actuators.{AreUpTo, actuator_text}
-use Rattle.prl_flow.specs.Programs.{FlatProgram, IsFlat}
-use Rattle.prl_flow.specs.Rows.{Rows}
 use Rattle.prl_behaviours.specs.Behaviours.{Satisfies, state_in}
-use Rattle.prl_flow.specs.Uses.{IsOrder}
-use Rattle.prl_solutions.specs.Uniqueness.{ExactlyOne}
+use Rattle.prl_solutions.specs.Vocabulary.{ExactlyOne, clocks_in}
 use Rattle.prl_graph.specs.TaskGraphs.{IsGraphOf}
 use Rattle.prl_core.specs.Cores.{opened, opened_on}
 use Rattle.prl_names.specs.Uses.{used_imports}
+use Rattle.prl_plan.specs.Vocabulary.{HasPlanFacts, Placement, alone, constants_of, constants_on, IsPlan, PlanView, IsComplete, IsLegal, after_events, opening}
 use Rattle.prl_plan.specs.declared.events.Event.{Event}
 use Rattle.prl_plan.specs.declared.horizons.Horizon.{Horizon}
-use Rattle.prl_plan.specs.Facts.{HasPlanFacts}
-use Rattle.prl_plan.specs.Horizons.{Placement, alone, constants_of, constants_on}
 use Rattle.prl_expand.specs.Flats.{flat_of}
-use Rattle.prl_flow.specs.States.{IsSolution}
-use Rattle.prl_solutions.specs.Conditions.{clocks_in}
-use Rattle.prl_plan.specs.Plans.{IsPlan, PlanView}
-use Rattle.prl_plan.specs.Rules.{IsComplete, IsLegal}
-use Rattle.prl_plan.specs.Runs.{after_events, opening}
 use Rattle.prl_results.specs.Shown.{AreShown}
+use Rattle.prl_rule.specs.Known.{known}
 use Rattle.prl_rule.specs.declared.views.Constants.{Constants}
 use Rattle.prl_rule.specs.declared.views.Gate.{Gate}
 use Rattle.prl_rule.specs.declared.views.Gate.TheVariants as gates
-use Rattle.prl_rule.specs.Known.{known}
-use Rattle.prl_schedules.specs.Dispatches.{IsDispatched}
-use Rattle.prl_schedules.specs.ReadTexts.{text_of_reads}
-use Rattle.prl_schedules.specs.Schedules.{schedule_of}
-use Rattle.prl_schedules.specs.ScheduleTexts.{task_names}
+use Rattle.prl_schedules.specs.Vocabulary.{IsDispatched, text_of_reads, schedule_of, task_names}
 use Rattle.prl_replay.specs.Replays.{AreFlowsBelow, IsTrace, after_all}
 use Rattle.prl_replay.proofs.Ends.{ended_all, flows_up_to}
 use Rattle.prl_tables.specs.declared.tables.Entry.{Entry}
-use Rattle.prl_values.specs.Fitting.{HaveTaskBodies, HaveTypedRows}
-use Rattle.prl_values.specs.JobValues.{job_values}
+use Rattle.prl_values.specs.Vocabulary.{HaveTaskBodies, HaveTypedRows, job_values}
 use Rattle.prl_stages.specs.declared.faults.InputFile.TheVariants as parts
-use Rattle.prl_stages.specs.Given.{Given, text_of}
-use Rattle.prl_stages.specs.Flattened.{IsFlattened}
-use Rattle.prl_stages.specs.Parts.{AreBodies, IsMain}
-use Rattle.prl_stages.specs.Planned.{HasGraph, HasPlan}
-use Rattle.prl_stages.specs.Placed.{IsCoresText, IsPlacedRun}
+use Rattle.prl_stages.specs.Vocabulary.{Given, text_of, IsFlattened, AreBodies, IsMain, HasGraph, HasPlan, IsCoresText, IsPlacedRun, HasRun, IsCycleText, IsRunOf, IsRunText, IsSummary, sum_of}
+use Rattle.prl_stages.specs.Vocabulary.{summary_line, Execution, IsReplayText, HasRows, Meaning, meant_flows, rows_for, HasHorizon, IsWhole, HasTable, PartLaws, WholeLaws}
 use Rattle.prl_stages.specs.declared.ran.Ran.{Ran}
 use Rattle.prl_stages.specs.declared.ran.Ran.TheVariants as runs
-use Rattle.prl_stages.specs.Ran.{HasRun, IsCycleText, IsRunOf, IsRunText, IsSummary, sum_of, summary_line}
-use Rattle.prl_stages.specs.Replayed.{Execution, IsReplayText}
-use Rattle.prl_stages.specs.Runs.{HasRows, Meaning, meant_flows, rows_for}
-use Rattle.prl_stages.specs.Scheduled.{HasHorizon, IsWhole}
-use Rattle.prl_stages.specs.Tabled.{HasTable}
-use Rattle.prl_stages.specs.code.Ones.{PartLaws}
-use Rattle.prl_stages.specs.code.Wholes.{WholeLaws}
 use Rattle.prl_stages.proofs.Boards.{are_shown, board, has_ended}
 use Rattle.prl_stages.proofs.OneParts as ones
 use Rattle.prl_stages.proofs.Running as running

@@ -4,80 +4,48 @@ use Rattle.std.specs.Option.{option_map}
 use Rattle.std.proofs.lemmas.Int.{ints}
 use Rattle.std.specs.List.{AllByRecursion}
 use Rattle.std.proofs.lemmas.Option.{get_or_from_slice_get, slice_get-map, slice_get_within}
-use Rattle.prl_base.specs.Clocks.{date_at}
-use Rattle.prl_base.specs.Values.{type_of}
+use Rattle.prl_base.specs.Vocabulary.{date_at, type_of}
 use Rattle.prl_base.specs.declared.numbers.FlowNo.{FlowNo}
 use Rattle.prl_base.specs.declared.operators.Clock.{Clock}
 use Rattle.prl_base.specs.declared.values.Ty.{Ty}
 use Rattle.prl_base.specs.declared.values.Value.{Value}
-use Rattle.prl_ast.specs.InRange.{IsInRange}
-use Rattle.prl_ast.specs.Trees.{ProgramTree}
+use Rattle.prl_ast.specs.Vocabulary.{IsInRange, ProgramTree}
+use Rattle.prl_body.specs.Vocabulary.{IsWellTyped, body_tree, HaveBodiesOf}
 use Rattle.prl_body.specs.declared.bodies.CheckedBody.{CheckedBody}
-use Rattle.prl_body.specs.Bodies.{IsWellTyped}
-use Rattle.prl_body.specs.Checks.{body_tree}
-use Rattle.prl_body.specs.Used.{HaveBodiesOf}
 use Rattle.prl_track.specs.declared.seen.Seen.{Seen}
 use Rattle.prl_evaluation.specs.Evaluations.{AreSolution}
-use Rattle.prl_expand.specs.Expansions.{Expansion, IsExpansion}
-use Rattle.prl_expand.specs.Flats.{flat_of}
-use Rattle.prl_expand.specs.Expanding.{IsExpanded}
+use Rattle.prl_expand.specs.Vocabulary.{Expansion, IsExpansion, flat_of, IsExpanded}
+use Rattle.prl_flow.specs.Vocabulary.{AreUpTo, actuator_text, HaveBodies, FlatProgram, HasType, IsFlat, Rows, rows_of, value_at, AreClocks, HasRows as HaveRows, Solves, clock_of, values_of}
+use Rattle.prl_flow.specs.Vocabulary.{IsSolution, State, Timed, IsOrder}
 use Rattle.prl_flow.specs.declared.programs.OutFlow.{OutFlow}
-use Rattle.prl_flow.specs.Actuators.{AreUpTo, actuator_text}
-use Rattle.prl_flow.specs.Applications.{HaveBodies}
-use Rattle.prl_flow.specs.Programs.{FlatProgram, HasType, IsFlat}
-use Rattle.prl_flow.specs.Rows.{Rows, rows_of}
-use Rattle.prl_flow.specs.Flows.{value_at}
-use Rattle.prl_flow.specs.Solutions.{AreClocks, HasRows as HaveRows, Solves, clock_of, values_of}
-use Rattle.prl_flow.specs.States.{IsSolution, State, Timed}
-use Rattle.prl_flow.specs.Uses.{IsOrder}
 use Rattle.prl_flow.proofs.Lists.{element_at}
-use Rattle.prl_graph.specs.EdgeValues.{value_on_date}
-use Rattle.prl_graph.specs.JobDates.{values_on_dates}
-use Rattle.prl_graph.specs.Ports.{InputPort, ports_of}
-use Rattle.prl_graph.specs.TaskGraphs.{AreSmallClocks, IsGraphOf}
+use Rattle.prl_graph.specs.Vocabulary.{value_on_date, values_on_dates, InputPort, ports_of, AreSmallClocks, IsGraphOf}
 use Rattle.prl_core.specs.Cores.{CoreView, opened, opened_on}
 use Rattle.prl_names.specs.Uses.{used_imports}
-use Rattle.prl_replay.specs.Outputs.{out_flows}
+use Rattle.prl_replay.specs.Vocabulary.{out_flows, AreFlowsBelow, IsTrace, after_all}
+use Rattle.prl_plan.specs.Vocabulary.{IsWellFormed, Placement, alone, constants_of, IsComplete, IsGated, IsHorizonJob, task_at, IsPlan, PlanView, edge_at, no_edge, ExecState, after_events, opening}
 use Rattle.prl_plan.specs.declared.events.Event.{Event}
 use Rattle.prl_plan.specs.declared.graphs.Edge.{Edge}
 use Rattle.prl_plan.specs.declared.graphs.TaskGraph.{TaskGraph}
 use Rattle.prl_plan.specs.declared.horizons.Horizon.{Horizon}
-use Rattle.prl_plan.specs.Graphs.{IsWellFormed}
-use Rattle.prl_plan.specs.Horizons.{Placement, alone, constants_of}
-use Rattle.prl_plan.specs.Rules.{IsComplete, IsGated}
-use Rattle.prl_plan.specs.Jobs.{IsHorizonJob, task_at}
-use Rattle.prl_plan.specs.Plans.{IsPlan, PlanView, edge_at, no_edge}
-use Rattle.prl_plan.specs.Runs.{ExecState, after_events, opening}
 use Rattle.prl_board.specs.Closings.{ClosedView}
 use Rattle.prl_exec.specs.Runs.{HasEnded}
 use Rattle.prl_results.specs.Shown.{AreShown}
+use Rattle.prl_rule.specs.Known.{known}
 use Rattle.prl_rule.specs.declared.views.Gate.{Gate}
 use Rattle.prl_rule.specs.declared.views.Gate.TheVariants as gates
-use Rattle.prl_rule.specs.Known.{known}
-use Rattle.prl_schedules.specs.Dispatches.{IsDispatched}
-use Rattle.prl_schedules.specs.ReadTexts.{text_of_reads}
-use Rattle.prl_schedules.specs.Schedules.{schedule_of}
-use Rattle.prl_schedules.specs.ScheduleTexts.{task_names}
+use Rattle.prl_schedules.specs.Vocabulary.{IsDispatched, text_of_reads, schedule_of, task_names}
 use Rattle.prl_sensors.specs.Facts.{AreRowsFor}
 use Rattle.prl_sensors.specs.SensorRows.{Inputs, sensors_of}
-use Rattle.prl_solutions.specs.Conditions.{AreTypedRows, HaveTypedBodies, clocks_in, values_in}
-use Rattle.prl_solutions.specs.Uniqueness.{ExactlyOne}
-use Rattle.prl_replay.specs.Replays.{AreFlowsBelow, IsTrace, after_all}
+use Rattle.prl_solutions.specs.Vocabulary.{AreTypedRows, HaveTypedBodies, clocks_in, values_in, ExactlyOne}
 use Rattle.prl_types.specs.Typing.{IsTyped}
-use Rattle.prl_values.specs.Fitting.{HaveTaskBodies, HaveTypedRows}
-use Rattle.prl_values.specs.JobValues.{AreJobValues, JobValues, job_values, value_on}
+use Rattle.prl_values.specs.Vocabulary.{HaveTaskBodies, HaveTypedRows, AreJobValues, JobValues, job_values, value_on}
 use Rattle.prl_stages.specs.declared.faults.InputFile.TheVariants as parts
-use Rattle.prl_stages.specs.Given.{Given, text_of}
-use Rattle.prl_stages.specs.Parts.{AreBodies, IsMain}
-use Rattle.prl_stages.specs.Placed.{HasPlacement, IsCoresText, Lists}
+use Rattle.prl_stages.specs.Vocabulary.{Given, text_of, AreBodies, IsMain, HasPlacement, IsCoresText, Lists, HasRun, IsCycleText, IsRunOf, IsSummary, list_of, sum_of, summary_line, Execution}
+use Rattle.prl_stages.specs.Vocabulary.{IsReplayText, ReadFlows, HasRows, meant_flows, rows_for, HasHorizon, HasTable}
 use Rattle.prl_stages.specs.declared.ran.Ran.{Ran}
 use Rattle.prl_stages.specs.declared.ran.Ran.TheVariants as runs
-use Rattle.prl_stages.specs.Ran.{HasRun, IsCycleText, IsRunOf, IsSummary, list_of, sum_of, summary_line}
-use Rattle.prl_stages.specs.Replayed.{Execution, IsReplayText, ReadFlows}
 use Rattle.prl_behaviours.specs.Behaviours.{Satisfies, state_in}
-use Rattle.prl_stages.specs.Runs.{HasRows, meant_flows, rows_for}
-use Rattle.prl_stages.specs.Scheduled.{HasHorizon}
-use Rattle.prl_stages.specs.Tabled.{HasTable}
 use Rattle.prl_tables.specs.declared.tables.Entry.{Entry}
 use Rattle.prl_stages.proofs.Inputs.{enough_rows, typed_rows}
 use Rattle.prl_stages.proofs.Meaning as meaning

@@ -9,21 +9,14 @@ use Rattle.prl_base.specs.Clocks.{date_at}
 use Rattle.prl_base.specs.declared.operators.Clock.{Clock}
 use Rattle.prl_base.specs.declared.values.Value.{Value}
 use Rattle.prl_ast.specs.Trees.{ProgramTree}
-use Rattle.prl_behaviours.specs.Asked.{program_rules}
-use Rattle.prl_behaviours.specs.Behaviours.{Behaviour, Satisfies}
-use Rattle.prl_body.specs.Bodies.{Stepped, body_named, body_step, first_values, next_expressions, value_expressions}
-use Rattle.prl_body.specs.Checks.{BodyTree, RegisterTree, body_tree, register_tree}
-use Rattle.prl_body.specs.Expressions.{Expression}
-use Rattle.prl_body.specs.Values.{value}
+use Rattle.prl_behaviours.specs.Vocabulary.{program_rules, Behaviour, Satisfies}
+use Rattle.prl_body.specs.Vocabulary.{Stepped, body_named, body_step, first_values, next_expressions, value_expressions, BodyTree, RegisterTree, body_tree, register_tree, Expression, value}
 use Rattle.prl_body.specs.declared.bodies.CheckedBody.{CheckedBody}
-use Rattle.prl_flow.specs.Applications.{nth_step, registers_before}
-use Rattle.prl_flow.specs.Rows.{Rows}
-use Rattle.prl_flow.specs.Rules.{Rule, rated, constant, operator, applied, same, sensed}
-use Rattle.prl_flow.specs.States.{Holds, IsApplied, IsStep, Timed, all_at}
-use Rattle.prl_plan.specs.declared.graphs.Kind.{Kind}
-use Rattle.prl_plan.specs.declared.graphs.Kind.TheVariants as kinds
-use Rattle.prl_plan.specs.declared.graphs.TaskGraph.{TaskGraph}
+use Rattle.prl_flow.specs.Vocabulary.{nth_step, registers_before, Rows, Rule, rated, constant, operator, applied, same, sensed, Holds, IsApplied, IsStep, Timed, all_at}
 use Rattle.prl_plan.specs.Jobs.{task_at}
+use Rattle.prl_plan.specs.declared.graphs.Kind.{Kind}
+use Rattle.prl_plan.specs.declared.graphs.TaskGraph.{TaskGraph}
+use Rattle.prl_plan.specs.declared.graphs.Kind.TheVariants as kinds
 use Rattle.prl_values.specs.JobValues.{JobValues, body_of_task, given, gives, job_values, reads_of_job, step_outputs, values_after}
 
 -- the first registers and the expressions of the next ones are those of the tree

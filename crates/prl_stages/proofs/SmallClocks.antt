@@ -6,11 +6,8 @@ use Rattle.std.proofs.lemmas.Bool.{cases_lt}
 use Rattle.std.proofs.lemmas.List.{take_all}
 use Rattle.prl_base.specs.Reductions.{IsReducedForm}
 use Rattle.prl_base.specs.declared.operators.Clock.{Clock}
-use Rattle.prl_clock.specs.Assignments.{Passes, period as period_passes, start as start_passes}
-use Rattle.prl_clock.specs.Constraints.{Placed, constraints_of, over_one}
-use Rattle.prl_clock.specs.Outcomes.{AreOnlyClocks}
-use Rattle.prl_flow.specs.Programs.{FlatProgram}
-use Rattle.prl_flow.specs.Solutions.{clock_of}
+use Rattle.prl_clock.specs.Vocabulary.{Passes, period as period_passes, start as start_passes, Placed, constraints_of, over_one, AreOnlyClocks}
+use Rattle.prl_flow.specs.Vocabulary.{FlatProgram, clock_of}
 use Rattle.prl_graph.specs.TaskGraphs.{AreSmallClocks}
 
 -- a whole number of units, as a fraction in lowest terms

@@ -4,16 +4,12 @@ use Rattle.std.specs.Prelude.{is_some}
 use Rattle.prl_arguments.specs.declared.arguments.Command.{Command}
 use Rattle.prl_arguments.specs.declared.arguments.Mode.{Mode}
 use Rattle.prl_arguments.specs.declared.arguments.Mode.TheVariants as modes
-use Rattle.prl_body.specs.declared.bodies.CheckedBody.{CheckedBody}
 use Rattle.prl_body.specs.Checks.{body_tree}
+use Rattle.prl_body.specs.declared.bodies.CheckedBody.{CheckedBody}
 use Rattle.prl_rule.specs.declared.views.Gate.{Gate}
+use Rattle.prl_stages.specs.Vocabulary.{Given, AreBodies, HoldsBodies, IsCycleText, IsMeant, IsMeantIn, IsRunText, IsSummary, Comes, IsText, files, stages_after, stages_of}
 use Rattle.prl_stages.specs.declared.ran.Ran.{Ran}
 use Rattle.prl_stages.specs.declared.ran.Ran.TheVariants as runs
-use Rattle.prl_stages.specs.Given.{Given}
-use Rattle.prl_stages.specs.Parts.{AreBodies}
-use Rattle.prl_stages.specs.Needs.{HoldsBodies}
-use Rattle.prl_stages.specs.Ran.{IsCycleText, IsMeant, IsMeantIn, IsRunText, IsSummary}
-use Rattle.prl_stages.specs.Stages.{Comes, IsText, files, stages_after, stages_of}
 use Rattle.prl_stages.proofs.AllHold.{behind}
 
 -- a mode whose stages hold has a text

@@ -2,44 +2,25 @@
 use Rattle.std.proofs.Common.{◌≡◌, ◌++◌, ℕ, Bool, true, false, List, [], ◌∷◌, map, Option, None, refl, subst, arith}
 use Rattle.std.specs.List.Sorted.{IsPermutation}
 use Rattle.prl_arguments.specs.declared.arguments.Mode.TheVariants as modes
-use Rattle.prl_body.specs.declared.bodies.CheckedBody.{CheckedBody}
 use Rattle.prl_body.specs.Checks.{body_tree}
+use Rattle.prl_body.specs.declared.bodies.CheckedBody.{CheckedBody}
+use Rattle.prl_edf.specs.Vocabulary.{IsEdfRun, MeetsAllWindows, run_of, AreUnits, wcets_of, IsVerdict, verdict_line}
 use Rattle.prl_edf.specs.declared.analysis.Verdict.{Verdict}
-use Rattle.prl_edf.specs.EdfRuns.{IsEdfRun}
-use Rattle.prl_edf.specs.MetWindows.{MeetsAllWindows}
-use Rattle.prl_edf.specs.Pieces.{run_of}
-use Rattle.prl_edf.specs.TimedRuns.{AreUnits}
-use Rattle.prl_edf.specs.UnitLists.{wcets_of}
-use Rattle.prl_edf.specs.Verdicts.{IsVerdict}
-use Rattle.prl_edf.specs.VerdictTexts.{verdict_line}
 use Rattle.prl_flow.specs.Actuators.{actuator_text}
+use Rattle.prl_plan.specs.Vocabulary.{HasPlanFacts, IsHorizon, constants_of, IsPlan, PlanView, RunConstants}
 use Rattle.prl_plan.specs.declared.horizons.Horizon.{Horizon}
-use Rattle.prl_plan.specs.Facts.{HasPlanFacts}
-use Rattle.prl_plan.specs.Horizons.{IsHorizon, constants_of}
-use Rattle.prl_plan.specs.Plans.{IsPlan, PlanView}
-use Rattle.prl_plan.specs.Runs.{RunConstants}
 use Rattle.prl_plan.proofs.RoundPeriods.{task_is}
 use Rattle.prl_plantext.specs.PlanTexts.{plan_text}
 use Rattle.prl_print.specs.Printing.{printed}
 use Rattle.prl_table.specs.Made.{IsSteadyRun, cut_from, cut_to, run_until}
+use Rattle.prl_tables.specs.Vocabulary.{IsGood, text_of as table_text}
 use Rattle.prl_tables.specs.declared.tables.Entry.{Entry}
-use Rattle.prl_tables.specs.Tables.{IsGood}
-use Rattle.prl_tables.specs.TableTexts.{text_of as table_text}
 use Rattle.prl_rule.specs.declared.views.Gate.{Gate}
+use Rattle.prl_stages.specs.Vocabulary.{Stage, Given, AreBodies, HasPlan, accepted_line, meant_flows, HasHorizon, IsScheduleText, Comes, Holds, IsText, front, graphed, planned, stages_after}
+use Rattle.prl_stages.specs.Vocabulary.{IsCycleText, IsRunText, IsSummary, HasMadeTable, HasTable, PartLaws, WholeLaws}
 use Rattle.prl_stages.specs.declared.ran.Ran.{Ran}
-use Rattle.prl_stages.specs.declared.stages.Stage.{Stage}
 use Rattle.prl_stages.specs.declared.stages.Stage.TheVariants as stages
-use Rattle.prl_stages.specs.Given.{Given}
-use Rattle.prl_stages.specs.Parts.{AreBodies}
-use Rattle.prl_stages.specs.Planned.{HasPlan, accepted_line}
-use Rattle.prl_stages.specs.Runs.{meant_flows}
-use Rattle.prl_stages.specs.Scheduled.{HasHorizon, IsScheduleText}
-use Rattle.prl_stages.specs.Stages.{Comes, Holds, IsText, front, graphed, planned, stages_after}
-use Rattle.prl_stages.specs.Ran.{IsCycleText, IsRunText, IsSummary}
-use Rattle.prl_stages.specs.Tabled.{HasMadeTable, HasTable}
 use Rattle.prl_stages.proofs.AllHold.{behind, first_holds}
-use Rattle.prl_stages.specs.code.Ones.{PartLaws}
-use Rattle.prl_stages.specs.code.Wholes.{WholeLaws}
 use Rattle.prl_stages.proofs.Replaying as replaying
 use Rattle.prl_stages.proofs.Running as running
 

@@ -1,24 +1,14 @@
 -- Refusals and the faults of the crates below that they tell.
 use Rattle.std.proofs.Common.{◌≡◌, Option, Some, refl, sym, ap, ◌∙◌}
-use Rattle.prl_stages.specs.declared.faults.GrammarRefusal.{GrammarRefusal}
+use Rattle.prl_stages.specs.Vocabulary.{GrammarRefusal, TypesRefusal, ClocksRefusal, GraphRefusal, BodiesRefusal, SensorsRefusal, Fault, grammar_fault, types_fault, bodies_fault, clock_fault}
+use Rattle.prl_stages.specs.Vocabulary.{graph_fault, sensors_fault, told_parse, told_types, told_clocks, told_graph, told_body, told_sensors}
 use Rattle.prl_stages.specs.declared.faults.GrammarRefusal.TheVariants as bad_grammar
-use Rattle.prl_stages.specs.declared.faults.TypesRefusal.{TypesRefusal}
 use Rattle.prl_stages.specs.declared.faults.TypesRefusal.TheVariants as bad_types
-use Rattle.prl_stages.specs.declared.faults.ClocksRefusal.{ClocksRefusal}
 use Rattle.prl_stages.specs.declared.faults.ClocksRefusal.TheVariants as bad_clocks
-use Rattle.prl_stages.specs.declared.faults.GraphRefusal.{GraphRefusal}
 use Rattle.prl_stages.specs.declared.faults.GraphRefusal.TheVariants as bad_graph
-use Rattle.prl_stages.specs.declared.faults.BodiesRefusal.{BodiesRefusal}
 use Rattle.prl_stages.specs.declared.faults.BodiesRefusal.TheVariants as bad_bodies
-use Rattle.prl_stages.specs.declared.faults.SensorsRefusal.{SensorsRefusal}
 use Rattle.prl_stages.specs.declared.faults.SensorsRefusal.TheVariants as bad_rows
-use Rattle.prl_stages.specs.declared.faults.Fault.{Fault}
 use Rattle.prl_stages.specs.declared.faults.Fault.TheVariants as faults
-use Rattle.prl_stages.specs.Parts.{grammar_fault, types_fault, bodies_fault}
-use Rattle.prl_stages.specs.Flattened.{clock_fault}
-use Rattle.prl_stages.specs.Planned.{graph_fault}
-use Rattle.prl_stages.specs.Runs.{sensors_fault}
-use Rattle.prl_stages.specs.Told.{told_parse, told_types, told_clocks, told_graph, told_body, told_sensors}
 
 -- the fault of a refusal is told as that refusal
 pub grammar_told : (r : GrammarRefusal) → told_parse (grammar_fault r) ≡ Some (faults.Grammar r)

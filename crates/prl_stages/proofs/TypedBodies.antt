@@ -4,12 +4,10 @@ use Rattle.std.specs.List.{AllByRecursion}
 use Rattle.std.specs.Str.{bytes_eq}
 use Rattle.prl_base.specs.Reading.{◌>>=◌}
 use Rattle.prl_ast.specs.declared.declarations.Import.{Import}
+use Rattle.prl_body.specs.Vocabulary.{IsWellTyped, body_named, BodyTree, all_there, body_tree, checked, checked_bodies, checked_body, checked_one, has_text, import_named, TextTree}
 use Rattle.prl_body.specs.declared.bodies.CheckedBody.{CheckedBody}
 use Rattle.prl_body.specs.declared.faults.BodyFault.{BodyFault}
 use Rattle.prl_body.specs.declared.faults.BodyFault.TheVariants as faults
-use Rattle.prl_body.specs.Bodies.{IsWellTyped, body_named}
-use Rattle.prl_body.specs.Checks.{BodyTree, all_there, body_tree, checked, checked_bodies, checked_body, checked_one, has_text, import_named}
-use Rattle.prl_body.specs.Texts.{TextTree}
 use Rattle.prl_body.proofs.BodySound.{IsWellTyped_checked}
 use Rattle.prl_body.proofs.Inversion.{both_ok}
 use Rattle.prl_body.proofs.UsedBodies.{refused_ok}

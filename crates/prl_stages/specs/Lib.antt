@@ -30,3 +30,4 @@ pub mod PlansAlone
 pub mod Told
 -- what private functions say to one another
 pub mod code
+pub mod Vocabulary

@@ -2,15 +2,14 @@
 
 ghost use Rattle.std.specs.Prelude.{◌≡◌, ℕ, Bool, false, List, Option, None, map};
 ghost use Rattle.prl_base.specs.declared.operators.Clock.{Clock};
-ghost use Rattle.prl_arguments.specs.declared.arguments.Command.{Command as AnyCommand};
 ghost use Rattle.prl_arguments.specs.Arguments.{AreInRange};
-ghost use Rattle.prl_body.specs.declared.bodies.CheckedBody.{CheckedBody};
+ghost use Rattle.prl_arguments.specs.declared.arguments.Command.{Command as AnyCommand};
+ghost use Rattle.prl_arguments.specs.declared.arguments.Mode.{Mode as AnyMode};
 ghost use Rattle.prl_body.specs.Checks.{body_tree};
-ghost use Rattle.prl_flow.specs.Programs.{FlatProgram};
-ghost use Rattle.prl_flow.specs.Rows.{Rows};
-ghost use Rattle.prl_flow.specs.Uses.{is_made};
-ghost use Rattle.prl_plan.specs.declared.horizons.Horizon.{Horizon};
+ghost use Rattle.prl_body.specs.declared.bodies.CheckedBody.{CheckedBody};
+ghost use Rattle.prl_flow.specs.Vocabulary.{FlatProgram, Rows, is_made};
 ghost use Rattle.prl_plan.specs.Plans.{PlanView};
+ghost use Rattle.prl_plan.specs.declared.horizons.Horizon.{Horizon};
 ghost use Rattle.prl_stages.specs.Flattened.{RefusesCausality};
 ghost use Rattle.prl_stages.specs.Given.{Folder, Given as AnyGiven, IsGivenTo};
 ghost use Rattle.prl_ast.specs.Trees.{ProgramTree};
@@ -19,7 +18,6 @@ ghost use Rattle.prl_solutions.specs.Uniqueness.{ExactlyOne};
 ghost use Rattle.prl_stages.specs.Parts.{AreBodies, IsMain};
 ghost use Rattle.prl_stages.specs.Runs.{HasRows};
 ghost use Rattle.prl_stages.specs.Scheduled.{HasHorizon, IsScheduleText};
-ghost use Rattle.prl_arguments.specs.declared.arguments.Mode.{Mode as AnyMode};
 ghost use Rattle.prl_rule.specs.declared.views.Gate.{Gate as AnyGate};
 ghost use Rattle.prl_stages.specs.Needs.{HoldsBodies};
 ghost use Rattle.prl_stages.specs.Ran.{IsCycleText, IsMeant, IsRunText, IsSummary};

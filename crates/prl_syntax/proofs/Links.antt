@@ -1,27 +1,21 @@
 -- A loop over the links of a stem reads the stem.
 use Rattle.std.proofs.Common.{◌≡◌, cond, true, false, Bool, List, [], ◌∷◌, ◌++◌, Ok, Err, refl, sym, ap, ◌∙◌, append_assoc}
 use Rattle.std.proofs.lemmas.List.{append-nil}
-use Rattle.prl_ast.specs.declared.expressions.PlacedOp.{PlacedOp}
 use Rattle.prl_ast.specs.Trees.{Root}
+use Rattle.prl_ast.specs.declared.expressions.PlacedOp.{PlacedOp}
+use Rattle.prl_base.specs.Reading.{◌>>=◌, FailsAs}
 use Rattle.prl_base.specs.declared.operators.Op.{Op}
-use Rattle.prl_base.specs.declared.operators.Op.TheVariants as ops
 use Rattle.prl_base.specs.declared.places.Span.{Span}
 use Rattle.prl_base.specs.declared.values.Value.{Value}
-use Rattle.prl_base.specs.Reading.{◌>>=◌, FailsAs}
-use Rattle.prl_grammar.specs.code.Stops.{stop_of}
+use Rattle.prl_base.specs.declared.operators.Op.TheVariants as ops
+use Rattle.prl_grammar.specs.Vocabulary.{stop_of, Lexeme, Read, next_in, ◌=>◌, shape, inner_of, read_at, read_nested}
 use Rattle.prl_grammar.specs.declared.reading.Stop.{Stop}
 use Rattle.prl_grammar.specs.declared.reading.Stop.TheVariants as stops
-use Rattle.prl_grammar.specs.Lexemes.{Lexeme}
-use Rattle.prl_grammar.specs.code.Readers.{Read, next_in}
-use Rattle.prl_grammar.specs.Combinators.{◌=>◌}
-use Rattle.prl_grammar.specs.code.Shapes.{shape}
-use Rattle.prl_grammar.specs.code.Languages.{inner_of, read_at, read_nested}
 use Rattle.prl_grammar.proofs.Nesting.{nested_step}
-use Rattle.prl_syntax.specs.declared.words.Fixed.{Fixed}
+use Rattle.prl_syntax.specs.Vocabulary.{Fixed, Grammar, the, Const, Base, Prefix, AfterConst, Stem, programs, Step, last, AfterLink, ConstantLink, NextLink, with_prefixes, after_step, StemTree}
+use Rattle.prl_syntax.specs.Vocabulary.{prefixed}
+use Rattle.prl_syntax.specs.code.Links.{prefix}
 use Rattle.prl_syntax.specs.declared.words.Fixed.TheVariants as fixed
-use Rattle.prl_syntax.specs.Grammar.{Grammar, the, Const, Base, Prefix, AfterConst, Stem, programs}
-use Rattle.prl_syntax.specs.code.Links.{Step, prefix, last, AfterLink, ConstantLink, NextLink, with_prefixes, after_step}
-use Rattle.prl_syntax.specs.Trees.{StemTree, prefixed}
 use Rattle.prl_syntax.proofs.Right.{right}
 
 bind_assoc : {A B C : Type 0} (r : Read A) (g : A × List Lexeme → Read B) (k : B × List Lexeme → Read C) → ((r >>= g) >>= k) ≡ (r >>= λ x. (g x >>= k))

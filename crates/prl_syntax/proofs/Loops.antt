@@ -3,14 +3,11 @@ use Rattle.std.proofs.Common.{◌≡◌, ℕ, true, false, List, ◌∷◌, ◌+
 use Rattle.std.proofs.lemmas.Bool.{cond-true, cond-false}
 use Rattle.std.proofs.lemmas.List.{append-nil}
 use Rattle.prl_base.specs.Reading.{◌>>=◌, FailsAs}
-use Rattle.prl_grammar.specs.Lexemes.{Lexeme}
-use Rattle.prl_grammar.specs.code.Readers.{Read, next_in, many_at}
-use Rattle.prl_grammar.specs.code.Stops.{stop_of}
+use Rattle.prl_grammar.specs.Vocabulary.{Lexeme, Read, next_in, many_at, stop_of}
 use Rattle.prl_grammar.specs.declared.reading.Stop.{Stop}
 use Rattle.prl_grammar.specs.declared.reading.Stop.TheVariants as stops
 use Rattle.prl_grammar.proofs.Loops.{Steps, step_fewer}
-use Rattle.prl_syntax.specs.Trees.{joined}
-use Rattle.prl_syntax.specs.code.Loops.{with_joined}
+use Rattle.prl_syntax.specs.Vocabulary.{joined, with_joined}
 
 regroup_joined : {A : Type 0} (front a : List A) (r : Read (List (List A))) → with_joined front (r >>= λ x. Ok (a ∷ x.0, x.1)) ≡ with_joined (front ++ a) r
 regroup_joined front a (Ok x) = ap (λ xs. Ok (xs, x.1)) (sym (append_assoc front a (joined x.0)))

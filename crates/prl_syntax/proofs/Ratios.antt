@@ -4,8 +4,8 @@ use Rattle.std.proofs.lemmas.Bool.{cond-true, cond-false, cases_lt, cases_Bool, 
 use Rattle.std.proofs.lemmas.Nat.Gcd.{dvd_of_mod-eq-zero, mod-eq-zero_of_dvd, le_of_dvd}
 use Rattle.std.proofs.Math.Nat.{dvd_of_mul-dvd-mul_left, mul-dvd-mul_left, mul-div_cancel', one-dvd, eq-zero_of_zero-dvd, div-le_self, mul-zero}
 use Rattle.std.specs.Int.{IsGcd, ◌∣◌}
-use Rattle.prl_base.specs.declared.ratios.TheConstants.{MAX_PART}
 use Rattle.prl_base.specs.Ratios.{IsSmallFraction}
+use Rattle.prl_base.specs.declared.ratios.TheConstants.{MAX_PART}
 use Rattle.prl_syntax.specs.Values.{divisor_up_to, common_divisor}
 
 greatest : (k a b g : ℕ) → IsGcd a b g → 0 < g → g ≤ k → 0 < b → divisor_up_to k a b ≡ g

@@ -1,12 +1,7 @@
 -- One token of look-ahead decides in programs: the test computes.
 use Rattle.std.proofs.Common.{◌≡◌, ◌<◌, List, length, Ok, refl}
 use Rattle.prl_ast.specs.Trees.{Tree}
-use Rattle.prl_grammar.specs.Lexemes.{Lexeme}
-use Rattle.prl_grammar.specs.Combinators.{◌⊳◌}
-use Rattle.prl_grammar.specs.Productions.{many}
-use Rattle.prl_grammar.specs.code.Languages.{inner_of, read_at}
-use Rattle.prl_grammar.specs.code.LookAhead.{IsApart}
-use Rattle.prl_grammar.specs.code.Shapes.{shape}
+use Rattle.prl_grammar.specs.Vocabulary.{Lexeme, ◌⊳◌, many, inner_of, read_at, IsApart, shape}
 use Rattle.prl_grammar.proofs.Loops.{Steps, steps as text_steps}
 use Rattle.prl_grammar.proofs.Nesting.{IsRight, text_fewer}
 use Rattle.prl_syntax.specs.declared.words.Fixed.TheVariants as fixed

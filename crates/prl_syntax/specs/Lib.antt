@@ -10,3 +10,4 @@ pub mod Ranges
 pub mod Parsing
 -- What private functions say to one another.
 pub mod code
+pub mod Vocabulary

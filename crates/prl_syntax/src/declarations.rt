@@ -2,16 +2,12 @@
 
 ghost use Rattle.std.specs.Prelude.{◌≡◌, ◌∷◌, [], map, IfOk};
 ghost use Rattle.prl_base.specs.Reading.{Gives};
-ghost use Rattle.prl_grammar.specs.Combinators.{◌&◌, ◌⊳◌};
-ghost use Rattle.prl_grammar.specs.code.Stops.{stop_of};
+ghost use Rattle.prl_grammar.specs.Vocabulary.{◌&◌, ◌⊳◌, stop_of, inner_of, read_at, either, many};
+ghost use Rattle.prl_grammar.specs.Vocabulary.{shape, next_in};
 ghost use Rattle.prl_syntax.specs.code.Loops.{with_joined};
 ghost use Rattle.prl_syntax.specs.Grammar as grammar;
 ghost use Rattle.prl_syntax.specs.code.Parses.{Parses};
 ghost use Rattle.prl_syntax.specs.Grammar.{programs};
-ghost use Rattle.prl_grammar.specs.code.Languages.{inner_of, read_at};
-ghost use Rattle.prl_grammar.specs.Productions.{either, many};
-ghost use Rattle.prl_grammar.specs.code.Shapes.{shape};
-ghost use Rattle.prl_grammar.specs.code.Readers.{next_in};
 ghost use Rattle.prl_syntax.specs.Trees.{port_of};
 ghost use Rattle.prl_syntax.specs.declared.words.Fixed.TheVariants as kinds;
 

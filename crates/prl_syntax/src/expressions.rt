@@ -3,19 +3,14 @@
 ghost use Rattle.std.specs.Prelude.{◌≡◌, ◌∷◌, ◌≤◌, [], length, map, IfOk};
 ghost use Rattle.prl_base.specs.Reading.{Gives};
 ghost use Rattle.prl_ast.specs.Trees.{none, root_of, tree_of};
-ghost use Rattle.prl_grammar.specs.Lexemes.{first_place};
-ghost use Rattle.prl_grammar.specs.code.Stops.{stop_of};
-ghost use Rattle.prl_grammar.specs.code.Loops.{with_front};
-ghost use Rattle.prl_grammar.specs.Combinators.{◌&◌, ◌⊳◌, number};
+ghost use Rattle.prl_grammar.specs.Vocabulary.{first_place, stop_of, with_front, ◌&◌, ◌⊳◌, number};
+ghost use Rattle.prl_grammar.specs.Vocabulary.{inner_of, read_at, read_nested, many, shape};
+ghost use Rattle.prl_grammar.specs.Vocabulary.{next_in};
 ghost use Rattle.prl_syntax.specs.code.Links.{link_view, with_prefixes};
 ghost use Rattle.prl_syntax.specs.code.Links as links;
 ghost use Rattle.prl_syntax.specs.Grammar as grammar;
 ghost use Rattle.prl_syntax.specs.code.Parses.{Parses};
 ghost use Rattle.prl_syntax.specs.Grammar.{programs};
-ghost use Rattle.prl_grammar.specs.code.Languages.{inner_of, read_at, read_nested};
-ghost use Rattle.prl_grammar.specs.Productions.{many};
-ghost use Rattle.prl_grammar.specs.code.Shapes.{shape};
-ghost use Rattle.prl_grammar.specs.code.Readers.{next_in};
 ghost use Rattle.prl_syntax.specs.Trees.{trees_from};
 ghost use Rattle.prl_syntax.specs.declared.words.Fixed.TheVariants as kinds;
 

@@ -3,17 +3,13 @@
 ghost use Rattle.std.specs.Prelude.{◌≡◌, ◌∷◌, [], map, reverse, IfOk, OnOk};
 ghost use Rattle.prl_base.specs.Reading.{Gives};
 ghost use Rattle.prl_ast.specs.Trees.{equation_tree, node_tree, program_tree};
-ghost use Rattle.prl_grammar.specs.code.Stops.{stop_of};
-ghost use Rattle.prl_grammar.specs.code.Whole.{all_at};
+ghost use Rattle.prl_grammar.specs.Vocabulary.{stop_of, all_at, inner_of, read_at, many, shape};
+ghost use Rattle.prl_grammar.specs.Vocabulary.{next_in};
 ghost use Rattle.prl_grammar.specs.Combinators as combinators;
 ghost use Rattle.prl_syntax.specs.code.Nodes.{declared_view, declarations_view, with_last, ClosedEquations, NodeBody, OutsAndBody};
 ghost use Rattle.prl_syntax.specs.Grammar as grammar;
 ghost use Rattle.prl_syntax.specs.code.Parses.{Parses};
 ghost use Rattle.prl_syntax.specs.Grammar.{programs};
-ghost use Rattle.prl_grammar.specs.code.Languages.{inner_of, read_at};
-ghost use Rattle.prl_grammar.specs.Productions.{many};
-ghost use Rattle.prl_grammar.specs.code.Shapes.{shape};
-ghost use Rattle.prl_grammar.specs.code.Readers.{next_in};
 ghost use Rattle.prl_syntax.specs.Trees.{program_of};
 ghost use Rattle.prl_syntax.specs.declared.words.Fixed.TheVariants as kinds;
 

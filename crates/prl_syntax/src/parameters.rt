@@ -3,16 +3,12 @@
 
 ghost use Rattle.std.specs.Prelude.{◌≡◌, ◌∷◌, [], ◌++◌, reverse, None, IfOk};
 ghost use Rattle.prl_base.specs.Reading.{Gives};
-ghost use Rattle.prl_grammar.specs.code.Stops.{stop_of};
-ghost use Rattle.prl_grammar.specs.code.Loops.{with_front};
-ghost use Rattle.prl_grammar.specs.Combinators.{◌⊳◌};
+ghost use Rattle.prl_grammar.specs.Vocabulary.{stop_of, with_front, ◌⊳◌, read_at, many};
 ghost use Rattle.prl_grammar.specs.Combinators as combinators;
 ghost use Rattle.prl_syntax.specs.code.Loops.{with_joined};
 ghost use Rattle.prl_syntax.specs.Grammar as grammar;
 ghost use Rattle.prl_syntax.specs.code.Parses.{Parses};
 ghost use Rattle.prl_syntax.specs.Grammar.{programs};
-ghost use Rattle.prl_grammar.specs.code.Languages.{read_at};
-ghost use Rattle.prl_grammar.specs.Productions.{many};
 ghost use Rattle.prl_syntax.specs.Trees.{note_or, param_of, params_of};
 ghost use Rattle.prl_syntax.specs.declared.words.Fixed.TheVariants as kinds;
 

@@ -1,9 +1,7 @@
 //! The parser: what is left of the tokens, and what is taken of them.
 
 ghost use Rattle.std.specs.Prelude.{◌≡◌, ◌∷◌, []};
-ghost use Rattle.prl_grammar.specs.Lexemes.{first_place};
-ghost use Rattle.prl_grammar.specs.code.Readers.{next_in};
-ghost use Rattle.prl_grammar.specs.Combinators.{◌⊳◌, named, number};
+ghost use Rattle.prl_grammar.specs.Vocabulary.{first_place, next_in, ◌⊳◌, named, number};
 ghost use Rattle.prl_syntax.specs.Grammar.{the};
 ghost use Rattle.prl_syntax.specs.code.Parses.{Parses};
 ghost use Rattle.prl_syntax.specs.Words.{class_of};

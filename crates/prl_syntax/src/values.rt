@@ -2,9 +2,8 @@
 
 ghost use Rattle.std.specs.Prelude.{◌≡◌, ◌<◌, ◌≤◌};
 ghost use Rattle.prl_base.specs.Reading.{Gives};
-ghost use Rattle.prl_grammar.specs.code.Stops.{stop_of};
 ghost use Rattle.prl_base.specs.declared.ratios.TheConstants.{MAX_PART};
-ghost use Rattle.prl_grammar.specs.Combinators.{◌⊳◌};
+ghost use Rattle.prl_grammar.specs.Vocabulary.{stop_of, ◌⊳◌};
 ghost use Rattle.prl_grammar.specs.Combinators as combinators;
 ghost use Rattle.prl_syntax.specs.Values.{small, reduced, ratio_of};
 ghost use Rattle.prl_syntax.specs.Grammar as grammar;

@@ -5,12 +5,10 @@ use Rattle.std.specs.Prelude.{slice_get}
 use Rattle.std.proofs.Math.Nat.{mul-le-mul_right}
 use Rattle.std.proofs.lemmas.Bool.{cases_eq, cases_lt}
 use Rattle.std.proofs.lemmas.Bool.Decides.{nat_tests}
-use Rattle.prl_plan.specs.Horizons.{sum_below}
-use Rattle.prl_plan.specs.Plans.{PlanView, IsPlan, release_at}
-use Rattle.prl_tables.specs.declared.tables.Entry.{Entry}
-use Rattle.prl_table.specs.Made.{cut_to, goes, is_job, is_same, last_of, lengthened, longer, unit_at, units_in, with_tick, IsCut, IsCutFrom, IsRun}
+use Rattle.prl_plan.specs.Vocabulary.{sum_below, PlanView, IsPlan, release_at}
 use Rattle.prl_tables.specs.Tables.{classes, is_of, units_of}
-use Rattle.prl_table.specs.code.Ticks.{HaveAtMost}
+use Rattle.prl_tables.specs.declared.tables.Entry.{Entry}
+use Rattle.prl_table.specs.Vocabulary.{cut_to, goes, is_job, is_same, last_of, lengthened, longer, unit_at, units_in, with_tick, IsCut, IsCutFrom, IsRun, HaveAtMost}
 use Rattle.prl_table.proofs.MadeTables.{sum_none, sum_one}
 use Rattle.prl_tables.proofs.Ordering.{one_division}
 use Rattle.prl_tables.proofs.OrderLaws.{release_later}

@@ -7,35 +7,25 @@ use Rattle.std.proofs.lemmas.Bool.Decides.{leb_tells}
 use Rattle.std.proofs.lemmas.Grind.{get_or-set_at}
 use Rattle.std.proofs.lemmas.List.{get_or-set_other, get_or-replicate}
 use Rattle.std.proofs.lemmas.Option.{slice_get-get_or, slice_get_within}
+use Rattle.prl_plan.specs.Vocabulary.{IsJob, HasPlanFacts, constants_of, PlanView, KeepsGated, RunConstants, ExecState, opening, after_event, after_events}
 use Rattle.prl_plan.specs.declared.events.Event.{Event}
-use Rattle.prl_plan.specs.declared.events.Event.TheVariants as events
 use Rattle.prl_plan.specs.declared.horizons.Horizon.{Horizon}
-use Rattle.prl_plan.specs.Facts.{IsJob, HasPlanFacts}
-use Rattle.prl_plan.specs.Horizons.{constants_of}
-use Rattle.prl_plan.specs.Plans.{PlanView}
-use Rattle.prl_plan.specs.Rules.{KeepsGated}
-use Rattle.prl_plan.specs.Runs.{RunConstants, ExecState, opening, after_event, after_events}
+use Rattle.prl_plan.specs.declared.events.Event.TheVariants as events
+use Rattle.prl_rule.specs.Vocabulary.{run_of, reached, LookTold, looked, ticked}
 use Rattle.prl_rule.specs.declared.views.ClockPart.{ClockPart}
 use Rattle.prl_rule.specs.declared.views.Constants.{Constants}
-use Rattle.prl_rule.specs.Known.{run_of}
-use Rattle.prl_rule.specs.Rule.{reached}
+use Rattle.prl_rule.specs.declared.views.View.{View}
+use Rattle.prl_seats.specs.JobSeats.{JobSeatView, IsStage}
 use Rattle.prl_seats.specs.declared.jobs.Stage.{Stage}
 use Rattle.prl_seats.specs.declared.jobs.Stage.TheVariants as stages
-use Rattle.prl_seats.specs.JobSeats.{JobSeatView, IsStage}
-use Rattle.prl_board.specs.Lones.{LoneView, IsClockCall, IsTicked, IsWhole}
-use Rattle.prl_rule.specs.declared.views.View.{View}
-use Rattle.prl_rule.specs.Told.{LookTold}
-use Rattle.prl_rule.specs.Steps.{looked, ticked}
+use Rattle.prl_board.specs.Vocabulary.{LoneView, IsClockCall, IsTicked, IsWhole, first_clock}
 use Rattle.prl_board.specs.declared.clocks.Ticked.{Ticked}
 use Rattle.prl_board.specs.declared.clocks.Ticked.TheVariants as ticks
-use Rattle.prl_board.specs.Openings.{first_clock}
 use Rattle.prl_exec.specs.Standing.{HasSeen, IsPolled, RunLaws, StandsIn, act_of}
 use Rattle.prl_board.proofs.Lists.{seat_there}
 use Rattle.prl_exec.proofs.Rounds.{looked_at, ticked_on}
 use Rattle.prl_track.proofs.Places.{slice_get_set_same, slice_get_set_other}
-use Rattle.prl_tables.specs.CheckedTables.{CheckedView}
-use Rattle.prl_tables.specs.Tables.{last_unit}
-use Rattle.prl_tables.specs.Unrolled.{Placing, HaveActed}
+use Rattle.prl_tables.specs.Vocabulary.{CheckedView, last_unit, Placing, HaveActed}
 use Rattle.prl_tables.proofs.Ends.{has_ends}
 use Rattle.prl_tables.proofs.Unrolling as unrolling
 use Rattle.prl_table.specs.code.Driving.{acts_at, next_act, AreFirst, IsAhead, IsBoardOf, IsDriven, IsJobDone, IsNextJob}

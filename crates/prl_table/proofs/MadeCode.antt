@@ -8,21 +8,16 @@ use Rattle.std.proofs.lemmas.Bool.Decides.{nat_tests}
 use Rattle.std.proofs.lemmas.Grind.{div_ceil_times}
 use Rattle.std.proofs.lemmas.Option.{get_or_from_slice_get, slice_get-get_or, slice_get_within}
 use Rattle.prl_base.specs.declared.numbers.TaskNo.{TaskNo}
+use Rattle.prl_plan.specs.Vocabulary.{PlanView, IsPlan, constants_of, release_at}
 use Rattle.prl_plan.specs.declared.graphs.Task.{Task}
-use Rattle.prl_plan.specs.Plans.{PlanView, IsPlan}
-use Rattle.std.specs.List.Sorted.{IsNonDecreasingBy}
 use Rattle.prl_plan.specs.declared.horizons.Horizon.{Horizon}
-use Rattle.prl_plan.specs.Horizons.{constants_of}
-use Rattle.prl_plan.specs.Plans.{release_at}
-use Rattle.prl_edf.specs.EdfRuns.{IsEdfRun}
-use Rattle.prl_edf.specs.UnitLists.{wcets_of}
+use Rattle.std.specs.List.Sorted.{IsNonDecreasingBy}
+use Rattle.prl_edf.specs.Vocabulary.{IsEdfRun, wcets_of}
+use Rattle.prl_tables.specs.Vocabulary.{comes_after, AreOrdered, classes, IsGood}
 use Rattle.prl_tables.specs.declared.tables.Entry.{Entry}
-use Rattle.prl_tables.specs.TableTexts.{comes_after, AreOrdered}
 use Rattle.prl_tables.proofs.OrderLaws.{release_later}
 use Rattle.prl_tables.proofs.Shifts.{split}
-use Rattle.prl_table.specs.Made.{greatest_start}
-use Rattle.prl_tables.specs.Tables.{classes, IsGood}
-use Rattle.prl_table.specs.code.Ticks.{AreOfPlan, HasTicks}
+use Rattle.prl_table.specs.Vocabulary.{greatest_start, AreOfPlan, HasTicks}
 
 small_starts : (tasks : List Task) → ((i : ℕ) (task : Task) → slice_get tasks i ≡ Some task → task.clock.start < 2 ^ 31) → greatest_start tasks < 2 ^ 31
 small_starts [] small = omega arith

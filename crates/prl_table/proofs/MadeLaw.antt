@@ -11,19 +11,14 @@ use Rattle.std.proofs.lemmas.Int.{ints}
 use Rattle.std.proofs.lemmas.List.Sums.{sum_by-cons}
 use Rattle.std.proofs.lemmas.List.Sorted.{IsPermutation-keeps, sum_by-IsPermutation}
 use Rattle.std.proofs.lemmas.Option.{slice_get-get_or}
+use Rattle.prl_plan.specs.Vocabulary.{encoded_deadline, constants_of, task_at, no_task, deadline_of, job_count, IsHorizonJob, PlanView, IsPlan, release_at}
 use Rattle.prl_plan.specs.declared.horizons.Horizon.{Horizon}
-use Rattle.prl_plan.specs.Dates.{encoded_deadline}
-use Rattle.prl_plan.specs.Horizons.{constants_of}
-use Rattle.prl_plan.specs.Jobs.{task_at, no_task, deadline_of, job_count, IsHorizonJob}
-use Rattle.prl_plan.specs.Plans.{PlanView, IsPlan, release_at}
 use Rattle.prl_plan.proofs.DatePeriods.{jobs_are}
 use Rattle.prl_plan.proofs.RoundPeriods.{task_is}
-use Rattle.prl_edf.specs.EdfRuns.{IsEdfRun}
-use Rattle.prl_edf.specs.MetWindows.{MeetsAllWindows}
-use Rattle.prl_edf.specs.UnitLists.{wcets_of}
+use Rattle.prl_edf.specs.Vocabulary.{IsEdfRun, MeetsAllWindows, wcets_of}
+use Rattle.prl_tables.specs.Tables.{classes, is_of, units_of, IsGood}
 use Rattle.prl_tables.specs.declared.tables.Entry.{Entry}
 use Rattle.prl_table.specs.Made.{Run, cut_from, cut_to, goes, greatest_start, hypers_before, later, run_until, IsCut, IsCutFrom, IsRun}
-use Rattle.prl_tables.specs.Tables.{classes, is_of, units_of, IsGood}
 use Rattle.prl_table.proofs.Cuts.{cut_is}
 use Rattle.prl_table.proofs.Edf.{edf_is_run}
 use Rattle.prl_table.proofs.MadeRuns.{earliest, start_below, steady, timed}

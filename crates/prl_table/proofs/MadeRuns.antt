@@ -3,17 +3,11 @@ use Rattle.std.proofs.Common.{◌≡◌, ◌≢◌, ◌==◌, ◌+◌, ◌<◌, 
 use Rattle.std.specs.Prelude.{◌↔◌, slice_get}
 use Rattle.std.proofs.lemmas.Bool.{cases_eq}
 use Rattle.std.proofs.lemmas.Bool.Decides.{nat_tests}
+use Rattle.prl_plan.specs.Vocabulary.{IsJob, constants_of, task_at, job_count, IsHorizonJob, PlanView, IsPlan, deadline_at}
 use Rattle.prl_plan.specs.declared.graphs.Task.{Task}
 use Rattle.prl_plan.specs.declared.horizons.Horizon.{Horizon}
-use Rattle.prl_plan.specs.Facts.{IsJob}
-use Rattle.prl_plan.specs.Horizons.{constants_of}
-use Rattle.prl_plan.specs.Jobs.{task_at, job_count, IsHorizonJob}
-use Rattle.prl_plan.specs.Plans.{PlanView, IsPlan, deadline_at}
 use Rattle.prl_plan.proofs.RoundPeriods.{task_is}
-use Rattle.prl_edf.specs.TimedRuns.{unit_of, units_before}
-use Rattle.prl_edf.specs.EdfRuns.{IsEdfRun}
-use Rattle.prl_edf.specs.MetWindows.{MeetsAllWindows}
-use Rattle.prl_edf.specs.UnitLists.{wcets_of}
+use Rattle.prl_edf.specs.Vocabulary.{unit_of, units_before, IsEdfRun, MeetsAllWindows, wcets_of}
 use Rattle.prl_table.specs.Made.{goes, greatest_start, is_job, later, units_in, IsTimed, IsEdf, IsSteady}
 use Rattle.prl_tables.specs.Tables.{classes}
 

@@ -6,17 +6,14 @@ use Rattle.std.proofs.Math.Nat.{mul-le-mul_right}
 use Rattle.std.proofs.lemmas.Bool.{cases_eq, cases_lt}
 use Rattle.std.proofs.lemmas.Int.{ints}
 use Rattle.std.proofs.lemmas.Option.{slice_get-get_or}
-use Rattle.prl_plan.specs.Dates.{encoded_release, encoded_deadline}
-use Rattle.prl_plan.specs.Horizons.{sum_below}
-use Rattle.prl_plan.specs.Jobs.{task_at, deadline_of, IsHorizonJob}
-use Rattle.prl_plan.specs.Plans.{PlanView, IsPlan, edge_at, no_edge, release_at, deadline_at}
-use Rattle.prl_plan.specs.Precedence.{preceding, ComesFrom, Precedes}
+use Rattle.prl_plan.specs.Vocabulary.{encoded_release, encoded_deadline, sum_below, task_at, deadline_of, IsHorizonJob, PlanView, IsPlan, edge_at, no_edge, release_at, deadline_at, preceding}
+use Rattle.prl_plan.specs.Vocabulary.{ComesFrom, Precedes}
 use Rattle.prl_plan.proofs.DatePeriods.{jobs_are, least_repeat, greatest_repeat}
 use Rattle.prl_plan.proofs.Periods.{plus_mul}
 use Rattle.prl_plan.proofs.RoundPeriods.{task_is}
+use Rattle.prl_tables.specs.Tables.{classes, Overlap, IsGood}
 use Rattle.prl_tables.specs.declared.tables.Entry.{Entry}
 use Rattle.prl_table.specs.Made.{Run, units_in, IsRun, IsSteady, IsCutFrom, IsCut}
-use Rattle.prl_tables.specs.Tables.{classes, Overlap, IsGood}
 use Rattle.prl_table.proofs.Units.{units_none, units_join, units_same}
 use Rattle.prl_tables.proofs.Shifts.{shifted, preceding_shifted, some_classes}
 

@@ -3,25 +3,15 @@ use Rattle.std.proofs.Common.{◌≡◌, ◌≢◌, ◌+◌, ◌<◌, ◌≤◌,
 use Rattle.std.proofs.lemmas.Bool.{cases_order}
 use Rattle.prl_base.specs.declared.limits.Limit.{Limit}
 use Rattle.prl_base.specs.declared.numbers.TaskNo.{TaskNo}
+use Rattle.prl_edf.specs.Vocabulary.{IsOverloaded, MeetsAllWindows, run_of, IsTimedRun, wcets_of, IsVerdict}
 use Rattle.prl_edf.specs.declared.analysis.Verdict.{Verdict}
-use Rattle.prl_edf.specs.declared.analysis.Verdict.TheVariants as verdicts
 use Rattle.prl_edf.specs.declared.runs.Timed.{Timed}
-use Rattle.prl_edf.specs.Demand.{IsOverloaded}
-use Rattle.prl_edf.specs.MetWindows.{MeetsAllWindows}
-use Rattle.prl_edf.specs.Pieces.{run_of}
-use Rattle.prl_edf.specs.TimedRuns.{IsTimedRun}
-use Rattle.prl_edf.specs.UnitLists.{wcets_of}
-use Rattle.prl_edf.specs.Verdicts.{IsVerdict}
+use Rattle.prl_edf.specs.declared.analysis.Verdict.TheVariants as verdicts
+use Rattle.prl_plan.specs.Vocabulary.{HasPlanFacts, IsHorizon, IsPastLimit, constants_of, PlanView, IsPlan, RunConstants}
 use Rattle.prl_plan.specs.declared.horizons.Horizon.{Horizon}
-use Rattle.prl_plan.specs.Facts.{HasPlanFacts}
-use Rattle.prl_plan.specs.Horizons.{IsHorizon, IsPastLimit, constants_of}
-use Rattle.prl_plan.specs.Plans.{PlanView, IsPlan}
-use Rattle.prl_plan.specs.Runs.{RunConstants}
 use Rattle.prl_tables.specs.declared.tables.Entry.{Entry}
-use Rattle.prl_table.specs.declared.making.MakeFault.{MakeFault}
+use Rattle.prl_table.specs.Vocabulary.{MakeFault, run_until, IsFirstUnsteady, IsLongRun, IsMade, IsMakeFault, IsUnsteadyAt, job_in}
 use Rattle.prl_table.specs.declared.making.MakeFault.TheVariants as faults
-use Rattle.prl_table.specs.Made.{run_until}
-use Rattle.prl_table.specs.MakeFaults.{IsFirstUnsteady, IsLongRun, IsMade, IsMakeFault, IsUnsteadyAt, job_in}
 
 -- the laws of the crates below
 pub record Laws : Type 0 where

@@ -7,19 +7,13 @@ use Rattle.std.proofs.lemmas.Bool.{cases_order}
 use Rattle.std.proofs.lemmas.Bool.Decides.{nat_tests}
 use Rattle.std.proofs.lemmas.List.Sorted.{Contains-permutation, IsPermutation-sym}
 use Rattle.std.proofs.lemmas.Option.{get_or_from_slice_get, slice_get-get_or, slice_get_within}
+use Rattle.prl_edf.specs.Vocabulary.{IsEdfRun, MeetsAllWindows, run_of, wcets_of}
 use Rattle.prl_edf.specs.declared.runs.Timed.{Timed}
-use Rattle.prl_edf.specs.EdfRuns.{IsEdfRun}
-use Rattle.prl_edf.specs.MetWindows.{MeetsAllWindows}
-use Rattle.prl_edf.specs.Pieces.{run_of}
-use Rattle.prl_edf.specs.UnitLists.{wcets_of}
+use Rattle.prl_plan.specs.Vocabulary.{constants_of, PlanView, IsPlan}
 use Rattle.prl_plan.specs.declared.horizons.Horizon.{Horizon}
-use Rattle.prl_plan.specs.Horizons.{constants_of}
-use Rattle.prl_plan.specs.Plans.{PlanView, IsPlan}
+use Rattle.prl_tables.specs.Vocabulary.{IsGood, AreOrdered, comes_after}
 use Rattle.prl_tables.specs.declared.tables.Entry.{Entry}
-use Rattle.prl_tables.specs.Tables.{IsGood}
-use Rattle.prl_tables.specs.TableTexts.{AreOrdered, comes_after}
-use Rattle.prl_table.specs.Made.{IsSteadyRun, cut_from, cut_to, run_until}
-use Rattle.prl_table.specs.MakeFaults.{IsMade}
+use Rattle.prl_table.specs.Vocabulary.{IsSteadyRun, cut_from, cut_to, run_until, IsMade}
 use Rattle.prl_table.proofs.OneMake.{Laws, one_run}
 
 -- the entry stands in the list

@@ -7,26 +7,18 @@ use Rattle.std.proofs.lemmas.Bool.Decides.{nat_tests}
 use Rattle.std.proofs.lemmas.List.Sorted.{IsPermutation-cons, IsPermutation-middle, IsPermutation-refl, IsPermutation-sym, IsPermutation-trans}
 use Rattle.prl_base.specs.declared.limits.Limit.{Limit}
 use Rattle.prl_base.specs.declared.numbers.TaskNo.{TaskNo}
+use Rattle.prl_edf.specs.Vocabulary.{run_of, AreUnits, wcets_of, IsVerdict}
 use Rattle.prl_edf.specs.declared.analysis.Verdict.{Verdict}
-use Rattle.prl_edf.specs.declared.analysis.Verdict.TheVariants as verdicts
 use Rattle.prl_edf.specs.declared.runs.Timed.{Timed}
-use Rattle.prl_edf.specs.Pieces.{run_of}
-use Rattle.prl_edf.specs.TimedRuns.{AreUnits}
-use Rattle.prl_edf.specs.UnitLists.{wcets_of}
-use Rattle.prl_edf.specs.Verdicts.{IsVerdict}
+use Rattle.prl_edf.specs.declared.analysis.Verdict.TheVariants as verdicts
+use Rattle.prl_plan.specs.Vocabulary.{HasPlanFacts, IsHorizon, IsPastLimit, constants_of, PlanView, IsPlan, RunConstants}
 use Rattle.prl_plan.specs.declared.horizons.Horizon.{Horizon}
-use Rattle.prl_plan.specs.Facts.{HasPlanFacts}
-use Rattle.prl_plan.specs.Horizons.{IsHorizon, IsPastLimit, constants_of}
-use Rattle.prl_plan.specs.Plans.{PlanView, IsPlan}
-use Rattle.prl_plan.specs.Runs.{RunConstants}
 use Rattle.prl_plan.proofs.RoundPeriods.{task_is}
 use Rattle.prl_plan.proofs.Searches.{all_or_least}
-use Rattle.prl_tables.specs.declared.tables.Entry.{Entry}
 use Rattle.prl_tables.specs.TableTexts.{AreOrdered, comes_after, keeps_order}
-use Rattle.prl_table.specs.declared.making.MakeFault.{MakeFault}
+use Rattle.prl_tables.specs.declared.tables.Entry.{Entry}
+use Rattle.prl_table.specs.Vocabulary.{MakeFault, cut_from, cut_to, later, run_until, IsSteadyRun, IsLongRun, IsMade, IsMakeFault, IsUnsteadyAt, job_in}
 use Rattle.prl_table.specs.declared.making.MakeFault.TheVariants as faults
-use Rattle.prl_table.specs.Made.{cut_from, cut_to, later, run_until, IsSteadyRun}
-use Rattle.prl_table.specs.MakeFaults.{IsLongRun, IsMade, IsMakeFault, IsUnsteadyAt, job_in}
 
 -- tests that hold
 less_is : (a b : ℕ) → a < b → nat_lt a b ≡ true

@@ -4,3 +4,4 @@ pub mod Made
 pub mod MakeFaults
 -- what private functions say to one another
 pub mod code
+pub mod Vocabulary

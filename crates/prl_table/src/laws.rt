@@ -2,15 +2,12 @@
 
 ghost use Rattle.std.specs.Prelude.{◌≡◌, ◌≢◌, ◌+◌, ◌*◌, ◌<◌, ◌≤◌, ◌⊎◌, ℕ, List, Option, length};
 ghost use Rattle.std.specs.List.Sorted.{IsPermutation};
+ghost use Rattle.prl_plan.specs.Vocabulary.{constants_of, IsHorizonJob, PlanView, IsPlan};
+ghost use Rattle.prl_plan.specs.Vocabulary.{release_at};
 ghost use Rattle.prl_plan.specs.declared.horizons.Horizon.{Horizon};
-ghost use Rattle.prl_plan.specs.Horizons.{constants_of};
-ghost use Rattle.prl_plan.specs.Jobs.{IsHorizonJob};
-ghost use Rattle.prl_plan.specs.Plans.{PlanView, IsPlan, release_at};
-ghost use Rattle.prl_edf.specs.EdfRuns.{IsEdfRun};
-ghost use Rattle.prl_edf.specs.MetWindows.{MeetsAllWindows};
-ghost use Rattle.prl_edf.specs.UnitLists.{wcets_of};
-ghost use Rattle.prl_tables.specs.declared.tables.Entry.{Entry as AnyEntry};
+ghost use Rattle.prl_edf.specs.Vocabulary.{IsEdfRun, MeetsAllWindows, wcets_of};
 ghost use Rattle.prl_tables.specs.Tables.{classes, IsGood};
+ghost use Rattle.prl_tables.specs.declared.tables.Entry.{Entry as AnyEntry};
 ghost use Rattle.prl_table.specs.declared.making.MakeFault.{MakeFault as AnyFault};
 ghost use Rattle.prl_table.specs.declared.making.MakeFault.TheVariants as faults;
 ghost use Rattle.prl_table.specs.MakeFaults.{IsMade, IsMakeFault};

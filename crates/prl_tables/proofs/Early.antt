@@ -4,13 +4,10 @@ use Rattle.std.specs.Prelude.{pos, ◌≤ℤ◌}
 use Rattle.std.proofs.Math.IntN.{pos-*ℤ-pos}
 use Rattle.std.proofs.Math.Nat.{mul-le-mul_right}
 use Rattle.std.proofs.lemmas.Int.{ints}
-use Rattle.prl_plan.specs.Dates.{encoded_deadline}
-use Rattle.prl_plan.specs.Jobs.{task_at, deadline_of, IsHorizonJob}
-use Rattle.prl_plan.specs.Plans.{PlanView, IsPlan, release_at, deadline_at}
+use Rattle.prl_plan.specs.Vocabulary.{encoded_deadline, task_at, deadline_of, IsHorizonJob, PlanView, IsPlan, release_at, deadline_at}
 use Rattle.prl_plan.proofs.DatePeriods.{jobs_are}
 use Rattle.prl_plan.proofs.RoundPeriods.{task_is}
-use Rattle.prl_tables.specs.declared.tables.Entry.{Entry}
-use Rattle.prl_tables.specs.Tables.{classes, IsPiece}
+use Rattle.prl_tables.specs.Vocabulary.{Entry, classes, IsPiece}
 use Rattle.prl_tables.proofs.Shifts.{some_classes}
 
 pub class_is_early : (plan : PlanView) → IsPlan plan → (i c : ℕ) → i < length plan.graph.tasks → c < classes plan.graph i →

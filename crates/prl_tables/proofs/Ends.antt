@@ -1,8 +1,7 @@
 -- Jobs end with their last action.
 use Rattle.std.proofs.Common.{◌≡◌, ◌≢◌, ◌+◌, ◌<◌, ◌≤◌, ℕ, length, ◌∙◌, ap, arith}
 use Rattle.prl_plan.specs.declared.events.Action.TheVariants as actions
-use Rattle.prl_plan.specs.Facts.{IsJob}
-use Rattle.prl_plan.specs.Runs.{RunConstants, action_at}
+use Rattle.prl_plan.specs.Vocabulary.{IsJob, RunConstants, action_at}
 use Rattle.prl_edf.specs.Unrolled.{HaveOneEnd}
 
 -- a job has an action, ends with its last one, and does not end before

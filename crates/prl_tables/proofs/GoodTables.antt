@@ -6,22 +6,16 @@ use Rattle.std.proofs.lemmas.Bool.{cases_lt}
 use Rattle.std.proofs.lemmas.Bool.Decides.{nat_tests}
 use Rattle.std.proofs.lemmas.Int.{ints}
 use Rattle.prl_base.specs.declared.numbers.EdgeNo.{EdgeNo}
+use Rattle.prl_plan.specs.Vocabulary.{encoded_release, encoded_deadline, HasPlanFacts, IsHorizon, constants_of, PlanView, IsPlan, edge_at, IsActionOf, release_at, deadline_at, preceding, ComesFrom}
 use Rattle.prl_plan.specs.declared.events.Action.{Action}
-use Rattle.prl_plan.specs.declared.events.Action.TheVariants as actions
 use Rattle.prl_plan.specs.declared.horizons.Horizon.{Horizon}
-use Rattle.prl_plan.specs.Dates.{encoded_release, encoded_deadline}
-use Rattle.prl_plan.specs.Facts.{HasPlanFacts}
-use Rattle.prl_plan.specs.Horizons.{IsHorizon, constants_of}
-use Rattle.prl_plan.specs.Plans.{PlanView, IsPlan, edge_at, IsActionOf, release_at, deadline_at}
-use Rattle.prl_plan.specs.Precedence.{preceding, ComesFrom}
+use Rattle.prl_plan.specs.declared.events.Action.TheVariants as actions
 use Rattle.prl_plan.proofs.DatePeriods.{least_repeat, greatest_repeat}
 use Rattle.prl_plan.proofs.Periods.{plus_mul}
 use Rattle.prl_plan.proofs.RoundPeriods.{task_is}
 use Rattle.prl_plan.proofs.StateLaws.{action_is_as_defined}
 use Rattle.prl_plan.proofs.WalkLaws.{walk_preceding, operand_walks}
-use Rattle.prl_tables.specs.declared.tables.Entry.{Entry}
-use Rattle.prl_tables.specs.Tables.{classes, is_of, units_of, end_of, last_unit, IsGood}
-use Rattle.prl_tables.specs.Unrolled.{IsPlacing}
+use Rattle.prl_tables.specs.Vocabulary.{Entry, classes, is_of, units_of, end_of, last_unit, IsGood, IsPlacing}
 use Rattle.prl_tables.proofs.Shifts.{shifted, preceding_shifted, split, below}
 
 pub of_both : (i c : ℕ) (entry : Entry) → is_of i c entry ≡ true → (entry.task.0 ≡ i) × (entry.job ≡ c)

@@ -4,11 +4,8 @@ use Rattle.std.proofs.lemmas.Bool.{cases_order}
 use Rattle.prl_base.specs.declared.numbers.EdgeNo.{EdgeNo}
 use Rattle.prl_base.specs.declared.numbers.TaskNo.{TaskNo}
 use Rattle.prl_plan.specs.Plans.{PlanView}
-use Rattle.prl_tables.specs.declared.reading.TableFault.{TableFault}
+use Rattle.prl_tables.specs.Vocabulary.{TableFault, Entry, AreApart, IsEarlier, IsFault, IsFirstClash, IsFirstDisorder, IsFirstNoPiece, IsFirstNotWhole, ArePieces, AreWhole, IsGood}
 use Rattle.prl_tables.specs.declared.reading.TableFault.TheVariants as faults
-use Rattle.prl_tables.specs.declared.tables.Entry.{Entry}
-use Rattle.prl_tables.specs.Checks.{AreApart, IsEarlier, IsFault, IsFirstClash, IsFirstDisorder, IsFirstNoPiece, IsFirstNotWhole}
-use Rattle.prl_tables.specs.Tables.{ArePieces, AreWhole, IsGood}
 
 no_piece : (plan : PlanView) (entries : List Entry) (line : ℕ) → ArePieces plan entries → IsFirstNoPiece plan entries line → ⊥
 no_piece plan entries line h k = k.no_piece (h k.k k.entry k.stands)

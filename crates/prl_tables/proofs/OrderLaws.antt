@@ -6,26 +6,19 @@ use Rattle.std.proofs.lemmas.List.Sums.{get_or-le-sum_by}
 use Rattle.std.proofs.lemmas.Option.{slice_get-get_or, slice_get_within, get_or_from_slice_get}
 use Rattle.prl_base.specs.declared.operators.Clock.{Clock}
 use Rattle.prl_base.specs.declared.operators.Op.{Op}
+use Rattle.prl_plan.specs.Vocabulary.{encoded_release, IsEdge, IsSource, Job, operand_from, operand_of, walk, PlanView, IsPlan, edge_at, no_edge, release_at, preceding, ComesFrom, Precedes}
 use Rattle.prl_plan.specs.declared.graphs.Edge.{Edge}
 use Rattle.prl_plan.specs.declared.graphs.Producer.{Producer}
-use Rattle.prl_plan.specs.declared.graphs.Producer.TheVariants as producers
 use Rattle.prl_plan.specs.declared.graphs.TaskGraph.{TaskGraph}
 use Rattle.prl_plan.specs.declared.limits.TheConstants.{MAX_PREFIX}
 use Rattle.prl_plan.specs.declared.walks.Operand.{Operand}
-use Rattle.prl_plan.specs.declared.walks.Operand.TheVariants as operands
 use Rattle.prl_plan.specs.declared.words.Word.{Word}
-use Rattle.prl_plan.specs.Dates.{encoded_release}
-use Rattle.prl_plan.specs.Graphs.{IsEdge, IsSource}
-use Rattle.prl_plan.specs.Jobs.{Job}
-use Rattle.prl_plan.specs.Operands.{operand_from, operand_of, walk}
-use Rattle.prl_plan.specs.Plans.{PlanView, IsPlan, edge_at, no_edge, release_at}
-use Rattle.prl_plan.specs.Precedence.{preceding, ComesFrom, Precedes}
+use Rattle.prl_plan.specs.declared.graphs.Producer.TheVariants as producers
+use Rattle.prl_plan.specs.declared.walks.Operand.TheVariants as operands
 use Rattle.prl_plan.proofs.DatePeriods.{least_repeat}
 use Rattle.prl_plan.proofs.RoundPeriods.{task_is}
 use Rattle.prl_plan.proofs.WordNumbers.{first_after_prefix}
-use Rattle.prl_tables.specs.declared.tables.Entry.{Entry}
-use Rattle.prl_tables.specs.Tables.{classes, end_of, IsGood, IsPiece, ArePieces, AreWhole, KeepsOrder}
-use Rattle.prl_tables.specs.code.Sums.{sums_of, IsBefore}
+use Rattle.prl_tables.specs.Vocabulary.{Entry, classes, end_of, IsGood, IsPiece, ArePieces, AreWhole, KeepsOrder, sums_of, IsBefore}
 use Rattle.prl_tables.proofs.GoodTables.{Is, last_entry, some_end}
 use Rattle.prl_tables.proofs.Ordering.{end_is, first_entry, kept, broken, within_sums, IsFirst}
 use Rattle.prl_tables.proofs.Shifts.{shifted, split, some_classes}

@@ -5,15 +5,11 @@ use Rattle.std.proofs.Math.IntN.{pos-*ℤ-pos}
 use Rattle.std.proofs.Math.Nat.{mul-le-mul_right}
 use Rattle.std.proofs.lemmas.Bool.{cases_lt}
 use Rattle.std.proofs.lemmas.Int.{ints}
+use Rattle.prl_plan.specs.Vocabulary.{PlanView, IsPlan, edge_at, preceding, ComesFrom}
 use Rattle.prl_plan.specs.declared.graphs.Producer.{Producer}
 use Rattle.prl_plan.specs.declared.graphs.Producer.TheVariants as producers
-use Rattle.prl_plan.specs.Plans.{PlanView, IsPlan, edge_at}
-use Rattle.prl_plan.specs.Precedence.{preceding, ComesFrom}
 use Rattle.prl_plan.proofs.Periods.{plus_mul}
-use Rattle.prl_tables.specs.declared.sums.Sums.{Sums}
-use Rattle.prl_tables.specs.declared.tables.Entry.{Entry}
-use Rattle.prl_tables.specs.Tables.{classes, is_of, end_of, KeepsOrder}
-use Rattle.prl_tables.specs.code.Sums.{sums_of}
+use Rattle.prl_tables.specs.Vocabulary.{Sums, Entry, classes, is_of, end_of, KeepsOrder, sums_of}
 use Rattle.prl_tables.proofs.GoodTables.{Is, of_both}
 use Rattle.prl_tables.proofs.Shifts.{preceding_shifted, some_classes}
 use Rattle.prl_tables.proofs.Summed.{by_no, by_yes, is_yes}

@@ -13,15 +13,12 @@ use Rattle.std.proofs.lemmas.List.Elements.{All-append}
 use Rattle.std.proofs.lemmas.List.Splits.{slice_split_at}
 use Rattle.std.proofs.lemmas.List.Sums.{AllPass-from_list_all}
 use Rattle.std.proofs.lemmas.Slice.Eq.{bytes_eq-Decides}
-use Rattle.prl_base.specs.Decimals.{are_digits, decimal_of}
-use Rattle.prl_base.specs.Lines.{is_line_feed, lines_of}
-use Rattle.prl_base.specs.Reading.{◌>>=◌}
-use Rattle.prl_tables.specs.declared.tables.Entry.{Entry}
+use Rattle.prl_base.specs.Vocabulary.{are_digits, decimal_of, is_line_feed, lines_of, ◌>>=◌}
+use Rattle.prl_tables.specs.Vocabulary.{Entry, after_line, after_words, cut_number, entries_from, entries_of, entry_if, entry_line, entry_of, entry_text, field, is_blank, is_header, is_number}
+use Rattle.prl_tables.specs.Vocabulary.{keeps_order, last_field, next_entry, number_if, number_of, or_line, tells_hyper, text_of, AreOrdered, FitsEntry}
 use Rattle.prl_tables.proofs.TextLines.{after_more, from_more, then_entries}
 use Rattle.prl_base.proofs.LineCuts.{length_lines_of}
 use Rattle.prl_tables.specs.declared.reading.TableFault.TheVariants as faults
-use Rattle.prl_tables.specs.TableTexts.{after_line, after_words, cut_number, entries_from, entries_of, entry_if, entry_line, entry_of, entry_text}
-use Rattle.prl_tables.specs.TableTexts.{field, is_blank, is_header, is_number, keeps_order, last_field, next_entry, number_if, number_of, or_line, tells_hyper, text_of, AreOrdered, FitsEntry}
 
 -- decimal digits are no line feeds and no blanks
 digit_by_value : (c : ℕ) → digit_value c < 10 → is_ascii_digit c ≡ true

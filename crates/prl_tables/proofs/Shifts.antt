@@ -3,11 +3,7 @@ use Rattle.std.proofs.Common.{◌≡◌, ◌+◌, ◌*◌, ◌/◌, ◌%◌, ◌
 use Rattle.std.specs.Prelude.{pos, ◌+ℤ◌}
 use Rattle.std.proofs.lemmas.Int.{ints}
 use Rattle.std.proofs.lemmas.Option.{slice_get-get_or}
-use Rattle.prl_plan.specs.Dates.{Family, RepeatsByHyper}
-use Rattle.prl_plan.specs.Graphs.{IsEdge}
-use Rattle.prl_plan.specs.Jobs.{task_at}
-use Rattle.prl_plan.specs.Plans.{PlanView, IsPlan, edge_at, no_edge}
-use Rattle.prl_plan.specs.Precedence.{preceding, ComesFrom}
+use Rattle.prl_plan.specs.Vocabulary.{Family, RepeatsByHyper, IsEdge, task_at, PlanView, IsPlan, edge_at, no_edge, preceding, ComesFrom}
 use Rattle.prl_plan.proofs.DatePeriods.{jobs_are}
 use Rattle.prl_plan.proofs.RoundPeriods.{edge_precedes}
 use Rattle.prl_tables.specs.Tables.{classes}

@@ -3,27 +3,18 @@ use Rattle.std.proofs.Common.{◌≡◌, ◌≢◌, ◌+◌, ◌*◌, ◌/◌, �
 use Rattle.std.specs.Prelude.{pos, slice_get, if◌then◌else◌}
 use Rattle.std.proofs.lemmas.Bool.{cases_eq, cases_lt}
 use Rattle.std.proofs.lemmas.Option.{slice_get_within, same_Some}
-use Rattle.prl_base.specs.Lines.{lines_of}
-use Rattle.prl_base.specs.Reading.{◌>>=◌}
+use Rattle.prl_base.specs.Vocabulary.{lines_of, ◌>>=◌}
 use Rattle.prl_base.specs.declared.numbers.EdgeNo.{EdgeNo}
 use Rattle.prl_base.specs.declared.numbers.TaskNo.{TaskNo}
+use Rattle.prl_plan.specs.Vocabulary.{task_at, operand_of, PlanView, IsPlan, edge_at, release_at, deadline_at, preceding, ComesFrom}
 use Rattle.prl_plan.specs.declared.graphs.Producer.{Producer}
-use Rattle.prl_plan.specs.declared.graphs.Producer.TheVariants as producers
 use Rattle.prl_plan.specs.declared.limits.TheConstants.{MAX_PREFIX}
+use Rattle.prl_plan.specs.declared.graphs.Producer.TheVariants as producers
 use Rattle.prl_plan.specs.declared.walks.Operand.TheVariants as operands
-use Rattle.prl_plan.specs.Jobs.{task_at}
-use Rattle.prl_plan.specs.Operands.{operand_of}
-use Rattle.prl_plan.specs.Plans.{PlanView, IsPlan, edge_at, release_at, deadline_at}
-use Rattle.prl_plan.specs.Precedence.{preceding, ComesFrom}
 use Rattle.prl_plan.proofs.Searches.{IsLeastSuch, all_or_least}
-use Rattle.prl_tables.specs.declared.reading.TableFault.{TableFault}
+use Rattle.prl_tables.specs.Vocabulary.{TableFault, Entry, AreApart, IsEarlier, IsFault, classes, units_of, IsPiece, ArePieces, IsWhole, AreWhole, KeepsOrder, IsGood, next_entry, or_line, no_more}
+use Rattle.prl_tables.specs.Vocabulary.{entries_from, after_line, is_header, tells_hyper, entries_of, spot_of, Meet, Meets, AreShort, sums_of, IsBefore}
 use Rattle.prl_tables.specs.declared.reading.TableFault.TheVariants as faults
-use Rattle.prl_tables.specs.declared.tables.Entry.{Entry}
-use Rattle.prl_tables.specs.Checks.{AreApart, IsEarlier, IsFault}
-use Rattle.prl_tables.specs.Tables.{classes, units_of, IsPiece, ArePieces, IsWhole, AreWhole, KeepsOrder, IsGood}
-use Rattle.prl_tables.specs.TableTexts.{next_entry, or_line, no_more, entries_from, after_line, is_header, tells_hyper, entries_of}
-use Rattle.prl_tables.specs.code.Spots.{spot_of, Meet, Meets, AreShort}
-use Rattle.prl_tables.specs.code.Sums.{sums_of, IsBefore}
 use Rattle.prl_tables.proofs.Spotted.{meet_of_clash, clash_of_meet, turned, pieces_short}
 
 -- a table, or a fault of the text

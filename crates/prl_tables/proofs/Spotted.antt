@@ -9,12 +9,9 @@ use Rattle.std.proofs.Math.Nat.{mul-le-mul_right}
 use Rattle.std.proofs.lemmas.Bool.{cases_lt}
 use Rattle.std.proofs.lemmas.List.Sorted.{IsPermutation-keeps}
 use Rattle.std.proofs.lemmas.Option.{get_or_from_slice_get, slice_get-get_or, slice_get_within}
-use Rattle.prl_tables.specs.declared.clashes.Spot.{Spot}
-use Rattle.prl_tables.specs.declared.tables.Entry.{Entry}
+use Rattle.prl_tables.specs.Vocabulary.{Spot, Entry, IsFirstClash, Clash, IsPiece, ArePieces, Overlap, lower, no_spot, spot_of, with_meeting, AreShort, AreSorted, AreSpots, IsFirstMeeting, IsFirstMet}
+use Rattle.prl_tables.specs.Vocabulary.{IsHighest, IsLeastMeeting, IsShort, Meet, Meets, MeetsSome}
 use Rattle.prl_plan.specs.Plans.{PlanView, IsPlan}
-use Rattle.prl_tables.specs.Checks.{IsFirstClash}
-use Rattle.prl_tables.specs.Tables.{Clash, IsPiece, ArePieces, Overlap}
-use Rattle.prl_tables.specs.code.Spots.{lower, no_spot, spot_of, with_meeting, AreShort, AreSorted, AreSpots, IsFirstMeeting, IsFirstMet, IsHighest, IsLeastMeeting, IsShort, Meet, Meets, MeetsSome}
 use Rattle.prl_tables.proofs.FourTests as tests
 use Rattle.prl_tables.proofs.Listed.{pushed}
 use Rattle.prl_tables.proofs.Swaps.{at_place, one_place, to_place}

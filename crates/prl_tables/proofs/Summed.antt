@@ -5,13 +5,9 @@ use Rattle.std.proofs.lemmas.Bool.{cases_eq}
 use Rattle.std.proofs.lemmas.Bool.Decides.{nat_tests}
 use Rattle.std.proofs.lemmas.List.{get_or-replicate, length-replicate, length-set}
 use Rattle.std.proofs.lemmas.Option.{get_or_from_slice_get, slice_get-get_or}
-use Rattle.prl_plan.specs.Jobs.{task_at}
-use Rattle.prl_plan.specs.Plans.{PlanView}
+use Rattle.prl_plan.specs.Vocabulary.{task_at, PlanView}
 use Rattle.prl_track.proofs.Places.{slice_get_set_same, slice_get_set_other}
-use Rattle.prl_tables.specs.declared.sums.Sums.{Sums}
-use Rattle.prl_tables.specs.declared.tables.Entry.{Entry}
-use Rattle.prl_tables.specs.Tables.{is_of, units_of, IsWhole}
-use Rattle.prl_tables.specs.code.Sums.{no_sums, sums_of, with_entry, HasSums}
+use Rattle.prl_tables.specs.Vocabulary.{Sums, Entry, is_of, units_of, IsWhole, no_sums, sums_of, with_entry, HasSums}
 
 pub is_yes : (i c : ℕ) (entry : Entry) → entry.task.0 ≡ i → entry.job ≡ c → is_of i c entry ≡ true
 is_yes i c entry task job = grind (arith, nat_tests, task, job)

@@ -1,12 +1,9 @@
 -- The lines of a table's text, one cut after another.
 use Rattle.std.proofs.Common.{◌≡◌, ℕ, ◌+◌, ◌<◌, Bool, true, false, cond, List, [], ◌∷◌, ◌++◌, length, Option, Some, None, Result, Ok, Err, refl, sym, ap, ◌∙◌, arith, append_assoc}
-use Rattle.prl_base.specs.Lines.{cut_line, lines_of}
-use Rattle.prl_base.specs.Reading.{◌>>=◌}
+use Rattle.prl_base.specs.Vocabulary.{cut_line, lines_of, ◌>>=◌}
 use Rattle.prl_base.proofs.LineCuts.{lines_of_cut, lines_of_end, length_lines_of}
-use Rattle.prl_tables.specs.declared.reading.TableFault.{TableFault}
+use Rattle.prl_tables.specs.Vocabulary.{TableFault, Entry, after_line, entries_from, next_entry, or_line}
 use Rattle.prl_tables.specs.declared.reading.TableFault.TheVariants as faults
-use Rattle.prl_tables.specs.declared.tables.Entry.{Entry}
-use Rattle.prl_tables.specs.TableTexts.{after_line, entries_from, next_entry, or_line}
 
 pub after_more : (k : ℕ) (test : List ℕ → Bool) (line : List ℕ) (lines : List (List ℕ)) → 0 < length lines →
     after_line k test (line ∷ lines) ≡ cond (test line) (Ok lines) (Err (faults.Syntax k))

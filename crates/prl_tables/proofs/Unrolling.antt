@@ -2,14 +2,12 @@
 use Rattle.std.proofs.Common.{◌≡◌, ◌≢◌, ◌+◌, ◌++◌, ◌<◌, ◌≤◌, ℕ, zero, suc, Bool, List, [], ◌∷◌, length, replicate, get_or, set, inl, inr, refl, sym, ◌∙◌, ap, subst, arith, eqb, cond}
 use Rattle.std.proofs.lemmas.Bool.{cases_eq, cases_lt}
 use Rattle.std.proofs.lemmas.Bool.Decides.{eqb_tells}
+use Rattle.prl_plan.specs.Vocabulary.{RunConstants, ExecState, opening, action_at, next_action, after_action, after_event, after_events, HasJob, FindsTag, KeepsGated, IsGated, IsComplete, MayTick}
+use Rattle.prl_plan.specs.Vocabulary.{IsJob, ReadsAt, Provides, HasPlanFacts, IsSound}
 use Rattle.prl_plan.specs.declared.events.Action.{Action}
-use Rattle.prl_plan.specs.declared.events.Action.TheVariants as actions
 use Rattle.prl_plan.specs.declared.events.Event.{Event}
+use Rattle.prl_plan.specs.declared.events.Action.TheVariants as actions
 use Rattle.prl_plan.specs.declared.events.Event.TheVariants as events
-use Rattle.prl_plan.specs.Runs.{RunConstants, ExecState, opening, action_at, next_action, after_action, after_event, after_events}
-use Rattle.prl_plan.specs.Rules.{HasJob, FindsTag, KeepsGated, IsGated, IsComplete, MayTick}
-use Rattle.prl_plan.specs.Facts.{IsJob, ReadsAt, Provides, HasPlanFacts}
-use Rattle.prl_plan.specs.States.{IsSound}
 use Rattle.prl_plan.proofs.Places.{get_set}
 use Rattle.prl_plan.proofs.StateLaws.{opening_is_sound, gated_event_keeps_sound}
 use Rattle.prl_tables.specs.Unrolled.{Placing, acts_of_jobs, acts_of_tasks, unrolled_to, unrolled, ActsBefore, HaveActed, IsPlacing}

@@ -10,3 +10,4 @@ pub mod Checks
 pub mod CheckedTables
 -- what private functions say to one another
 pub mod code
+pub mod Vocabulary

@@ -1,13 +1,10 @@
 //! Laws of tables.
 
 ghost use Rattle.std.specs.Prelude.{◌≡◌, ◌≢◌, ◌+◌, ◌*◌, ◌<◌, ◌≤◌, ◌^◌, ◌⊎◌, ℕ, All, Err, List, None, Ok, Option, length};
+ghost use Rattle.prl_plan.specs.Vocabulary.{HasPlanFacts, IsHorizon, constants_of, task_at};
+ghost use Rattle.prl_plan.specs.Vocabulary.{IsHorizonJob, PlanView, IsPlan, release_at, IsComplete};
+ghost use Rattle.prl_plan.specs.Vocabulary.{IsGated, RunConstants, opening, after_events};
 ghost use Rattle.prl_plan.specs.declared.horizons.Horizon.{Horizon};
-ghost use Rattle.prl_plan.specs.Facts.{HasPlanFacts};
-ghost use Rattle.prl_plan.specs.Horizons.{IsHorizon, constants_of};
-ghost use Rattle.prl_plan.specs.Jobs.{task_at, IsHorizonJob};
-ghost use Rattle.prl_plan.specs.Plans.{PlanView, IsPlan, release_at};
-ghost use Rattle.prl_plan.specs.Rules.{IsComplete, IsGated};
-ghost use Rattle.prl_plan.specs.Runs.{RunConstants, opening, after_events};
 ghost use Rattle.prl_tables.specs.declared.tables.Entry.{Entry as AnyEntry};
 ghost use Rattle.prl_edf.specs.Unrolled.{HaveOneEnd};
 ghost use Rattle.prl_tables.specs.Tables.{classes, end_of, last_unit, IsGood, IsPiece};

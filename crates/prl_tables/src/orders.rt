@@ -2,11 +2,10 @@
 
 ghost use Rattle.std.specs.Prelude.{◌≡◌, ◌+◌, ◌*◌, ◌/◌, ◌%◌, ◌<◌, ◌≤◌, ◌^◌, ℕ, List, pos, None, length, map, vec_items, IfErr, IfSome, OnOk};
 ghost use Rattle.std.specs.Bool.{OnTrue, OnFalse};
+ghost use Rattle.prl_plan.specs.Vocabulary.{operand_of, edge_at, release_at, IsPlan, PlanView};
+ghost use Rattle.prl_plan.specs.Vocabulary.{preceding, ComesFrom};
 ghost use Rattle.prl_plan.specs.declared.limits.TheConstants.{MAX_PREFIX};
 ghost use Rattle.prl_plan.specs.declared.walks.Operand.TheVariants as operands;
-ghost use Rattle.prl_plan.specs.Operands.{operand_of};
-ghost use Rattle.prl_plan.specs.Plans.{edge_at, release_at, IsPlan, PlanView};
-ghost use Rattle.prl_plan.specs.Precedence.{preceding, ComesFrom};
 ghost use Rattle.prl_tables.specs.declared.reading.TableFault.TheVariants as faults;
 ghost use Rattle.prl_tables.specs.declared.tables.Entry.{Entry as AnyEntry};
 ghost use Rattle.prl_tables.specs.Checks.{IsFault, AreApart};

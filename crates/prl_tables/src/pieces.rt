@@ -2,8 +2,7 @@
 
 ghost use Rattle.std.specs.Prelude.{◌≡◌, ◌<◌, ◌≤◌, ◌^◌, ◌+◌, length, IfErr, OnOk};
 ghost use Rattle.std.specs.Bool.{OnTrue, OnFalse};
-ghost use Rattle.prl_plan.specs.Jobs.{task_at};
-ghost use Rattle.prl_plan.specs.Plans.{release_at, deadline_at};
+ghost use Rattle.prl_plan.specs.Vocabulary.{task_at, release_at, deadline_at};
 ghost use Rattle.prl_tables.specs.Checks.{IsFault};
 ghost use Rattle.prl_tables.specs.Tables.{classes, ArePieces, IsPiece};
 

@@ -4,14 +4,9 @@ use Rattle.std.proofs.lemmas.Option.{slice_get-get_or}
 use Rattle.std.proofs.lemmas.List.{take-append-drop, get_or_default}
 use Rattle.prl_base.specs.declared.values.Ty.{Ty}
 use Rattle.prl_base.specs.declared.values.Ty.TheVariants as ty
-use Rattle.prl_terms.specs.declared.terms.Rule.{Rule}
-use Rattle.prl_terms.specs.declared.terms.Term.{Term}
+use Rattle.prl_terms.specs.Vocabulary.{Rule, Term, Unsolved, Choice, type_in, FitsRule, FitRules, IsFree, AreTypes, Explains, mark_of, Follows, Solves, IsSettled, Refuses}
 use Rattle.prl_terms.specs.declared.terms.Term.TheVariants as terms
-use Rattle.prl_terms.specs.declared.solving.Unsolved.{Unsolved}
 use Rattle.prl_terms.specs.declared.solving.Unsolved.TheVariants as unsolved
-use Rattle.prl_terms.specs.Choices.{Choice, type_in, FitsRule, FitRules}
-use Rattle.prl_terms.specs.Solutions.{IsFree, AreTypes, Explains}
-use Rattle.prl_terms.specs.code.Marks.{mark_of, Follows, Solves, IsSettled, Refuses}
 use Rattle.prl_terms.proofs.Meeting.{chosen, chosen_follows}
 
 -- so many marks from the first on are the types

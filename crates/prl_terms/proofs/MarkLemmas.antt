@@ -1,8 +1,7 @@
 -- Marks after a write.
 use Rattle.std.proofs.Common.{◌≡◌, ◌≢◌, ◌<◌, ◌+◌, ◌∙◌, ℕ, List, length, get_or, set, get_or-set_other, get_or-set_same, length-set, arith, inl, inr, sym, ap}
 use Rattle.std.proofs.lemmas.Bool.Decides.{eqb_tells}
-use Rattle.prl_terms.specs.declared.terms.Term.{Term}
-use Rattle.prl_terms.specs.code.Marks.{mark_of}
+use Rattle.prl_terms.specs.Vocabulary.{Term, mark_of}
 
 pub mark_of_set_same : (marks : List Term) (k : ℕ) (by : Term) → k < length marks → mark_of (set marks k by) k ≡ by
 mark_of_set_same marks k by h = rw get_or-set_same

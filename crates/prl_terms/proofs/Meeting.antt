@@ -2,13 +2,10 @@
 use Rattle.std.proofs.Common.{◌≡◌, ◌≢◌, ◌<◌, ◌++◌, ◌∙◌, ℕ, List, [], ◌∷◌, length, refl, sym, ap, subst, inl, inr, Result, Ok, Err, IfOk, IfErr, MatchResult}
 use Rattle.prl_base.specs.declared.values.Ty.{Ty}
 use Rattle.prl_base.specs.declared.values.Ty.TheVariants as types
-use Rattle.prl_terms.specs.declared.terms.Rule.{Rule}
-use Rattle.prl_terms.specs.declared.terms.Term.{Term}
+use Rattle.prl_terms.specs.Vocabulary.{Rule, Term, Unsolved, Choice, type_in, Meets, MeetsAll, FitsTerm, mark_of, resolved, Follows, Solves, IsSettled, IsReplaced, IsApart, AreApart, AreJoined}
+use Rattle.prl_terms.specs.Vocabulary.{Contradicts, Refuses}
 use Rattle.prl_terms.specs.declared.terms.Term.TheVariants as terms
-use Rattle.prl_terms.specs.declared.solving.Unsolved.{Unsolved}
 use Rattle.prl_terms.specs.declared.solving.Unsolved.TheVariants as unsolved
-use Rattle.prl_terms.specs.Choices.{Choice, type_in, Meets, MeetsAll, FitsTerm}
-use Rattle.prl_terms.specs.code.Marks.{mark_of, resolved, Follows, Solves, IsSettled, IsReplaced, IsApart, AreApart, AreJoined, Contradicts, Refuses}
 use Rattle.prl_terms.proofs.Replacing.{follows_new, follows_old, same_type}
 
 pub meets_append : (c : Choice) (xs ys : List Rule) → MeetsAll c xs → MeetsAll c ys → MeetsAll c (xs ++ ys)

@@ -6,10 +6,8 @@ use Rattle.std.proofs.Math.ListN.{get_or-eq_default}
 use Rattle.std.proofs.lemmas.Bool.{cases_lt}
 use Rattle.std.proofs.lemmas.List.{map-set, get_or-map, length-map}
 use Rattle.std.proofs.lemmas.List.Elements.{Contains-get_or, Contains-append_left, Contains-append_right, Contains-append_cases}
-use Rattle.prl_terms.specs.declared.terms.Term.{Term}
+use Rattle.prl_terms.specs.Vocabulary.{Term, Choice, type_in, FitsTerm, mark_of, resolved, replaced, added, members_at, Follows, IsSettled, AreMembers, IsReplaced, IsApart}
 use Rattle.prl_terms.specs.declared.terms.Term.TheVariants as terms
-use Rattle.prl_terms.specs.Choices.{Choice, type_in, FitsTerm}
-use Rattle.prl_terms.specs.code.Marks.{mark_of, resolved, replaced, added, members_at, Follows, IsSettled, AreMembers, IsReplaced, IsApart}
 
 pub replaced_same : (a : ℕ) (by : Term) → replaced a by (terms.Parameter a) ≡ by
 replaced_same a by = elim (eqb_tells a a) [ inl e ↦ rw e.0 | inr ne ↦ absurd (ne.1 refl) ]

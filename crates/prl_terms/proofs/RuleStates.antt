@@ -1,15 +1,8 @@
 -- What one more rule makes of what is known.
 use Rattle.std.proofs.Common.{◌≡◌, ◌++◌, ◌∙◌, ℕ, List, [], ◌∷◌, length, refl, sym, ap, append_assoc}
 use Rattle.prl_base.specs.declared.values.Ty.{Ty}
-use Rattle.prl_terms.specs.declared.terms.Rule.{Rule}
-use Rattle.prl_terms.specs.declared.terms.Term.{Term}
-use Rattle.prl_terms.specs.declared.solving.Marks.{Marks}
+use Rattle.prl_terms.specs.Vocabulary.{Rule, Term, Marks, FitsRule, FitRules, IsMismatch, resolved, IsKept, Solves, Refuses, IsOpen, HasState, State}
 use Rattle.prl_terms.specs.declared.solving.Unsolved.TheVariants as unsolved
-use Rattle.prl_terms.specs.Choices.{FitsRule, FitRules}
-use Rattle.prl_terms.specs.Solutions.{IsMismatch}
-use Rattle.prl_terms.specs.code.Marks.{resolved, IsKept, Solves, Refuses}
-use Rattle.prl_terms.specs.code.States.{IsOpen, HasState}
-use Rattle.prl_terms.specs.declared.progress.State.{State}
 use Rattle.prl_terms.specs.declared.progress.State.TheVariants as states
 use Rattle.prl_terms.proofs.Meeting.{Sides, solves_equal}
 

@@ -5,10 +5,8 @@ use Rattle.std.proofs.Math.Seq.{get_or-append_seam}
 use Rattle.std.proofs.lemmas.Bool.{cases_lt}
 use Rattle.std.proofs.lemmas.Bool.Decides.{eqb_tells}
 use Rattle.std.proofs.lemmas.List.{map-append}
-use Rattle.prl_terms.specs.declared.terms.Term.{Term}
+use Rattle.prl_terms.specs.Vocabulary.{Term, type_in, mark_of, members_at, Solves, IsSettled, AreMembers}
 use Rattle.prl_terms.specs.declared.terms.Term.TheVariants as terms
-use Rattle.prl_terms.specs.Choices.{type_in}
-use Rattle.prl_terms.specs.code.Marks.{mark_of, members_at, Solves, IsSettled, AreMembers}
 
 pub record AreSingle (marks : List Term) (lists : List (List ℕ)) (count : ℕ) : Type 0 where
   pub marks_count : length marks ≡ count

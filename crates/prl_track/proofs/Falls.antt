@@ -3,15 +3,11 @@ use Rattle.std.proofs.Common.{◌≡◌, ◌≢◌, ◌+◌, ◌*◌, ◌-◌, �
 use Rattle.std.proofs.lemmas.Bool.{cases_lt, cases_eq}
 use Rattle.std.proofs.lemmas.Grind.{get_or-set_at}
 use Rattle.std.proofs.lemmas.List.{get_or-set_other}
+use Rattle.prl_plan.specs.Vocabulary.{HasPlanFacts, sum_below, HasJob, KeepsLegal, RunConstants, ExecState, next_action, after_action, after_event, IsTagged}
 use Rattle.prl_plan.specs.declared.events.Action.{Action}
-use Rattle.prl_plan.specs.declared.events.Action.TheVariants as actions
 use Rattle.prl_plan.specs.declared.events.Event.{Event}
+use Rattle.prl_plan.specs.declared.events.Action.TheVariants as actions
 use Rattle.prl_plan.specs.declared.events.Event.TheVariants as events
-use Rattle.prl_plan.specs.Facts.{HasPlanFacts}
-use Rattle.prl_plan.specs.Horizons.{sum_below}
-use Rattle.prl_plan.specs.Rules.{HasJob, KeepsLegal}
-use Rattle.prl_plan.specs.Runs.{RunConstants, ExecState, next_action, after_action, after_event}
-use Rattle.prl_plan.specs.States.{IsTagged}
 use Rattle.prl_track.specs.Lefts.{many, left_of, left_in}
 
 sum_same : (f g : ℕ → ℕ) (n : ℕ) → ((j : ℕ) → j < n → f j ≡ g j) → sum_below f n ≡ sum_below g n

@@ -1,16 +1,10 @@
 -- The event that comes next: the choice of its task, and that it is legal.
 use Rattle.std.proofs.Common.{◌≡◌, ◌+◌, ◌<◌, ◌≤◌, ◌⊎◌, ℕ, zero, suc, Option, Some, None, refl, sym, ap, subst, arith, inl, inr}
 use Rattle.std.proofs.lemmas.Bool.{cases_lt, cases_eq}
+use Rattle.prl_plan.specs.Vocabulary.{HasPlanFacts, IsJob, first_unfinished, IsUnfinished, HasJob, ActsReleased, KeepsLegal, IsComplete, IsFirstUnfinished, RunConstants, ExecState}
 use Rattle.prl_plan.specs.declared.events.Event.{Event}
 use Rattle.prl_plan.specs.declared.events.Event.TheVariants as events
-use Rattle.prl_plan.specs.Facts.{HasPlanFacts, IsJob}
-use Rattle.prl_plan.specs.Rules.{first_unfinished, IsUnfinished, HasJob, ActsReleased, KeepsLegal, IsComplete, IsFirstUnfinished}
-use Rattle.prl_plan.specs.Runs.{RunConstants, ExecState}
-use Rattle.prl_track.specs.declared.firsts.First.{First}
-use Rattle.prl_track.specs.declared.firsts.Chosen.{Chosen}
-use Rattle.prl_track.specs.Tracks.{IsEarliest, IsIdle, IsNext, TrackView, run_of}
-use Rattle.prl_track.specs.code.Firsts.{IsFirst}
-use Rattle.prl_track.specs.code.Nexts.{IsChosen, NoneReleased, IsChoice}
+use Rattle.prl_track.specs.Vocabulary.{First, Chosen, IsEarliest, IsIdle, IsNext, TrackView, run_of, IsFirst, IsChosen, NoneReleased, IsChoice}
 
 -- what a track's fields say of its view: the facts of its plan, and its tick
 pub record IsKnown (v : TrackView) (now : ℕ) : Type 0 where

@@ -2,20 +2,16 @@
 use Rattle.std.proofs.Common.{◌≡◌, ◌+◌, ◌<◌, ◌≤◌, ◌++◌, ◌⊎◌, ℕ, zero, suc, Bool, true, false, List, [], ◌∷◌, length, length-append, append-nil, append_assoc, take, drop, get_or, Some, refl, sym, ◌∙◌, ap, arith, subst, inl, inr}
 use Rattle.std.specs.Prelude.{◌==◌, is_some, slice_get, if◌then◌else◌}
 use Rattle.std.proofs.lemmas.Option.{get_or_from_slice_get}
+use Rattle.prl_plan.specs.Vocabulary.{operand_of, ComesFrom, PlanView, edge_at, no_edge, place_on, both_writes, reading, reads_of, writing, writes_of, actions_of}
 use Rattle.prl_plan.specs.declared.events.Action.{Action}
-use Rattle.prl_plan.specs.declared.events.Action.TheVariants as actions
 use Rattle.prl_plan.specs.declared.graphs.Edge.{Edge}
 use Rattle.prl_plan.specs.declared.graphs.Producer.{Producer}
-use Rattle.prl_plan.specs.declared.graphs.Producer.TheVariants as producers
 use Rattle.prl_plan.specs.declared.graphs.TaskGraph.{TaskGraph}
-use Rattle.prl_plan.specs.Operands.{operand_of}
-use Rattle.prl_plan.specs.Precedence.{ComesFrom}
-use Rattle.prl_plan.specs.Plans.{PlanView, edge_at, no_edge, place_on, both_writes, reading, reads_of, writing, writes_of, actions_of}
+use Rattle.prl_plan.specs.declared.events.Action.TheVariants as actions
+use Rattle.prl_plan.specs.declared.graphs.Producer.TheVariants as producers
 use Rattle.prl_plan.proofs.UsedLaws.{test_equal}
-use Rattle.prl_track.specs.declared.routes.Access.{Access}
+use Rattle.prl_track.specs.Vocabulary.{Access, Cursor, ins_from, outs_from, is_from, route_of, on_access, on_route, IsAccessOf, IsAt}
 use Rattle.prl_track.specs.declared.routes.Access.TheVariants as accesses
-use Rattle.prl_track.specs.declared.routes.Cursor.{Cursor}
-use Rattle.prl_track.specs.Routes.{ins_from, outs_from, is_from, route_of, on_access, on_route, IsAccessOf, IsAt}
 
 -- an element of two lists is one of the first, or one of the second
 in_two : {A : Type 0} (xs ys : List A) (k : ℕ) (a : A) → slice_get (xs ++ ys) k ≡ Some a →

@@ -7,26 +7,15 @@ use Rattle.std.proofs.lemmas.List.{length-set, get_or-set_other, length-replicat
 use Rattle.std.proofs.lemmas.Option.{slice_get_read}
 use Rattle.prl_base.specs.declared.numbers.EdgeNo.{EdgeNo}
 use Rattle.prl_base.specs.declared.numbers.TaskNo.{TaskNo}
+use Rattle.prl_plan.specs.Vocabulary.{HasPlanFacts, IsHorizon, Placement, constants_on, PlanView, IsActionOf, MayTick, HasJob, KeepsLegal, first_unfinished, RunConstants, ExecState, next_action}
+use Rattle.prl_plan.specs.Vocabulary.{moved, after_action, IsSound}
 use Rattle.prl_plan.specs.declared.events.Action.{Action}
+use Rattle.prl_plan.specs.declared.events.SlotNo.{SlotNo}
+use Rattle.prl_plan.specs.declared.horizons.Horizon.{Horizon}
 use Rattle.prl_plan.specs.declared.events.Action.TheVariants as actions
 use Rattle.prl_plan.specs.declared.events.Event.TheVariants as events
-use Rattle.prl_plan.specs.declared.events.SlotNo.{SlotNo}
-use Rattle.prl_plan.specs.Facts.{HasPlanFacts}
-use Rattle.prl_plan.specs.declared.horizons.Horizon.{Horizon}
-use Rattle.prl_plan.specs.Horizons.{IsHorizon, Placement, constants_on}
-use Rattle.prl_plan.specs.Plans.{PlanView, IsActionOf}
-use Rattle.prl_plan.specs.Rules.{MayTick, HasJob, KeepsLegal, first_unfinished}
-use Rattle.prl_plan.specs.Runs.{RunConstants, ExecState, next_action, moved, after_action}
-use Rattle.prl_plan.specs.States.{IsSound}
 use Rattle.prl_plan.proofs.StateLaws.{gated_event_keeps_sound, legal_event_is_gated, opening_is_sound, action_is_as_defined}
-use Rattle.prl_track.specs.declared.firsts.First.{First}
-use Rattle.prl_track.specs.declared.routes.Access.{Access}
-use Rattle.prl_track.specs.declared.routes.Cursor.{Cursor}
-use Rattle.prl_track.specs.Tracks.{TrackView, run_of}
-use Rattle.prl_track.specs.code.Firsts.{IsFirstAt, AreFirsts, IsFirstOf}
-use Rattle.prl_track.specs.code.Cursors.{IsReading, AreCursors}
-use Rattle.prl_track.specs.Routes.{IsAt, AreRoutes, on_route, route_of}
-use Rattle.prl_track.specs.code.Tracks.{IsTrack}
+use Rattle.prl_track.specs.Vocabulary.{First, Access, Cursor, TrackView, run_of, IsFirstAt, AreFirsts, IsFirstOf, IsReading, AreCursors, IsAt, AreRoutes, on_route, route_of, IsTrack}
 use Rattle.prl_track.proofs.Places.{slice_get_set_same, slice_get_set_other}
 
 reading_moves : (s : ExecState) (i : ℕ) (action : Action) → IsReading action → after_action s i action ≡ moved s i

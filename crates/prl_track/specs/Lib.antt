@@ -8,3 +8,4 @@ pub mod Lefts
 pub mod Machine
 -- what private functions say to one another
 pub mod code
+pub mod Vocabulary

@@ -1,11 +1,9 @@
 //! Laws of tracks, as functions that do nothing: the contract of each is the law, over the definitions alone.
 
 ghost use Rattle.std.specs.Prelude.{◌<◌, Some};
+ghost use Rattle.prl_plan.specs.Vocabulary.{HasPlanFacts, KeepsLegal, RunConstants, ExecState};
+ghost use Rattle.prl_plan.specs.Vocabulary.{after_event, IsTagged};
 ghost use Rattle.prl_plan.specs.declared.events.Event.{Event};
-ghost use Rattle.prl_plan.specs.Facts.{HasPlanFacts};
-ghost use Rattle.prl_plan.specs.Rules.{KeepsLegal};
-ghost use Rattle.prl_plan.specs.Runs.{RunConstants, ExecState, after_event};
-ghost use Rattle.prl_plan.specs.States.{IsTagged};
 ghost use Rattle.prl_track.specs.Lefts.{left_in};
 ghost use Rattle.prl_track.specs.Tracks.{IsNext};
 

@@ -2,8 +2,7 @@
 
 ghost use Rattle.std.specs.Prelude.{◌≡◌, ◌+◌, ◌<◌, ◌≤◌, ◌^◌, ◌++◌, map, length, Some, IfOk, OnOk, IsTrue, MatchResult, slice_get, slice_index_or};
 ghost use Rattle.prl_plan.specs.declared.events.Action.TheVariants as actions;
-ghost use Rattle.prl_plan.specs.Graphs.{IsWellFormed};
-ghost use Rattle.prl_plan.specs.Plans.{release_at, actions_of};
+ghost use Rattle.prl_plan.specs.Vocabulary.{IsWellFormed, release_at, actions_of};
 ghost use Rattle.prl_track.specs.Routes.{ins_from, outs_from, is_from, route_of, on_access, IsAccessOf, IsAt, AreRoutes};
 
 use prl_base::{EdgeNo, Seq, TaskNo};

@@ -1,11 +1,10 @@
 -- Numbers of flows, and the first fault.
 use Rattle.std.proofs.Common.{◌≡◌, ◌<◌, ◌+◌, ◌++◌, ◌∙◌, ℕ, suc, List, [], ◌∷◌, length, length-append, drop, drop-cons, get_or, map, refl, sym, ap, subst, Option, Some, None, arith, append_assoc}
+use Rattle.prl_ast.specs.Trees.{Tree, Trees, more, ProgramTree, EquationTree, tree_of, equation_tree}
 use Rattle.prl_ast.specs.declared.declarations.Equation.{Equation}
 use Rattle.prl_ast.specs.declared.expressions.Expr.{Expr}
-use Rattle.prl_ast.specs.Trees.{Tree, Trees, more, ProgramTree, EquationTree, tree_of, equation_tree}
 use Rattle.prl_names.specs.ExprLists.{all_trees}
-use Rattle.prl_types.specs.Flows.{flows_of, all_flows}
-use Rattle.prl_types.specs.Arity.{counted, first_at, faults_in, all_faults, equation_faults, equations_faults}
+use Rattle.prl_types.specs.Vocabulary.{flows_of, all_flows, counted, first_at, faults_in, all_faults, equation_faults, equations_faults}
 
 -- The parts up to the last ones have this number of flows and this first fault.
 pub record ArePartsCounted (p : ProgramTree) (node : ℕ) (whole last : Trees) (flows fault : Option ℕ) : Type 0 where

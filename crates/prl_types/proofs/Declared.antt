@@ -10,16 +10,13 @@ use Rattle.std.proofs.Math.Seq.{get_or-append_seam}
 use Rattle.std.proofs.lemmas.Bool.{cases_lt}
 use Rattle.std.specs.List.{slice_get}
 use Rattle.std.specs.Str.{bytes_eq}
+use Rattle.prl_ast.specs.Trees.{NodeTree, ProgramTree, node_tree}
 use Rattle.prl_ast.specs.declared.declarations.Node.{Node}
 use Rattle.prl_ast.specs.declared.declarations.Port.{Port}
-use Rattle.prl_ast.specs.Trees.{NodeTree, ProgramTree, node_tree}
 use Rattle.prl_names.specs.Lookups.{index_from, params_of, param_names, param_of, param_at}
 use Rattle.prl_terms.specs.declared.terms.Term.TheVariants as terms
-use Rattle.prl_types.specs.declared.contexts.Parameter.{Parameter}
-use Rattle.prl_types.specs.code.Contexts.{owned_of, AreListed, AreParameters, AreFirsts}
-use Rattle.prl_types.specs.Typing.{HasParameter}
-use Rattle.prl_types.specs.Flows.{parameters_from, port_types}
-use Rattle.prl_types.specs.Parameters.{Owned, owned, owned_by, all_owned, count_of, first_of}
+use Rattle.prl_types.specs.Vocabulary.{Parameter, owned_of, AreListed, AreParameters, AreFirsts, HasParameter, parameters_from, port_types, Owned, owned_by, all_owned, count_of, first_of}
+use Rattle.prl_types.specs.Parameters.{owned}
 
 place_within : (j : ℕ) (names : List (List ℕ)) (name : List ℕ) (k : ℕ) → index_from j names name ≡ Some k → k < j + length names
 place_within j [] name k e = absurd (cc)

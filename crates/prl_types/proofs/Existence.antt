@@ -9,24 +9,15 @@ use Rattle.prl_base.specs.Reading.{◌>>=◌}
 use Rattle.prl_base.specs.declared.values.Ty.{Ty}
 use Rattle.prl_base.specs.declared.values.Ty.TheVariants as ty
 use Rattle.prl_ast.specs.Trees.{ProgramTree}
+use Rattle.prl_names.specs.Vocabulary.{recursive_of, names_of, refused, name_of, main_or, main_of, without_device, repeat_of, unknown_of, undefined_of}
 use Rattle.prl_names.specs.declared.checks.NameFault.{NameFault}
 use Rattle.prl_names.specs.declared.checks.NameFault.TheVariants as naming
-use Rattle.prl_names.specs.Applications.{recursive_of}
-use Rattle.prl_names.specs.Checks.{names_of, refused, name_of, main_or, main_of, without_device}
-use Rattle.prl_names.specs.Repeats.{repeat_of}
-use Rattle.prl_names.specs.Unknowns.{unknown_of, undefined_of}
-use Rattle.prl_types.specs.declared.faults.TypeFault.{TypeFault}
+use Rattle.prl_types.specs.Vocabulary.{TypeFault, arity_faults, first_at, parameters_of, count_of, rules_of, IsOutcome}
 use Rattle.prl_types.specs.declared.faults.TypeFault.TheVariants as faults
+use Rattle.prl_terms.specs.Vocabulary.{FitsRule, FitRules, mark_of, resolved, replaced, Solves, IsSettled, IsReplaced, IsApart, Contradicts, IsMismatch, IsFree, AreTypes}
 use Rattle.prl_terms.specs.declared.terms.Rule.{Rule}
 use Rattle.prl_terms.specs.declared.terms.Term.{Term}
 use Rattle.prl_terms.specs.declared.terms.Term.TheVariants as terms
-use Rattle.prl_types.specs.Arity.{arity_faults, first_at}
-use Rattle.prl_terms.specs.Choices.{FitsRule, FitRules}
-use Rattle.prl_terms.specs.code.Marks.{mark_of, resolved, replaced, Solves, IsSettled, IsReplaced, IsApart, Contradicts}
-use Rattle.prl_types.specs.Parameters.{parameters_of, count_of}
-use Rattle.prl_types.specs.Rules.{rules_of}
-use Rattle.prl_terms.specs.Solutions.{IsMismatch, IsFree, AreTypes}
-use Rattle.prl_types.specs.Typing.{IsOutcome}
 use Rattle.prl_terms.proofs.Ending.{AreKnown, types_are, free_is}
 use Rattle.prl_types.proofs.Fitting.{rules_fit}
 use Rattle.prl_terms.proofs.Meeting.{Sides, solves_equal, solves_wanted, solves_found, contradicts, apart_known, apart_both, apart_left}

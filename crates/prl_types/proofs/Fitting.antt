@@ -3,19 +3,20 @@ use Rattle.std.proofs.Common.{◌≡◌, ◌<◌, ◌≤◌, ◌+◌, ◌++◌, 
 use Rattle.std.proofs.lemmas.Option.{slice_get_cases}
 use Rattle.std.specs.List.{slice_get}
 use Rattle.prl_base.specs.declared.operators.Op.{Op}
-use Rattle.prl_base.specs.declared.operators.Op.TheVariants as ops
 use Rattle.prl_base.specs.declared.values.Ty.{Ty}
+use Rattle.prl_base.specs.declared.operators.Op.TheVariants as ops
+use Rattle.prl_ast.specs.Trees.{Tree, Root, const, var, apply, group, Trees, none, more, EquationTree, NodeTree, ProgramTree}
 use Rattle.prl_ast.specs.declared.declarations.Import.{Import}
 use Rattle.prl_ast.specs.declared.declarations.Placed.{Placed}
 use Rattle.prl_ast.specs.declared.declarations.Port.{Port}
 use Rattle.prl_ast.specs.declared.expressions.PlacedOp.{PlacedOp}
-use Rattle.prl_ast.specs.Trees.{Tree, tree, Root, const, var, apply, group, Trees, none, more, EquationTree, NodeTree, ProgramTree}
+use Rattle.prl_ast.specs.Trees.{tree}
+use Rattle.prl_names.specs.Lookups.{callee_of, param_at}
 use Rattle.prl_names.specs.declared.lookups.Callee.{Callee}
 use Rattle.prl_names.specs.declared.lookups.Callee.TheVariants as callees
-use Rattle.prl_names.specs.Lookups.{callee_of, param_at}
+use Rattle.prl_terms.specs.Choices.{FitsTerm, FitRules}
 use Rattle.prl_terms.specs.declared.terms.Rule.{Rule}
 use Rattle.prl_terms.specs.declared.terms.Term.{Term}
-use Rattle.prl_terms.specs.Choices.{FitsTerm, FitRules}
 use Rattle.prl_types.specs.Flows.{Flow, port_types, parameters_from, import_inputs, import_outputs, node_inputs, node_outputs, inputs_of, outputs_of, operand, operated, flows_of, root_flows, all_flows, placed_flows, terms_of}
 use Rattle.prl_types.specs.Parameters.{Owned, parameters_of, count_of, first_of, parameter_or, named}
 use Rattle.prl_types.specs.Rules.{declared_rule, declared_rules, constant_rule, constant_rules, argument_rules, rules_in, root_rules, all_rules, left_rules, equation_rules, equations_rules, nodes_rules, rules_of}

@@ -8,15 +8,9 @@ use Rattle.prl_ast.specs.Trees.{ProgramTree}
 use Rattle.prl_names.specs.Checks.{names_of}
 use Rattle.prl_names.specs.declared.checks.NameFault.{NameFault}
 use Rattle.prl_names.specs.declared.checks.NameFault.TheVariants as naming
-use Rattle.prl_types.specs.declared.contexts.Parameter.{Parameter}
-use Rattle.prl_types.specs.declared.faults.TypeFault.{TypeFault}
+use Rattle.prl_types.specs.Vocabulary.{Parameter, TypeFault, arity_faults, owned_of, Owned, parameters_of, count_of, rules_of, FailsWith, of_names}
 use Rattle.prl_types.specs.declared.faults.TypeFault.TheVariants as faults
-use Rattle.prl_types.specs.Arity.{arity_faults}
-use Rattle.prl_types.specs.code.Contexts.{owned_of}
-use Rattle.prl_types.specs.Parameters.{Owned, parameters_of, count_of}
-use Rattle.prl_types.specs.Rules.{rules_of}
 use Rattle.prl_terms.specs.Solutions.{IsFree}
-use Rattle.prl_types.specs.Typing.{FailsWith, of_names}
 
 pub open_fault : (p : ProgramTree) (main : Option (List ℕ)) (node : ℕ) → names_of p main ≡ Ok node → arity_faults p ≡ [] → (k : ℕ) → IsFree (rules_of p) k → (q : Parameter) → slice_get (parameters_of p) k ≡ Some (owned_of q)
     → (f : TypeFault) → f ≡ faults.TypeFree q.node.now q.param.now.name → FailsWith p main f

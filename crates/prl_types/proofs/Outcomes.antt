@@ -5,18 +5,13 @@ use Rattle.std.proofs.lemmas.Option.{slice_get_cases}
 use Rattle.std.specs.List.{slice_get}
 use Rattle.prl_base.specs.declared.values.Ty.{Ty}
 use Rattle.prl_ast.specs.Trees.{ProgramTree}
+use Rattle.prl_names.specs.Checks.{names_of}
 use Rattle.prl_names.specs.declared.checks.NameFault.{NameFault}
 use Rattle.prl_names.specs.declared.checks.NameFault.TheVariants as naming
-use Rattle.prl_names.specs.Checks.{names_of}
-use Rattle.prl_types.specs.declared.faults.TypeFault.{TypeFault}
+use Rattle.prl_types.specs.Vocabulary.{TypeFault, arity_faults, first_at, Owned, parameters_of, count_of, rules_of, HasFreeType, IsOutcome, of_names}
 use Rattle.prl_types.specs.declared.faults.TypeFault.TheVariants as faults
+use Rattle.prl_terms.specs.Vocabulary.{Choice, type_in, MeetsAll, IsMismatch, IsFree, AreTypes}
 use Rattle.prl_terms.specs.declared.terms.Rule.{Rule}
-use Rattle.prl_types.specs.Arity.{arity_faults, first_at}
-use Rattle.prl_terms.specs.Choices.{Choice, type_in, MeetsAll}
-use Rattle.prl_types.specs.Parameters.{Owned, parameters_of, count_of}
-use Rattle.prl_types.specs.Rules.{rules_of}
-use Rattle.prl_terms.specs.Solutions.{IsMismatch, IsFree, AreTypes}
-use Rattle.prl_types.specs.Typing.{HasFreeType, IsOutcome, of_names}
 use Rattle.prl_terms.proofs.Meeting.{meets_first, meets_second}
 
 -- no choice meets the rules up to a contradiction

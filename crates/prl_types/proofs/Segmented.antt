@@ -4,10 +4,7 @@ use Rattle.std.specs.List.{slice_get}
 use Rattle.std.proofs.lemmas.List.{append-nil, map-append, drop_all, at_drop_more}
 use Rattle.prl_terms.specs.declared.terms.Rule.{Rule}
 use Rattle.prl_terms.specs.declared.terms.Term.{Term}
-use Rattle.prl_types.specs.declared.segments.Segment.{Segment}
-use Rattle.prl_types.specs.Flows.{Flow, placed, terms_of, operand}
-use Rattle.prl_types.specs.Rules.{argument_rules}
-use Rattle.prl_types.specs.code.Segments.{listed, terms_in, flows_in}
+use Rattle.prl_types.specs.Vocabulary.{Segment, Flow, placed, terms_of, operand, argument_rules, listed, terms_in, flows_in}
 use Rattle.prl_types.proofs.Walking.{terms_placed, no_arguments}
 
 flows_in_append : (xs ys : List Segment) → flows_in (xs ++ ys) ≡ flows_in xs ++ flows_in ys

@@ -6,10 +6,7 @@ use Rattle.std.proofs.lemmas.Option.{slice_get-get_or, slice_get_past}
 use Rattle.std.specs.List.{slice_get, range_with_len}
 use Rattle.prl_ast.specs.Trees.{ProgramTree}
 use Rattle.prl_names.specs.declared.lookups.Callee.TheVariants as callees
-use Rattle.prl_types.specs.declared.signatures.Signature.{Signature}
-use Rattle.prl_types.specs.Flows.{import_inputs, import_outputs, node_inputs, node_outputs}
-use Rattle.prl_types.specs.Parameters.{first_of}
-use Rattle.prl_types.specs.code.Signatures.{import_signature, node_signature, taken, given, Signs}
+use Rattle.prl_types.specs.Vocabulary.{Signature, import_inputs, import_outputs, node_inputs, node_outputs, first_of, import_signature, node_signature, taken, given, Signs}
 
 -- the element of such a list
 read : (f : ℕ → Signature) (n k : ℕ) → k < n → slice_get (map f (range_with_len 0 n)) k ≡ Some (f k)

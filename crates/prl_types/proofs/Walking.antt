@@ -1,12 +1,11 @@
 -- Lists of flows and of rules.
 use Rattle.std.proofs.Common.{◌≡◌, ◌≤◌, ◌++◌, ◌∙◌, ℕ, List, [], ◌∷◌, length, drop, refl, sym, ap, append_assoc}
 use Rattle.std.proofs.lemmas.List.{append-nil, map-append, drop_all}
-use Rattle.prl_ast.specs.declared.declarations.Placed.{Placed}
 use Rattle.prl_ast.specs.Trees.{Trees, none, more, ProgramTree}
+use Rattle.prl_ast.specs.declared.declarations.Placed.{Placed}
 use Rattle.prl_terms.specs.declared.terms.Rule.{Rule}
 use Rattle.prl_terms.specs.declared.terms.Term.{Term}
-use Rattle.prl_types.specs.Flows.{Flow, placed, placed_flows, terms_of, flows_of, all_flows, place_of}
-use Rattle.prl_types.specs.Rules.{argument_rules, left_rules}
+use Rattle.prl_types.specs.Vocabulary.{Flow, placed, placed_flows, terms_of, flows_of, all_flows, place_of, argument_rules, left_rules}
 
 pub terms_placed : (at : ℕ) (ts : List Term) → terms_of (placed at ts) ≡ ts
 terms_placed at [] = refl

@@ -6,3 +6,4 @@ pub mod Typing
 pub mod Typings
 -- what private functions say to one another
 pub mod code
+pub mod Vocabulary

@@ -2,8 +2,7 @@
 
 ghost use Rattle.std.specs.Prelude.{◌≡◌, ◌<◌, ◌≤◌, ℕ, List, [], length, IfOk, IfErr, MatchResult, Option};
 ghost use Rattle.std.specs.Option.{option_copied};
-ghost use Rattle.prl_ast.specs.InRange.{IsInRange};
-ghost use Rattle.prl_ast.specs.Trees.{program_tree};
+ghost use Rattle.prl_ast.specs.Vocabulary.{IsInRange, program_tree};
 ghost use Rattle.prl_types.specs.Parameters.{count_of};
 ghost use Rattle.prl_types.specs.Rules.{rules_of};
 ghost use Rattle.prl_types.specs.Arity.{arity_faults};

@@ -5,21 +5,17 @@ use Rattle.std.proofs.lemmas.Bool.Decides.{nat_tests}
 use Rattle.std.proofs.lemmas.Option.{slice_get-get_or, slice_get_within, get_or_from_slice_get}
 use Rattle.prl_base.specs.declared.values.Value.{Value}
 use Rattle.prl_base.specs.declared.values.Value.TheVariants as values
-use Rattle.prl_body.specs.declared.bodies.CheckedBody.{CheckedBody}
 use Rattle.prl_body.specs.Bodies.{body_step}
-use Rattle.prl_flow.specs.Applications.{registers_before}
-use Rattle.prl_flow.specs.Rows.{Rows}
+use Rattle.prl_body.specs.declared.bodies.CheckedBody.{CheckedBody}
+use Rattle.prl_flow.specs.Vocabulary.{registers_before, Rows}
+use Rattle.prl_plan.specs.Vocabulary.{task_at, IsHorizonJob, operand_of, ComesFrom, PlanView, IsPlan, edge_at, no_edge, release_at}
 use Rattle.prl_plan.specs.declared.graphs.Edge.{Edge}
 use Rattle.prl_plan.specs.declared.graphs.Kind.{Kind}
-use Rattle.prl_plan.specs.declared.graphs.Kind.TheVariants as kinds
 use Rattle.prl_plan.specs.declared.graphs.Producer.{Producer}
-use Rattle.prl_plan.specs.declared.graphs.Producer.TheVariants as producers
 use Rattle.prl_plan.specs.declared.walks.Operand.{Operand}
+use Rattle.prl_plan.specs.declared.graphs.Kind.TheVariants as kinds
+use Rattle.prl_plan.specs.declared.graphs.Producer.TheVariants as producers
 use Rattle.prl_plan.specs.declared.walks.Operand.TheVariants as operands
-use Rattle.prl_plan.specs.Jobs.{task_at, IsHorizonJob}
-use Rattle.prl_plan.specs.Operands.{operand_of}
-use Rattle.prl_plan.specs.Precedence.{ComesFrom}
-use Rattle.prl_plan.specs.Plans.{PlanView, IsPlan, edge_at, no_edge, release_at}
 use Rattle.prl_plan.proofs.ReadOrder.{read_earlier, releases_rise, released_soon, read_of_horizon, earlier_horizon, source_task}
 use Rattle.prl_values.specs.JobValues.{JobValues, AreJobValues, job_values, values_after, gives, value_from, value_on, read_on, reads_over, reads_of_job, body_of_task}
 

@@ -4,14 +4,10 @@ use Rattle.std.specs.Prelude.{max, slice_index, slice_index_or}
 use Rattle.std.proofs.lemmas.Bool.{cases_lt, cases_eq}
 use Rattle.std.proofs.lemmas.Bool.Decides.{nat_tests}
 use Rattle.std.proofs.lemmas.List.{get_or-set_same}
+use Rattle.prl_plan.specs.Vocabulary.{constants_of, PlanView, reads_of, writes_of, actions_of, HasJob, ExecState, next_action, after_action, IsTagged}
 use Rattle.prl_plan.specs.declared.events.Action.{Action}
-use Rattle.prl_plan.specs.declared.events.Action.TheVariants as actions
 use Rattle.prl_plan.specs.declared.horizons.Horizon.{Horizon}
-use Rattle.prl_plan.specs.Horizons.{constants_of}
-use Rattle.prl_plan.specs.Plans.{PlanView, reads_of, writes_of, actions_of}
-use Rattle.prl_plan.specs.Rules.{HasJob}
-use Rattle.prl_plan.specs.Runs.{ExecState, next_action, after_action}
-use Rattle.prl_plan.specs.States.{IsTagged}
+use Rattle.prl_plan.specs.declared.events.Action.TheVariants as actions
 use Rattle.prl_values.specs.BodyRuns.{place_of_run, steps_made, runs_next}
 
 -- one where the test holds

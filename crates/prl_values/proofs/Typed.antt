@@ -6,24 +6,19 @@ use Rattle.prl_base.specs.Values.{type_of}
 use Rattle.prl_base.specs.declared.values.Ty.{Ty}
 use Rattle.prl_base.specs.declared.values.Value.{Value}
 use Rattle.prl_base.specs.declared.values.Value.TheVariants as values
-use Rattle.prl_body.specs.declared.bodies.CheckedBody.{CheckedBody}
 use Rattle.prl_body.specs.Bodies.{input_types, output_types, register_types}
+use Rattle.prl_body.specs.declared.bodies.CheckedBody.{CheckedBody}
 use Rattle.prl_body.proofs.Sound.{types_step}
-use Rattle.prl_flow.specs.Applications.{registers_before, nth_step}
-use Rattle.prl_flow.specs.Rows.{Rows, rows_of}
+use Rattle.prl_flow.specs.Vocabulary.{registers_before, nth_step, Rows, rows_of}
+use Rattle.prl_plan.specs.Vocabulary.{IsEdge, IsSource, is_sensor, is_actuator, task_at, IsHorizonJob, operand_of, operand_from, walk, ComesFrom, PlanView, IsPlan, edge_at, no_edge, release_at}
 use Rattle.prl_plan.specs.declared.graphs.Edge.{Edge}
-use Rattle.prl_plan.specs.declared.graphs.TaskGraph.{TaskGraph}
 use Rattle.prl_plan.specs.declared.graphs.Kind.{Kind}
-use Rattle.prl_plan.specs.declared.graphs.Kind.TheVariants as kinds
 use Rattle.prl_plan.specs.declared.graphs.Producer.{Producer}
-use Rattle.prl_plan.specs.declared.graphs.Producer.TheVariants as producers
+use Rattle.prl_plan.specs.declared.graphs.TaskGraph.{TaskGraph}
 use Rattle.prl_plan.specs.declared.walks.Operand.{Operand}
+use Rattle.prl_plan.specs.declared.graphs.Kind.TheVariants as kinds
+use Rattle.prl_plan.specs.declared.graphs.Producer.TheVariants as producers
 use Rattle.prl_plan.specs.declared.walks.Operand.TheVariants as operands
-use Rattle.prl_plan.specs.Graphs.{IsEdge, IsSource, is_sensor, is_actuator}
-use Rattle.prl_plan.specs.Jobs.{task_at, IsHorizonJob}
-use Rattle.prl_plan.specs.Operands.{operand_of, operand_from, walk}
-use Rattle.prl_plan.specs.Precedence.{ComesFrom}
-use Rattle.prl_plan.specs.Plans.{PlanView, IsPlan, edge_at, no_edge, release_at}
 use Rattle.prl_plan.proofs.ReadOrder.{read_earlier, releases_rise, read_of_horizon, earlier_horizon, constant_typed}
 use Rattle.prl_values.specs.JobValues.{JobValues, AreJobValues, gives, step_outputs, at_most_one, value_from, value_on, read_on, reads_over, reads_of_job, body_of_task}
 use Rattle.prl_values.specs.Fitting.{port_types, HasOutput, FitsTask, HaveTaskBodies, HaveTypedRows}

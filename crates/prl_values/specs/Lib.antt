@@ -4,3 +4,4 @@ pub mod JobValues
 pub mod Fitting
 -- when a body runs
 pub mod BodyRuns
+pub mod Vocabulary

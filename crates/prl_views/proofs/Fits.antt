@@ -2,12 +2,8 @@
 use Rattle.std.specs.Prelude.{pos}
 use Rattle.std.proofs.Common.{◌<◌, ◌^◌, ◌↔◌, ℕ, length, arith}
 use Rattle.std.proofs.lemmas.Int.{ints}
+use Rattle.prl_plan.specs.Vocabulary.{IsTask, IsHorizonJob, job_count, task_at, Placement, IsPlan, PlanView, deadline_at, release_at, IsSpread}
 use Rattle.prl_plan.specs.declared.graphs.TaskGraph.{TaskGraph}
-use Rattle.prl_plan.specs.Graphs.{IsTask}
-use Rattle.prl_plan.specs.Jobs.{IsHorizonJob, job_count, task_at}
-use Rattle.prl_plan.specs.Horizons.{Placement}
-use Rattle.prl_plan.specs.Plans.{IsPlan, PlanView, deadline_at, release_at}
-use Rattle.prl_plan.specs.Spread.{IsSpread}
 use Rattle.prl_cores.specs.Spreads.{LeavesRoom}
 use Rattle.prl_views.specs.Shown.{placed_release}
 

@@ -1,8 +1,7 @@
 //! The precedences among the jobs of a picture, as arrows.
 
 ghost use Rattle.std.specs.Prelude.{◌≡◌, ◌<◌, IfSome, length, slice_index};
-ghost use Rattle.prl_plan.specs.Jobs.{job_count, task_at};
-ghost use Rattle.prl_plan.specs.Plans.{edge_at};
+ghost use Rattle.prl_plan.specs.Vocabulary.{job_count, task_at, edge_at};
 ghost use Rattle.prl_views.specs.Shown.{IsOfPlan};
 ghost use Rattle.prl_views.specs.Views.{IsView};
 

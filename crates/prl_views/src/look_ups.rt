@@ -1,10 +1,8 @@
 //! What a plan tells of the jobs of a range.
 
 ghost use Rattle.std.specs.Prelude.{◌≡◌, ◌+◌, ◌*◌, ◌<◌, ◌≤◌, ◌^◌, length};
-ghost use Rattle.prl_plan.specs.Graphs.{IsEdge, IsTask};
-ghost use Rattle.prl_plan.specs.Jobs.{job_count, task_at};
-ghost use Rattle.prl_plan.specs.Operands.{operand_of};
-ghost use Rattle.prl_plan.specs.Plans.{deadline_at, edge_at, release_at};
+ghost use Rattle.prl_plan.specs.Vocabulary.{IsEdge, IsTask, job_count, task_at, operand_of};
+ghost use Rattle.prl_plan.specs.Vocabulary.{deadline_at, edge_at, release_at};
 ghost use Rattle.prl_cores.specs.Spreads.{IsSpreadOf, LeavesRoom};
 ghost use Rattle.prl_views.specs.Shown.{IsOfPlan, placed_release, released_at};
 

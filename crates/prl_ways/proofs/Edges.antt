@@ -1,7 +1,6 @@
 -- Edges between jobs.
+use Rattle.prl_plan.specs.Vocabulary.{Job, Precedes}
 use Rattle.prl_plan.specs.declared.graphs.TaskGraph.{TaskGraph}
-use Rattle.prl_plan.specs.Jobs.{Job}
-use Rattle.prl_plan.specs.Precedence.{Precedes}
 use Rattle.prl_ways.specs.Chains.{HasEdge}
 
 -- what precedes along an edge precedes

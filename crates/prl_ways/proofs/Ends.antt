@@ -1,7 +1,7 @@
 -- The job that a chain ends in.
 use Rattle.std.proofs.Common.{◌≡◌, ap}
-use Rattle.prl_plan.specs.declared.graphs.TaskGraph.{TaskGraph}
 use Rattle.prl_plan.specs.Jobs.{Job, task_at}
+use Rattle.prl_plan.specs.declared.graphs.TaskGraph.{TaskGraph}
 use Rattle.prl_ways.specs.declared.jobs.WayJob.{WayJob}
 use Rattle.prl_ways.specs.Chains.{job_of}
 

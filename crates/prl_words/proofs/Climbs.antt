@@ -5,9 +5,9 @@ use Rattle.std.specs.Int.{IsGcd}
 use Rattle.prl_base.specs.Operators.{Origin, instance, constant, origin_of}
 use Rattle.prl_base.specs.declared.operators.Op.{Op}
 use Rattle.prl_base.specs.declared.operators.Op.TheVariants as operators
+use Rattle.prl_plan.specs.Operands.{walk, operand_at}
 use Rattle.prl_plan.specs.declared.walks.Operand.{Operand}
 use Rattle.prl_plan.specs.declared.walks.Operand.TheVariants as operands
-use Rattle.prl_plan.specs.Operands.{walk, operand_at}
 use Rattle.prl_words.specs.code.Steps.{number_before, IsPast, IsStep}
 
 -- what an operand is under one more operator

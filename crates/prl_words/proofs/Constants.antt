@@ -10,13 +10,10 @@ use Rattle.prl_base.specs.declared.operators.Clock.{Clock}
 use Rattle.prl_base.specs.declared.operators.Op.{Op}
 use Rattle.prl_base.specs.declared.operators.Op.TheVariants as operators
 use Rattle.prl_plan.proofs.Ceilings.{ceil_most}
+use Rattle.prl_plan.specs.Vocabulary.{reader_before, first_reader, TakeClock, Divides, IsEdge, IsWellFormed, jobs_in_hyperperiod, task_at, no_task, HasFactor}
 use Rattle.prl_plan.specs.declared.graphs.Edge.{Edge}
 use Rattle.prl_plan.specs.declared.graphs.Task.{Task}
 use Rattle.prl_plan.specs.declared.graphs.TaskGraph.{TaskGraph}
-use Rattle.prl_plan.specs.FirstReaders.{reader_before, first_reader}
-use Rattle.prl_plan.specs.Graphs.{TakeClock, Divides, IsEdge, IsWellFormed, jobs_in_hyperperiod}
-use Rattle.prl_plan.specs.Jobs.{task_at, no_task}
-use Rattle.prl_plan.specs.Ranges.{HasFactor}
 use Rattle.prl_words.specs.Counts.{IsCountBefore, IsCount, HaveCounts}
 use Rattle.prl_words.proofs.Turns.{first_some}
 

@@ -7,16 +7,14 @@ use Rattle.std.proofs.lemmas.Bool.{cases_lt}
 use Rattle.std.proofs.lemmas.List.{length-replicate}
 use Rattle.std.proofs.lemmas.Option.{slice_get-get_or}
 use Rattle.prl_base.specs.declared.operators.Op.{Op}
-use Rattle.prl_base.specs.declared.operators.Op.TheVariants as operators
 use Rattle.prl_base.specs.declared.values.Value.{Value}
+use Rattle.prl_base.specs.declared.operators.Op.TheVariants as operators
 use Rattle.prl_base.specs.declared.values.Value.TheVariants as values
+use Rattle.prl_plan.specs.Vocabulary.{walk, number_at, word_at, constant_or, IsWord}
 use Rattle.prl_plan.specs.declared.walks.Operand.{Operand}
-use Rattle.prl_plan.specs.declared.walks.Operand.TheVariants as operands
-use Rattle.prl_plan.specs.Operands.{walk}
 use Rattle.prl_plan.specs.declared.words.Word.{Word}
-use Rattle.prl_plan.specs.Words.{number_at, word_at, constant_or, IsWord}
-use Rattle.prl_words.specs.Counts.{IsCountBefore}
-use Rattle.prl_words.specs.code.Steps.{number_before, IsPast, IsStep, AreZeros, IsExtended, IsSized, constants_of}
+use Rattle.prl_plan.specs.declared.walks.Operand.TheVariants as operands
+use Rattle.prl_words.specs.Vocabulary.{IsCountBefore, number_before, IsPast, IsStep, AreZeros, IsExtended, IsSized, constants_of}
 use Rattle.prl_plan.proofs.WordNumbers.{after_prefix, next_turns}
 use Rattle.prl_words.proofs.Climbs.{seen_through, walk_more, turns_before}
 use Rattle.prl_words.proofs.Turns.{AreTurns, first_some, turns_after, factor_le, number_upto, before_rises}

@@ -8,10 +8,9 @@ use Rattle.prl_base.specs.declared.values.Value.{Value}
 use Rattle.prl_base.specs.declared.values.Value.TheVariants as values
 use Rattle.std.specs.Prelude.{pos}
 use Rattle.prl_plan.specs.declared.walks.Operand.TheVariants as operands
-use Rattle.prl_plan.specs.declared.words.Word.{Word}
 use Rattle.prl_plan.specs.Words.{number_at, word_at, IsWord}
-use Rattle.prl_words.specs.code.Holding.{IsHeld}
-use Rattle.prl_words.specs.code.Shortest.{IsSteady}
+use Rattle.prl_plan.specs.declared.words.Word.{Word}
+use Rattle.prl_words.specs.Vocabulary.{IsHeld, IsSteady}
 use Rattle.prl_plan.proofs.WordNumbers.{after_prefix, next_turns}
 use Rattle.prl_words.proofs.Extended.{told_constant}
 use Rattle.prl_words.proofs.Rooms.{number_first}

@@ -3,11 +3,10 @@ use Rattle.std.proofs.Common.{◌≡◌, ◌+◌, ◌*◌, ◌/◌, ◌<◌, ◌
 use Rattle.std.proofs.Math.Nat.{div-div-eq-div-mul, mul-le-mul_left}
 use Rattle.std.proofs.lemmas.List.{drop_more}
 use Rattle.prl_base.specs.declared.operators.Op.{Op}
-use Rattle.prl_base.specs.declared.operators.Op.TheVariants as operators
 use Rattle.prl_base.specs.declared.ratios.Ratio.{Ratio}
+use Rattle.prl_base.specs.declared.operators.Op.TheVariants as operators
 use Rattle.prl_plan.specs.Operands.{walk}
-use Rattle.prl_words.specs.Counts.{HaveCounts}
-use Rattle.prl_words.specs.code.Holding.{IsLeading}
+use Rattle.prl_words.specs.Vocabulary.{HaveCounts, IsLeading}
 use Rattle.prl_words.proofs.SoFar.{counts_here}
 use Rattle.prl_words.proofs.Turns.{first_some}
 

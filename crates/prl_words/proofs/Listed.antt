@@ -5,10 +5,9 @@ use Rattle.std.proofs.lemmas.List.Sums.{sum_by-cons}
 use Rattle.std.proofs.lemmas.Bool.{cases_lt}
 use Rattle.std.proofs.lemmas.List.{length_push}
 use Rattle.std.proofs.lemmas.Option.{same_Some}
+use Rattle.prl_plan.specs.Vocabulary.{first_reader, IsWordOf}
 use Rattle.prl_plan.specs.declared.graphs.Edge.{Edge}
 use Rattle.prl_plan.specs.declared.words.Word.{Word}
-use Rattle.prl_plan.specs.FirstReaders.{first_reader}
-use Rattle.prl_plan.specs.Words.{IsWordOf}
 
 -- the first words are those of the first edges
 abbrev pub AreSoMany : List Edge → ℕ → List Word → Type 0

@@ -5,10 +5,9 @@ use Rattle.std.proofs.lemmas.Bool.{cases_lt}
 use Rattle.std.specs.Int.{IsGcd}
 use Rattle.prl_base.specs.declared.operators.Op.{Op}
 use Rattle.prl_base.specs.declared.operators.Op.TheVariants as operators
-use Rattle.prl_plan.specs.declared.words.Word.{Word}
 use Rattle.prl_plan.specs.Words.{number_at, IsWord}
-use Rattle.prl_words.specs.Counts.{IsCountBefore}
-use Rattle.prl_words.specs.code.Steps.{IsPast, FitsBefore, IsStep, AreBefore, AreZeros, HasRoom}
+use Rattle.prl_plan.specs.declared.words.Word.{Word}
+use Rattle.prl_words.specs.Vocabulary.{IsCountBefore, IsPast, FitsBefore, IsStep, AreBefore, AreZeros, HasRoom}
 use Rattle.prl_plan.proofs.WordNumbers.{next_turns}
 use Rattle.prl_words.proofs.Turns.{AreTurns, first_some, second_some, turns_after, factor_le, number_upto}
 

@@ -6,9 +6,8 @@ use Rattle.std.proofs.lemmas.List.{get_or-take}
 use Rattle.std.proofs.lemmas.Option.{slice_get-get_or, same_Some}
 use Rattle.prl_base.specs.declared.values.Value.{Value}
 use Rattle.prl_plan.specs.declared.walks.Operand.TheVariants as operands
+use Rattle.prl_plan.specs.Vocabulary.{ComesAgain, IsLeastRepeat, number_at, word_at, constant_or, IsWord}
 use Rattle.prl_plan.specs.declared.words.Word.{Word}
-use Rattle.prl_plan.specs.Repeats.{ComesAgain, IsLeastRepeat}
-use Rattle.prl_plan.specs.Words.{number_at, word_at, constant_or, IsWord}
 use Rattle.prl_words.specs.code.Shortest.{ClimbsBy, rise_of, IsSteady, AreGaps, IsShortestStep, IsShortened}
 use Rattle.prl_plan.proofs.WordNumbers.{next_turns}
 use Rattle.prl_words.proofs.Rooms.{number_first}

@@ -5,12 +5,9 @@ use Rattle.std.proofs.lemmas.List.{length_push}
 use Rattle.prl_base.specs.declared.operators.Op.{Op}
 use Rattle.prl_base.specs.declared.values.Value.{Value}
 use Rattle.prl_plan.specs.declared.walks.Operand.TheVariants as operands
-use Rattle.prl_plan.specs.Operands.{walk}
+use Rattle.prl_plan.specs.Vocabulary.{walk, number_at, word_at, IsWordOf, Climbs}
 use Rattle.prl_plan.specs.declared.words.Word.{Word}
-use Rattle.prl_plan.specs.Words.{number_at, word_at, IsWordOf, Climbs}
-use Rattle.prl_words.specs.Counts.{IsCount, HaveCounts}
-use Rattle.prl_words.specs.code.Steps.{IsExtended, IsSized, HasRoom, IsSoFar, constants_of}
-use Rattle.prl_words.specs.code.Shortest.{ClimbsBy, IsSteady, IsShortened}
+use Rattle.prl_words.specs.Vocabulary.{IsCount, HaveCounts, IsExtended, IsSized, HasRoom, IsSoFar, constants_of, ClimbsBy, IsSteady, IsShortened}
 use Rattle.prl_plan.proofs.WordNumbers.{after_prefix}
 use Rattle.prl_words.proofs.Extended.{walk_extended, sized_extended, constants_long}
 use Rattle.prl_words.proofs.Shortest.{word_shortened, operand_shortened}

@@ -7,13 +7,11 @@ use Rattle.std.proofs.lemmas.List.{length_push}
 use Rattle.std.proofs.lemmas.Nat.Gcd.{IsGcd-from_zero, IsGcd-from_mod}
 use Rattle.prl_base.specs.declared.operators.Op.{Op}
 use Rattle.prl_base.specs.declared.operators.Op.TheVariants as operators
-use Rattle.prl_plan.specs.declared.words.Word.{Word}
 use Rattle.prl_plan.specs.Words.{number_at, IsWordOf}
+use Rattle.prl_plan.specs.declared.words.Word.{Word}
 use Rattle.prl_plan.proofs.Searches.{listed, listed_long, listed_number, places_tell}
 use Rattle.prl_plan.proofs.ShortestRepeats.{some_repeat}
-use Rattle.prl_words.specs.Counts.{HaveCounts}
-use Rattle.prl_words.specs.code.Steps.{number_before, constants_of, AreBefore, IsStep, IsExtended, HasRoom, IsSoFar}
-use Rattle.prl_words.specs.code.Shortest.{rise_of, IsSteady, AreGaps, IsShortened}
+use Rattle.prl_words.specs.Vocabulary.{HaveCounts, number_before, constants_of, AreBefore, IsStep, IsExtended, HasRoom, IsSoFar, rise_of, IsSteady, AreGaps, IsShortened}
 use Rattle.prl_words.proofs.Rooms.{zeros_found}
 use Rattle.prl_words.proofs.Shortest.{shortest_step}
 use Rattle.prl_words.proofs.SoFar.{direct_word, first_so_far, next_so_far, room_so_far, steady_so_far, word_shortest}

@@ -8,10 +8,9 @@ use Rattle.prl_base.proofs.Coprime.{divides_other, quotients_coprime}
 use Rattle.std.proofs.lemmas.Nat.Gcd.{IsGcd-swap}
 use Rattle.prl_base.specs.declared.operators.Op.{Op}
 use Rattle.prl_base.specs.declared.operators.Op.TheVariants as operators
-use Rattle.prl_plan.specs.declared.words.Word.{Word}
 use Rattle.prl_plan.specs.Words.{number_at}
-use Rattle.prl_words.specs.Counts.{IsCountBefore}
-use Rattle.prl_words.specs.code.Steps.{number_before, IsStep}
+use Rattle.prl_plan.specs.declared.words.Word.{Word}
+use Rattle.prl_words.specs.Vocabulary.{IsCountBefore, number_before, IsStep}
 
 -- a product that is not 0 has no factor 0
 pub first_some : (a b whole : ℕ) → whole ≡ a * b → 1 ≤ whole → 1 ≤ a

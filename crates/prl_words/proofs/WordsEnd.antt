@@ -5,19 +5,15 @@ use Rattle.std.proofs.lemmas.Bool.{cases_lt}
 use Rattle.std.proofs.lemmas.Option.{slice_get-get_or, slice_get_within}
 use Rattle.prl_base.specs.declared.limits.Limit.{Limit}
 use Rattle.prl_base.specs.declared.limits.What.TheVariants as whats
+use Rattle.prl_plan.specs.Vocabulary.{first_reader, IsWellFormed, edge_at, no_edge, AreWords, IsWordOf, constants_in}
 use Rattle.prl_plan.specs.declared.graphs.Edge.{Edge}
 use Rattle.prl_plan.specs.declared.graphs.TaskGraph.{TaskGraph}
 use Rattle.prl_plan.specs.declared.limits.TheConstants.{MAX_PREFIX}
 use Rattle.prl_plan.specs.declared.words.Word.{Word}
-use Rattle.prl_plan.specs.FirstReaders.{first_reader}
-use Rattle.prl_plan.specs.Graphs.{IsWellFormed}
-use Rattle.prl_plan.specs.Plans.{edge_at, no_edge}
-use Rattle.prl_plan.specs.Words.{AreWords, IsWordOf, constants_in}
 use Rattle.prl_plan.proofs.ReaderLaws.{is_first_reader}
 use Rattle.prl_plan.proofs.WordNumbers.{first_after_prefix, one_first}
-use Rattle.prl_words.specs.declared.graphs.WordFault.{WordFault}
+use Rattle.prl_words.specs.Vocabulary.{WordFault, IsWordFault, constant_reads}
 use Rattle.prl_words.specs.declared.graphs.WordFault.TheVariants as faults
-use Rattle.prl_words.specs.GraphWords.{IsWordFault, constant_reads}
 use Rattle.prl_words.proofs.Constants.{edge_counts}
 use Rattle.prl_words.proofs.Listed.{AreSoMany, one_more, same_sum}
 use Rattle.prl_words.proofs.SomeWord.{some_word}

@@ -1,3 +1,4 @@
 pub mod Counts
 pub mod GraphWords
 pub mod code
+pub mod Vocabulary

@@ -1,8 +1,7 @@
 //! The words of all edges of a task graph.
 
 ghost use Rattle.std.specs.Prelude.{◌≡◌, ◌≤◌, IfOk, MatchResult};
-ghost use Rattle.prl_plan.specs.Graphs.{IsWellFormed};
-ghost use Rattle.prl_plan.specs.Words.{AreWords};
+ghost use Rattle.prl_plan.specs.Vocabulary.{IsWellFormed, AreWords};
 ghost use Rattle.prl_words.specs.GraphWords.{IsWordFault, constant_reads};
 
 use crate::composing::word_of;

@@ -1,10 +1,9 @@
 //! Laws of words, as functions that do nothing: the contract of each is the law, over the definitions alone.
 
 ghost use Rattle.std.specs.Prelude.{◌≡◌, ◌≢◌, ◌⊎◌, List};
+ghost use Rattle.prl_plan.specs.Vocabulary.{IsWellFormed, AreWords};
 ghost use Rattle.prl_plan.specs.declared.graphs.TaskGraph.{TaskGraph as AnyGraph};
 ghost use Rattle.prl_plan.specs.declared.words.Word.{Word as AnyWord};
-ghost use Rattle.prl_plan.specs.Graphs.{IsWellFormed};
-ghost use Rattle.prl_plan.specs.Words.{AreWords};
 ghost use Rattle.prl_words.specs.declared.graphs.WordFault.{WordFault as AnyFault};
 ghost use Rattle.prl_words.specs.declared.graphs.WordFault.TheVariants as faults;
 ghost use Rattle.prl_words.specs.GraphWords.{IsWordFault};

@@ -1,9 +1,7 @@
 //! How many constants the prefixes of words have, found before any is listed.
 
 ghost use Rattle.std.specs.Prelude.{◌≡◌, ◌<◌, ◌^◌, ℕ, length};
-ghost use Rattle.prl_plan.specs.FirstReaders.{reader_before, first_reader};
-ghost use Rattle.prl_plan.specs.Graphs.{IsWellFormed};
-ghost use Rattle.prl_plan.specs.Ranges.{HasFactor};
+ghost use Rattle.prl_plan.specs.Vocabulary.{reader_before, first_reader, IsWellFormed, HasFactor};
 ghost use Rattle.prl_words.specs.Counts.{HaveCounts};
 ghost use Rattle.prl_words.specs.GraphWords.{constant_reads};
 

@@ -4,15 +4,14 @@ use Rattle.std.specs.Prelude.{is_some}
 use Rattle.std.proofs.lemmas.Bool.{cases_lt, cases_eq}
 use Rattle.std.proofs.lemmas.List.{append_assoc, take-append-le, get_or_append_left}
 use Rattle.std.proofs.Math.Seq.{take-append-add, take-length, get_or-append_right}
+use Rattle.prl_plan.specs.Vocabulary.{operand_of, PlanView, place_on, cell_of, both_writes, reading, reads_of, writing, writes_of, actions_of, completes, operands_in, operands_before}
 use Rattle.prl_plan.specs.declared.events.Action.{Action}
-use Rattle.prl_plan.specs.declared.events.Action.TheVariants as actions
 use Rattle.prl_plan.specs.declared.graphs.Edge.{Edge}
 use Rattle.prl_plan.specs.declared.graphs.Producer.{Producer}
-use Rattle.prl_plan.specs.declared.graphs.Producer.TheVariants as producers
 use Rattle.prl_plan.specs.declared.walks.Operand.{Operand}
+use Rattle.prl_plan.specs.declared.events.Action.TheVariants as actions
+use Rattle.prl_plan.specs.declared.graphs.Producer.TheVariants as producers
 use Rattle.prl_plan.specs.declared.walks.Operand.TheVariants as operands
-use Rattle.prl_plan.specs.Operands.{operand_of}
-use Rattle.prl_plan.specs.Plans.{PlanView, place_on, cell_of, both_writes, reading, reads_of, writing, writes_of, actions_of, completes, operands_in, operands_before}
 use Rattle.prl_plan.proofs.StateLaws.{low_is_even, high_is_odd}
 use Rattle.prl_plan.proofs.UsedLaws.{test_same, test_differs}
 use Rattle.prl_values.specs.Fitting.{port_types}

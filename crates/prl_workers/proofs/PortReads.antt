@@ -3,11 +3,10 @@ use Rattle.std.proofs.Common.{◌≡◌, ◌+◌, ◌<◌, ℕ, zero, suc, Bool,
 use Rattle.std.specs.Prelude.{slice_get}
 use Rattle.std.proofs.lemmas.Bool.{cases_eq}
 use Rattle.std.proofs.lemmas.Option.{slice_get_within}
-use Rattle.prl_plan.specs.declared.graphs.Edge.{Edge}
 use Rattle.prl_plan.specs.Graphs.{PortsFollow, AreInOrder}
+use Rattle.prl_plan.specs.declared.graphs.Edge.{Edge}
 use Rattle.prl_plan.proofs.UsedLaws.{test_same, test_differs}
-use Rattle.prl_values.specs.Fitting.{port_types}
-use Rattle.prl_values.specs.JobValues.{JobValues, read_on, reads_over}
+use Rattle.prl_values.specs.Vocabulary.{port_types, JobValues, read_on, reads_over}
 
 -- as many values as ports
 pub reads_counted : (v : JobValues) (edges : List Edge) (i n : ℕ) → length (reads_over v edges i n) ≡ length (port_types edges i)

@@ -8,26 +8,19 @@ use Rattle.prl_base.specs.declared.values.Value.{Value}
 use Rattle.prl_body.specs.Bodies.{body_named, output_types}
 use Rattle.prl_body.specs.declared.bodies.CheckedBody.{CheckedBody}
 use Rattle.prl_flow.specs.Rows.{Rows}
+use Rattle.prl_plan.specs.Vocabulary.{IsJob, IsEdge, IsSource, is_actuator, is_sensor, constants_of, task_at, PlanView, IsActionOf, IsAtPort, actions_of, completes, edge_at, no_edge, operands_before}
+use Rattle.prl_plan.specs.Vocabulary.{ComesFrom}
 use Rattle.prl_plan.specs.declared.events.Action.{Action}
-use Rattle.prl_plan.specs.declared.events.Action.TheVariants as actions
 use Rattle.prl_plan.specs.declared.events.SlotNo.{SlotNo}
-use Rattle.prl_plan.specs.declared.graphs.Kind.TheVariants as kinds
 use Rattle.prl_plan.specs.declared.graphs.Producer.{Producer}
-use Rattle.prl_plan.specs.declared.graphs.Producer.TheVariants as producers
 use Rattle.prl_plan.specs.declared.horizons.Horizon.{Horizon}
+use Rattle.prl_plan.specs.declared.events.Action.TheVariants as actions
+use Rattle.prl_plan.specs.declared.graphs.Kind.TheVariants as kinds
+use Rattle.prl_plan.specs.declared.graphs.Producer.TheVariants as producers
 use Rattle.prl_plan.specs.declared.walks.Operand.TheVariants as operands
-use Rattle.prl_plan.specs.Facts.{IsJob}
-use Rattle.prl_plan.specs.Graphs.{IsEdge, IsSource, is_actuator, is_sensor}
-use Rattle.prl_plan.specs.Horizons.{constants_of}
-use Rattle.prl_plan.specs.Jobs.{task_at}
-use Rattle.prl_plan.specs.Plans.{PlanView, IsActionOf, IsAtPort, actions_of, completes, edge_at, no_edge, operands_before}
-use Rattle.prl_plan.specs.Precedence.{ComesFrom}
-use Rattle.prl_values.specs.Fitting.{HasOutput, port_types}
-use Rattle.prl_values.specs.JobValues.{job_values, reads_of_job, value_from}
-use Rattle.prl_workers.specs.declared.workers.Work.{Work}
+use Rattle.prl_values.specs.Vocabulary.{HasOutput, port_types, job_values, reads_of_job, value_from}
+use Rattle.prl_workers.specs.Vocabulary.{Work, Worker, HasBegun, HasEnded, HasGiven, HasLaws, HasTaken, HaveWorkLaws, IsReady, IsWork, IsWorker, outs_of, outs_with}
 use Rattle.prl_workers.specs.declared.workers.Work.TheVariants as works
-use Rattle.prl_workers.specs.declared.workers.Worker.{Worker}
-use Rattle.prl_workers.specs.Workers.{HasBegun, HasEnded, HasGiven, HasLaws, HasTaken, HaveWorkLaws, IsReady, IsWork, IsWorker, outs_of, outs_with}
 use Rattle.prl_workers.proofs.Operands.{Reads}
 use Rattle.prl_workers.proofs.PortReads.{edge_has_port}
 use Rattle.prl_workers.proofs.Working.{HasBody, body_run, instance_given, job_ended, low_passed, operand_taken, port_there, ready_to_begin, ready_to_take}

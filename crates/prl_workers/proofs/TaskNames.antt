@@ -4,14 +4,12 @@ use Rattle.std.specs.List.{list_all}
 use Rattle.std.proofs.lemmas.Bool.{and_parts, false≢true, eqb-true}
 use Rattle.std.proofs.lemmas.List.{get_or_default}
 use Rattle.prl_base.specs.Names.{IsName, is_word_byte, is_word_start}
+use Rattle.prl_plan.specs.Vocabulary.{no_task, IsTaskName}
 use Rattle.prl_plan.specs.declared.graphs.Edge.{Edge}
 use Rattle.prl_plan.specs.declared.graphs.Kind.{Kind}
-use Rattle.prl_plan.specs.declared.graphs.Kind.TheVariants as kinds
 use Rattle.prl_plan.specs.declared.graphs.Task.{Task}
-use Rattle.prl_plan.specs.Jobs.{no_task}
-use Rattle.prl_plan.specs.Graphs.{IsTaskName}
-use Rattle.prl_values.specs.Fitting.{port_types}
-use Rattle.prl_values.specs.JobValues.{word_of}
+use Rattle.prl_plan.specs.declared.graphs.Kind.TheVariants as kinds
+use Rattle.prl_values.specs.Vocabulary.{port_types, word_of}
 
 -- `@` is no byte of a word
 apart : (b : ℕ) → is_word_byte b ≡ true → eqb b 64 ≡ false

@@ -6,25 +6,18 @@ use Rattle.std.proofs.lemmas.List.{length-set, length-map, get_or_past}
 use Rattle.std.proofs.lemmas.Option.{slice_get_within}
 use Rattle.prl_base.specs.Values.{type_of}
 use Rattle.prl_base.specs.declared.values.Value.{Value}
-use Rattle.prl_body.specs.Machines.{MachineState}
-use Rattle.prl_body.specs.Bodies.{body_named, body_step}
+use Rattle.prl_body.specs.Vocabulary.{MachineState, body_named, body_step}
 use Rattle.prl_body.specs.declared.bodies.CheckedBody.{CheckedBody}
-use Rattle.prl_flow.specs.Applications.{registers_before}
-use Rattle.prl_flow.specs.Rows.{Rows, rows_of}
+use Rattle.prl_flow.specs.Vocabulary.{registers_before, Rows, rows_of}
+use Rattle.prl_plan.specs.Vocabulary.{task_at, PlanView, reads_of, actions_of, completes, operands_in, operands_before}
 use Rattle.prl_plan.specs.declared.events.Action.{Action}
-use Rattle.prl_plan.specs.declared.events.Action.TheVariants as actions
 use Rattle.prl_plan.specs.declared.graphs.Kind.{Kind}
+use Rattle.prl_plan.specs.declared.events.Action.TheVariants as actions
 use Rattle.prl_plan.specs.declared.graphs.Kind.TheVariants as kinds
-use Rattle.prl_plan.specs.Jobs.{task_at}
-use Rattle.prl_plan.specs.Plans.{PlanView, reads_of, actions_of, completes, operands_in, operands_before}
-use Rattle.prl_values.specs.BodyRuns.{place_of_run}
-use Rattle.prl_values.specs.Fitting.{port_types}
-use Rattle.prl_values.specs.JobValues.{JobValues, gives, at_most_one, step_outputs, reads_of_job, body_of_task}
-use Rattle.prl_workers.specs.declared.workers.Work.{Work}
+use Rattle.prl_values.specs.Vocabulary.{place_of_run, port_types, JobValues, gives, at_most_one, step_outputs, reads_of_job, body_of_task}
+use Rattle.prl_workers.specs.Vocabulary.{Work, Worker, outs_of, outs_with, CanRun, IsReady, RunsTo, HasRun, HasKept, HasTaken, HasBegun, HasEnded, StepsTo, IsNewWork, IsNewWorker, HasLaws, IsWork}
+use Rattle.prl_workers.specs.Vocabulary.{HasGiven, once, IsWorker}
 use Rattle.prl_workers.specs.declared.workers.Work.TheVariants as works
-use Rattle.prl_workers.specs.declared.workers.Worker.{Worker}
-use Rattle.prl_workers.specs.Workers.{outs_of, outs_with, CanRun, IsReady, RunsTo, HasRun, HasKept, HasTaken, HasBegun, HasEnded, StepsTo, IsNewWork, IsNewWorker, HasLaws}
-use Rattle.prl_workers.specs.Workers.{IsWork, HasGiven, once, IsWorker}
 use Rattle.prl_workers.proofs.Operands.{Reads, operands_next, whole_reads, read_is_early, other_is_late, port_inside, last_operand, earlier_operand}
 use Rattle.prl_workers.proofs.PortReads.{reads_counted, same_lists}
 

@@ -1,2 +1,3 @@
 -- what a worker keeps, asks for and does
 pub mod Workers
+pub mod Vocabulary

@@ -3,9 +3,8 @@
 ghost use Rattle.std.specs.Prelude.{ℕ, List};
 ghost use Rattle.prl_body.specs.declared.bodies.CheckedBody.{CheckedBody};
 ghost use Rattle.prl_flow.specs.Rows.{Rows};
+ghost use Rattle.prl_plan.specs.Vocabulary.{IsHorizon, IsPlan, PlanView};
 ghost use Rattle.prl_plan.specs.declared.horizons.Horizon.{Horizon};
-ghost use Rattle.prl_plan.specs.Horizons.{IsHorizon};
-ghost use Rattle.prl_plan.specs.Plans.{IsPlan, PlanView};
 ghost use Rattle.prl_values.specs.Fitting.{HaveTaskBodies, HaveTypedRows};
 ghost use Rattle.prl_workers.specs.Workers.{HaveWorkLaws};
 

@@ -2,8 +2,7 @@
 
 ghost use Rattle.std.specs.Prelude.{◌≡◌, ◌<◌, ◌^◌, length, IfOk};
 ghost use Rattle.prl_plan.specs.Horizons.{IsHorizon};
-ghost use Rattle.prl_values.specs.Fitting.{HaveTaskBodies, port_types};
-ghost use Rattle.prl_values.specs.JobValues.{word_of};
+ghost use Rattle.prl_values.specs.Vocabulary.{HaveTaskBodies, port_types, word_of};
 ghost use Rattle.prl_workers.specs.Workers.{IsNewWorker, IsNewWork, outs_of};
 
 use crate::workers::{Work, Worker};

@@ -3,10 +3,10 @@ use Rattle.std.proofs.Common.{ℕ}
 use Rattle.prl_base.specs.declared.numbers.CellNo.{CellNo}
 use Rattle.prl_plan.specs.declared.events.Action.TheVariants as actions
 use Rattle.prl_rule.specs.declared.views.Constants.{Constants}
+use Rattle.prl_seats.specs.JobSeats.{JobSeatView, MayRaise}
 use Rattle.prl_seats.specs.declared.jobs.Stage.{Stage}
 use Rattle.prl_seats.specs.declared.jobs.Stage.TheVariants as stages
 use Rattle.prl_board.specs.declared.seats.Got.TheVariants as gots
-use Rattle.prl_seats.specs.JobSeats.{JobSeatView, MayRaise}
 use Rattle.prl_board.specs.TaskSeats.{AnswersRead}
 
 pub may_raise : (k : Constants) (before after : JobSeatView) (cell : CellNo) (wanted found : ℕ) (stage : Stage) →

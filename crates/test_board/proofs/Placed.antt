@@ -1,10 +1,9 @@
 -- Where a task stands, by the place that is told of it.
 use Rattle.std.proofs.Common.{◌≡◌, ◌<◌, ℕ, length, subst, Some}
 use Rattle.std.specs.Prelude.{slice_get}
+use Rattle.prl_board.specs.Vocabulary.{IsPlacedAt, LoneView, place_of}
 use Rattle.prl_board.specs.declared.seats.Place.{Place}
 use Rattle.prl_seats.specs.JobSeats.{JobSeatView}
-use Rattle.prl_board.specs.Lones.{IsPlacedAt, LoneView}
-use Rattle.prl_board.specs.TaskSeats.{place_of}
 use Rattle.prl_board.proofs.Lists.{seat_there}
 
 pub placed : (may : Place → Type 0) (l : LoneView) (i : ℕ) (place : Place) → i < length l.seats → ((s : JobSeatView) → slice_get l.seats i ≡ Some s → place ≡ place_of s.stage) → may place →

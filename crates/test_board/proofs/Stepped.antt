@@ -3,10 +3,8 @@ use Rattle.std.proofs.Common.{◌≡◌, ℕ, ◌<◌, List, length, length-set,
 use Rattle.std.proofs.lemmas.Option.{get_or_from_slice_get, slice_get-get_or, slice_get_within}
 use Rattle.std.specs.List.{All}
 use Rattle.std.specs.Prelude.{slice_get}
-use Rattle.prl_seats.specs.Boards.{BoardView}
-use Rattle.prl_seats.specs.JobSeats.{IsSeatOf, JobSeatView}
-use Rattle.prl_board.specs.Lones.{AreSeatsOf}
-use Rattle.prl_board.specs.Openings.{AreFirstSeats}
+use Rattle.prl_seats.specs.Vocabulary.{BoardView, IsSeatOf, JobSeatView}
+use Rattle.prl_board.specs.Vocabulary.{AreSeatsOf, AreFirstSeats}
 use Rattle.prl_board.proofs.Lists.{set_at}
 
 pub first_seats : (b : BoardView) (seats : List JobSeatView) → AreFirstSeats b seats → AreSeatsOf b seats

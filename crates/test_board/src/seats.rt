@@ -4,12 +4,10 @@ ghost use Rattle.std.specs.Prelude.{◌≡◌, ◌<◌, ◌≤◌, []};
 ghost use Rattle.std.specs.Vec.{vec_items};
 ghost use Rattle.prl_plan.specs.Horizons.{IsHorizon};
 ghost use Rattle.prl_values.specs.Fitting.{HaveTaskBodies, HaveTypedRows};
-ghost use Rattle.prl_rule.specs.declared.views.ClockPart.{ClockPart};
 ghost use Rattle.prl_rule.specs.Known.{run_of};
+ghost use Rattle.prl_rule.specs.declared.views.ClockPart.{ClockPart};
 ghost use Rattle.prl_seats.specs.JobSeats.{IsSeatOf};
-ghost use Rattle.prl_board.specs.ClockSeats.{IsClockOf};
-ghost use Rattle.prl_board.specs.Lones.{AreSeatsOf};
-ghost use Rattle.prl_board.specs.TaskSeats.{MayRead, place_of};
+ghost use Rattle.prl_board.specs.Vocabulary.{IsClockOf, AreSeatsOf, MayRead, place_of};
 ghost use Rattle.test_board.specs.Pairs.{IsClosedPair, IsPair};
 
 use crate::cases::{CASES, Case, Did, letter_of};

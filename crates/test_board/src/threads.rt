@@ -6,8 +6,7 @@ ghost use Rattle.std.specs.Vec.{vec_items};
 ghost use Rattle.prl_plan.specs.Horizons.{IsHorizon};
 ghost use Rattle.prl_values.specs.Fitting.{HaveTaskBodies, HaveTypedRows};
 ghost use Rattle.prl_rule.specs.declared.views.ClockPart.{ClockPart};
-ghost use Rattle.prl_board.specs.ClockSeats.{IsClockOf};
-ghost use Rattle.prl_board.specs.Lones.{AreSeatsOf};
+ghost use Rattle.prl_board.specs.Vocabulary.{IsClockOf, AreSeatsOf};
 ghost use Rattle.prl_seats.specs.JobSeats.{IsSeatOf, JobSeatView};
 ghost use Rattle.test_board.specs.Pairs.{IsPair};
 

@@ -3,12 +3,10 @@ use Rattle.std.proofs.Common.{◌≡◌, ◌*◌, ◌<◌, ◌≤◌, ◌^◌, �
 use Rattle.std.proofs.Math.IntN.{pos-*ℤ-pos}
 use Rattle.std.proofs.Math.Nat.{mul-le-mul_right}
 use Rattle.std.proofs.lemmas.Int.{ints}
+use Rattle.prl_plan.specs.Vocabulary.{IsHorizonJob, task_at, operand_of, PlanView, IsSmallOperand, edge_at}
 use Rattle.prl_plan.specs.declared.graphs.TaskGraph.{TaskGraph}
 use Rattle.prl_plan.specs.declared.walks.Operand.{Operand}
 use Rattle.prl_plan.specs.declared.walks.Operand.TheVariants as operands
-use Rattle.prl_plan.specs.Jobs.{IsHorizonJob, task_at}
-use Rattle.prl_plan.specs.Operands.{operand_of}
-use Rattle.prl_plan.specs.Plans.{PlanView, IsSmallOperand, edge_at}
 use Rattle.test_dates.specs.Early.{IsEarly}
 
 pub early_job : (graph : TaskGraph) (i n : ℕ) → i < length graph.tasks → IsEarly (task_at graph i).clock n → IsHorizonJob graph (2 ^ 31) i n

@@ -1,8 +1,7 @@
 //! Look-ups of a plan for its first jobs.
 
 ghost use Rattle.std.specs.Prelude.{◌≡◌, ◌<◌, ◌≤◌, ◌^◌, length, true};
-ghost use Rattle.prl_plan.specs.Jobs.{IsHorizonJob};
-ghost use Rattle.prl_plan.specs.Plans.{IsPlan, edge_at};
+ghost use Rattle.prl_plan.specs.Vocabulary.{IsHorizonJob, IsPlan, edge_at};
 ghost use Rattle.test_dates.specs.Early.{IsEarly};
 
 use prl_base::{Clock, EdgeNo, TaskNo};

@@ -1,8 +1,7 @@
 //! Units for the jobs of a plan.
 
 ghost use Rattle.std.specs.Prelude.{◌≡◌, ◌≤◌, ◌<◌, length, map, vec_items, min, IfOk};
-ghost use Rattle.prl_plan.specs.Horizons.{IsHorizon, constants_of};
-ghost use Rattle.prl_plan.specs.Jobs.{task_at};
+ghost use Rattle.prl_plan.specs.Vocabulary.{IsHorizon, constants_of, task_at};
 ghost use Rattle.prl_edf.specs.UnitLists.{wcets_of, AreUnitLists};
 
 use prl_base::TaskNo;

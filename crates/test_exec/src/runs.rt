@@ -2,10 +2,9 @@
 
 ghost use Rattle.std.specs.Prelude.{◌≡◌, ◌<◌, ◌≤◌, ℕ, [], IfOk, length, Some, true};
 ghost use Rattle.prl_plan.specs.declared.graphs.Kind.TheVariants as kinds;
-ghost use Rattle.prl_plan.specs.Horizons.{IsHorizon};
-ghost use Rattle.prl_plan.specs.Jobs.{task_at};
-ghost use Rattle.prl_rule.specs.declared.views.Constants.{Constants};
+ghost use Rattle.prl_plan.specs.Vocabulary.{IsHorizon, task_at};
 ghost use Rattle.prl_rule.specs.Known.{known};
+ghost use Rattle.prl_rule.specs.declared.views.Constants.{Constants};
 ghost use Rattle.prl_board.specs.Closings.{Drives};
 ghost use Rattle.prl_values.specs.Fitting.{HaveTaskBodies, HaveTypedRows};
 

@@ -1,7 +1,6 @@
 //! Expansions: flows, labels, definitions and applications, worked out by hand from the rules.
 
-ghost use Rattle.prl_ast.specs.InRange.{IsInRange};
-ghost use Rattle.prl_ast.specs.Trees.{program_tree};
+ghost use Rattle.prl_ast.specs.Vocabulary.{IsInRange, program_tree};
 
 use prl_ast::Program;
 use prl_base::{FlowNo, Op, Value, push_number};

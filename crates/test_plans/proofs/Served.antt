@@ -4,9 +4,8 @@ use Rattle.std.proofs.lemmas.Bool.{cases_lt}
 use Rattle.std.proofs.lemmas.Option.{slice_get-get_or, slice_get_within}
 use Rattle.prl_base.specs.declared.values.Value.TheVariants as values
 use Rattle.prl_flow.specs.Rows.{Rows, rows_of}
+use Rattle.prl_plan.specs.Vocabulary.{IsWellFormed, IsHorizonJob, job_count, no_task, task_at}
 use Rattle.prl_plan.specs.declared.graphs.TaskGraph.{TaskGraph}
-use Rattle.prl_plan.specs.Graphs.{IsWellFormed}
-use Rattle.prl_plan.specs.Jobs.{IsHorizonJob, job_count, no_task, task_at}
 use Rattle.prl_values.specs.Fitting.{HaveTypedRows}
 use Rattle.test_plans.specs.Devices.{AreIntEdges, HaveIntRows}
 

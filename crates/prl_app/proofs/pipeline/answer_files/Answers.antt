@@ -1,6 +1,5 @@
 use Rattle.std.proofs.lemmas.Result.{err_from_is_err_and}
-use Rattle.prl_stages.specs.Stages.{stages_after}
-use Rattle.prl_stages.specs.Ran.{IsMeant}
+use Rattle.prl_stages.specs.Vocabulary.{stages_after, IsMeant}
 use Rattle.prl_app.specs.Answers.{IsAnswer, IsAnswerStop}
 use Rattle.prl_calls.specs.Stops.{given_of, AllHold, StopsIn}
 use Rattle.prl_calls.proofs.Stops.{ok_both, err_map}

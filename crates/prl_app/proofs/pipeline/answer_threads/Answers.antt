@@ -2,8 +2,7 @@ use Rattle.std.proofs.Common.{◌++◌, sym, subst}
 use Rattle.std.proofs.lemmas.Result.{err_from_is_err_and}
 use Rattle.prl_arguments.specs.declared.arguments.Mode.{Mode}
 use Rattle.prl_stages.specs.Stages.{front, ran, stages_after}
-use Rattle.prl_app.specs.Answers.{IsAnswerOf, IsAnswerStop}
-use Rattle.prl_app.specs.code.Modes.{HasFiles}
+use Rattle.prl_app.specs.Vocabulary.{IsAnswerOf, IsAnswerStop, HasFiles}
 use Rattle.prl_executions.specs.Ready.{IsOutcome}
 use Rattle.prl_calls.specs.Stops.{given_of, AllHold, StopsIn}
 use Rattle.prl_app.proofs.Answered.{answer_stop, files_stop, outcome_answered}

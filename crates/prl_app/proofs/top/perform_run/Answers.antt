@@ -1,8 +1,6 @@
 use Rattle.std.proofs.Common.{ℕ, List, map, refl, subst}
 use Rattle.std.specs.String.{string_bytes}
-use Rattle.prl_app.specs.Endings.{Outside}
-use Rattle.prl_app.specs.code.Performed.{IsWrittenBy}
-use Rattle.prl_app.specs.Answers.{IsAnswerOf}
+use Rattle.prl_app.specs.Vocabulary.{Outside, IsWrittenBy, IsAnswerOf}
 use Rattle.prl_app.proofs.Exact.{overrun_ends, stop_ends, written_ends}
 use Rattle.prl_app.proofs.top.perform_run.Goals as goal
 

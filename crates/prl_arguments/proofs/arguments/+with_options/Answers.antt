@@ -3,8 +3,7 @@ use Rattle.std.proofs.lemmas.List.{take_rest}
 use Rattle.std.specs.Option.{option_map}
 use Rattle.std.specs.String.{string_bytes}
 use Rattle.prl_base.specs.Options.{◌>>=◌}
-use Rattle.prl_arguments.specs.Arguments.{Values, first_option, with_options}
-use Rattle.prl_arguments.specs.code.Settings.{given_by}
+use Rattle.prl_arguments.specs.Vocabulary.{Values, first_option, with_options, given_by}
 use Rattle.prl_arguments.proofs.arguments.+with_options.Goals as goal
 
 -- the options of words that begin with this one

@@ -1,9 +1,7 @@
 use Rattle.std.proofs.Common.{◌≡◌, None, length, refl, replicate}
 use Rattle.std.proofs.Math.Path.{fun_ext}
-use Rattle.prl_arguments.specs.declared.arguments.Setting.{Setting}
+use Rattle.prl_arguments.specs.Vocabulary.{Setting, all_settings, nothing, given_by}
 use Rattle.prl_arguments.specs.declared.arguments.Setting.TheVariants as settings
-use Rattle.prl_arguments.specs.Arguments.{all_settings, nothing}
-use Rattle.prl_arguments.specs.code.Settings.{given_by}
 use Rattle.prl_arguments.proofs.arguments.nothing.Goals as goal
 
 none_at : (s : Setting) → given_by (record { values = replicate (length all_settings) None }) s ≡ nothing s

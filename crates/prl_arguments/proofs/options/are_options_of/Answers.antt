@@ -3,9 +3,8 @@ use Rattle.std.specs.String.{string_bytes}
 use Rattle.clap.specs.Faults.{fault_of, is_simple_and_free}
 use Rattle.clap.specs.Kinds.{IsAmong, Kinds}
 use Rattle.clap.specs.declared.error.kind.ErrorKind.{ErrorKind}
-use Rattle.prl_arguments.specs.declared.arguments.Mode.{Mode}
+use Rattle.prl_arguments.specs.Vocabulary.{Mode, app_of_mode, faults_of, is_taken}
 use Rattle.prl_arguments.specs.declared.arguments.Mode.TheVariants as modes
-use Rattle.prl_arguments.specs.code.Options.{app_of_mode, faults_of, is_taken}
 use Rattle.prl_arguments.proofs.options.are_options_of.Goals as goal
 
 simple : (mode : Mode) → is_simple_and_free (app_of_mode mode) ≡ true

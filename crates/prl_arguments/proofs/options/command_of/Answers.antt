@@ -1,8 +1,7 @@
 use Rattle.std.proofs.Common.{◌≡◌, IfOk, fold, subst}
 use Rattle.clap.specs.Words.{app_of}
 use Rattle.clap.specs.Simple.{App}
-use Rattle.prl_arguments.specs.Arguments.{all_settings}
-use Rattle.prl_arguments.specs.code.Options.{with_setting}
+use Rattle.prl_arguments.specs.Vocabulary.{all_settings, with_setting}
 use Rattle.prl_arguments.proofs.options.command_of.Goals as goal
 
 pub returns : goal.returns

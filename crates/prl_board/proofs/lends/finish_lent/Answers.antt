@@ -1,7 +1,6 @@
 use Rattle.std.proofs.Common.{sym, ap, subst, ◌∙◌}
 use Rattle.prl_seats.specs.JobSeats.{Ends, JobSeatView}
-use Rattle.prl_board.specs.TaskSeats.{MayFinish, place_of}
-use Rattle.prl_board.specs.code.Lent.{IsElsewhere}
+use Rattle.prl_board.specs.Vocabulary.{MayFinish, place_of, IsElsewhere}
 use Rattle.prl_board.proofs.Called.{answer_after, elsewhere_with, same_after, seat_returned}
 use Rattle.prl_board.proofs.lends.finish_lent.Goals as goal
 

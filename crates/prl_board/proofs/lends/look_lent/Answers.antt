@@ -1,6 +1,6 @@
 use Rattle.std.proofs.Common.{sym, ap, subst, ◌∙◌}
-use Rattle.prl_rule.specs.declared.views.View.{View}
 use Rattle.prl_rule.specs.Told.{LookTold}
+use Rattle.prl_rule.specs.declared.views.View.{View}
 use Rattle.prl_board.proofs.Called.{clock_returned}
 use Rattle.prl_board.proofs.lends.look_lent.Goals as goal
 

@@ -1,7 +1,6 @@
 use Rattle.std.proofs.Common.{sym, ap, subst, ◌∙◌}
 use Rattle.prl_seats.specs.JobSeats.{AnswersRelease, JobSeatView}
-use Rattle.prl_board.specs.TaskSeats.{MayRelease, place_of}
-use Rattle.prl_board.specs.code.Lent.{IsElsewhere}
+use Rattle.prl_board.specs.Vocabulary.{MayRelease, place_of, IsElsewhere}
 use Rattle.prl_board.proofs.Called.{answer_after, release_elsewhere, same_after, seat_returned}
 use Rattle.prl_board.proofs.lends.release_lent.Goals as goal
 

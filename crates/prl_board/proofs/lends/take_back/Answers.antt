@@ -1,6 +1,5 @@
 use Rattle.std.proofs.Common.{sym, ap, subst, ◌∙◌}
-use Rattle.prl_seats.specs.JobSeats.{HasPartOf}
-use Rattle.prl_seats.specs.JobSeats.{reseated}
+use Rattle.prl_seats.specs.JobSeats.{HasPartOf, reseated}
 use Rattle.prl_board.proofs.Lending.{bare_has_none}
 use Rattle.prl_board.proofs.lends.take_back.Goals as goal
 

@@ -1,7 +1,6 @@
 use Rattle.std.proofs.Common.{sym, ap, subst, ◌∙◌}
 use Rattle.prl_seats.specs.JobSeats.{JobSeatView}
-use Rattle.prl_board.specs.TaskSeats.{AnswersWrite, MayWrite, place_of}
-use Rattle.prl_board.specs.code.Lent.{IsElsewhere}
+use Rattle.prl_board.specs.Vocabulary.{AnswersWrite, MayWrite, place_of, IsElsewhere}
 use Rattle.prl_board.proofs.Called.{answer_after, same_after, seat_returned, write_elsewhere}
 use Rattle.prl_board.proofs.lends.write_lent.Goals as goal
 

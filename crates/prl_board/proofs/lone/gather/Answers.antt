@@ -1,6 +1,5 @@
 use Rattle.std.proofs.Common.{◌≡◌, sym, ap, subst, ◌∙◌, vec_items, Some, None}
-use Rattle.prl_board.specs.ClockSeats.{ClockSeatView, IsClockData}
-use Rattle.prl_board.specs.code.Lent.{AreLent}
+use Rattle.prl_board.specs.Vocabulary.{ClockSeatView, IsClockData, AreLent}
 use Rattle.prl_seats.proofs.Following.{known_once}
 use Rattle.prl_board.proofs.Lending.{clock_moves}
 use Rattle.prl_board.proofs.lone.gather.Goals as goal

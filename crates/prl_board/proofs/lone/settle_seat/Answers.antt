@@ -1,10 +1,9 @@
 use Rattle.std.proofs.Common.{◌≡◌, ℕ, sym, ap, subst, ◌∙◌}
 use lib.ListN.{get_elem?}
+use Rattle.prl_rule.specs.Vocabulary.{stop_loaded, with_part, part_at, part_of}
 use Rattle.prl_rule.specs.declared.views.View.{View}
-use Rattle.prl_rule.specs.Steps.{stop_loaded, with_part}
-use Rattle.prl_rule.specs.Told.{part_at, part_of}
-use Rattle.prl_seats.specs.declared.jobs.Stage.{Stage}
 use Rattle.prl_seats.specs.JobSeats.{Follows, HasPartOf, JobSeatView}
+use Rattle.prl_seats.specs.declared.jobs.Stage.{Stage}
 use Rattle.prl_seats.proofs.Following.{known_once}
 use Rattle.prl_board.proofs.Lending.{bare_has_none, stop_keeps_halves, stop_settles}
 use Rattle.prl_board.proofs.lone.settle_seat.Goals as goal

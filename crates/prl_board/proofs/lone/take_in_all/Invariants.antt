@@ -2,10 +2,10 @@ use Rattle.std.proofs.Common.{◌≡◌, ◌<◌, ◌≤◌, ℕ, length, vec_it
 use Rattle.std.specs.Prelude.{slice_get}
 use mathlib.Core.Option.{some}
 use lib.ListN.{get_elem?}
+use Rattle.prl_rule.specs.Told.{part_of}
 use Rattle.prl_rule.specs.declared.views.ClockPart.{ClockPart}
 use Rattle.prl_seats.specs.JobSeats.{JobSeatView, StaysAt}
 use Rattle.prl_board.specs.code.Lent.{IsLent}
-use Rattle.prl_rule.specs.Told.{part_of}
 use Rattle.prl_board.proofs.lone.take_in_all.Given as goal
 
 -- the seats so far have lent their parts, and the others stand as they stood

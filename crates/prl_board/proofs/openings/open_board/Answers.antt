@@ -1,9 +1,8 @@
 use Rattle.std.proofs.Common.{◌≡◌, sym, ap, subst}
+use Rattle.prl_rule.specs.Vocabulary.{known, all_parts}
 use Rattle.prl_rule.specs.declared.views.Constants.{Constants}
 use Rattle.prl_rule.specs.declared.views.View.{View}
-use Rattle.prl_rule.specs.Known.{known}
 use Rattle.prl_board.specs.Openings.{AreLeft}
-use Rattle.prl_rule.specs.Rule.{all_parts}
 use Rattle.prl_board.proofs.Opened.{all_left}
 use Rattle.prl_board.proofs.openings.open_board.Goals as goal
 

@@ -1,7 +1,7 @@
 use Rattle.std.proofs.Common.{arith, ◌+◌, ◌<◌, [], ◌∷◌, length, length-append, sym, ap, subst, ◌∙◌, vec_items}
+use Rattle.prl_rule.specs.Known.{run_of}
 use Rattle.prl_rule.specs.declared.views.View.{View}
 use Rattle.prl_seats.specs.JobSeats.{HasFirstPart, IsFirstSeat, IsSeatOf}
-use Rattle.prl_rule.specs.Known.{run_of}
 use Rattle.prl_board.specs.Openings.{AreLeft}
 use Rattle.prl_board.proofs.Opened.{first_given, next_left, seats_more}
 use Rattle.prl_board.proofs.openings.task_seats.Goals as goal

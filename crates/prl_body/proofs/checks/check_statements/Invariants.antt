@@ -1,6 +1,5 @@
 use Rattle.std.proofs.Common.{◌≡◌, drop, map}
-use Rattle.prl_body.specs.Checks.{typed_statements}
-use Rattle.prl_body.specs.Texts.{statement_tree}
+use Rattle.prl_body.specs.Vocabulary.{typed_statements, statement_tree}
 use Rattle.prl_body.proofs.checks.check_statements.Given as goal
 
 abbrev pub invariant-loop-statement : goal.invariant-loop-statement

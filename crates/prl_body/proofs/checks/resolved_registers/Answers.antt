@@ -1,13 +1,8 @@
 use Rattle.std.proofs.Common.{◌≡◌, ◌+◌, suc, [], ◌∷◌, map, drop, drop-cons, add-one, refl, sym, ap, ◌∙◌, Ok, Err}
 use Rattle.std.proofs.lemmas.List.{drop_all}
 use Rattle.std.proofs.lemmas.Result.{err_from_is_err_and}
-use Rattle.prl_base.specs.Reading.{◌>>=◌}
-use Rattle.prl_base.specs.Values.{type_of}
-use Rattle.prl_body.specs.declared.bodies.Register.{Register}
-use Rattle.prl_body.specs.declared.texts.RegisterText.{RegisterText}
-use Rattle.prl_body.specs.Checks.{register_tree, next_value, resolved_registers, statement_named}
-use Rattle.prl_body.specs.Codes.{expression_of}
-use Rattle.prl_body.specs.Texts.{statement_tree}
+use Rattle.prl_base.specs.Vocabulary.{◌>>=◌, type_of}
+use Rattle.prl_body.specs.Vocabulary.{Register, RegisterText, register_tree, next_value, resolved_registers, statement_named, expression_of, statement_tree}
 use Rattle.prl_body.proofs.Lists.{added_step, added_fails, added_ends}
 use Rattle.prl_body.proofs.checks.resolved_registers.Goals as goal
 

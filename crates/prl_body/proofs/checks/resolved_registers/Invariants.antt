@@ -1,6 +1,5 @@
 use Rattle.std.proofs.Common.{◌≡◌, drop, map}
-use Rattle.prl_body.specs.Checks.{resolved_registers, register_tree}
-use Rattle.prl_body.specs.Texts.{statement_tree}
+use Rattle.prl_body.specs.Vocabulary.{resolved_registers, register_tree, statement_tree}
 use Rattle.prl_body.proofs.Lists.{added_to}
 use Rattle.prl_body.proofs.checks.resolved_registers.Given as goal
 

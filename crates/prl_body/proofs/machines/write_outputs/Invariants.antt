@@ -1,6 +1,5 @@
 use Rattle.std.proofs.Common.{◌≡◌, take, map}
-use Rattle.prl_body.specs.Bodies.{value_expressions}
-use Rattle.prl_body.specs.Values.{value}
+use Rattle.prl_body.specs.Vocabulary.{value_expressions, value}
 use Rattle.prl_body.proofs.machines.write_outputs.Given as goal
 
 abbrev pub invariant-loop-k : goal.invariant-loop-k

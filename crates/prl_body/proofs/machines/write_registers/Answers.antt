@@ -1,7 +1,5 @@
 use Rattle.std.proofs.Common.{add-one, ap, length, sym, ◌∙◌}
-use Rattle.prl_body.specs.declared.bodies.Register.{Register}
-use Rattle.prl_body.specs.Codes.{expression_of}
-use Rattle.prl_body.specs.Values.{value}
+use Rattle.prl_body.specs.Vocabulary.{Register, expression_of, value}
 use Rattle.prl_body.proofs.Steps.{take_set_map}
 use Rattle.prl_body.proofs.machines.write_registers.Goals as goal
 

@@ -1,6 +1,5 @@
 use Rattle.std.proofs.Common.{◌≡◌, take, map}
-use Rattle.prl_body.specs.Bodies.{next_expressions}
-use Rattle.prl_body.specs.Values.{value}
+use Rattle.prl_body.specs.Vocabulary.{next_expressions, value}
 use Rattle.prl_body.proofs.machines.write_registers.Given as goal
 
 abbrev pub invariant-loop-k : goal.invariant-loop-k

@@ -1,6 +1,5 @@
 use Rattle.std.proofs.Common.{◌≡◌, sym, ap, ◌∙◌, refl, None}
-use Rattle.prl_body.specs.NameChecks.{unknown_name}
-use Rattle.prl_body.specs.Texts.{tree_of}
+use Rattle.prl_body.specs.Vocabulary.{unknown_name, tree_of}
 use Rattle.prl_body.proofs.TextSeries.{tree_of_Series}
 use Rattle.prl_body.proofs.names.+unknown_name.Goals as goal
 

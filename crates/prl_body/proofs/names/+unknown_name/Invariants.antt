@@ -1,6 +1,5 @@
 use Rattle.std.proofs.Common.{◌≡◌, drop}
-use Rattle.prl_body.specs.NameChecks.{unknown_name, unknown_name_in}
-use Rattle.prl_body.specs.Texts.{tree_of, pair_trees}
+use Rattle.prl_body.specs.Vocabulary.{unknown_name, unknown_name_in, tree_of, pair_trees}
 use Rattle.prl_body.proofs.names.+unknown_name.Given as goal
 
 abbrev pub invariant-loop-pair : goal.invariant-loop-pair

@@ -1,6 +1,5 @@
 use Rattle.std.proofs.Common.{◌≡◌, take, drop, [], map}
-use Rattle.prl_body.specs.NameChecks.{statement_fault}
-use Rattle.prl_body.specs.Texts.{statement_tree}
+use Rattle.prl_body.specs.Vocabulary.{statement_fault, statement_tree}
 use Rattle.prl_body.proofs.names.statement_fault.Given as goal
 
 abbrev pub invariant-loop-k : goal.invariant-loop-k

@@ -1,6 +1,5 @@
 use Rattle.std.proofs.Common.{◌≡◌, take, drop, map, []}
-use Rattle.prl_body.specs.Checks.{checked_bodies, body_tree}
-use Rattle.prl_body.specs.Texts.{text_tree}
+use Rattle.prl_body.specs.Vocabulary.{checked_bodies, body_tree, text_tree}
 use Rattle.prl_body.proofs.Lists.{added_to}
 use Rattle.prl_body.proofs.program_bodies.checked_bodies.Given as goal
 

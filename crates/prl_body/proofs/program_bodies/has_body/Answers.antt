@@ -1,7 +1,6 @@
 use Rattle.std.proofs.Common.{◌≡◌, ◌∙◌, ◌&&◌, Bool, map, refl, sym, ap, Some, None}
 use Rattle.std.specs.Option.{is_some, option_copied}
-use Rattle.prl_body.specs.Checks.{body_tree, import_named}
-use Rattle.prl_body.specs.Texts.{text_tree}
+use Rattle.prl_body.specs.Vocabulary.{body_tree, import_named, text_tree}
 use Rattle.prl_body.proofs.ThereBodies.{there}
 use Rattle.prl_body.proofs.program_bodies.has_body.Goals as goal
 

@@ -2,12 +2,7 @@ use Rattle.std.proofs.Common.{◌≡◌, suc, List, ◌+◌, Result, Ok, sym, ap
 use Rattle.std.proofs.lemmas.List.{drop_all}
 use Rattle.std.proofs.lemmas.Result.{err_from_is_err_and}
 use Rattle.prl_base.specs.declared.values.Ty.{Ty}
-use Rattle.prl_body.specs.declared.faults.BodyFault.{BodyFault}
-use Rattle.prl_body.specs.declared.texts.ExprRight.{ExprRight}
-use Rattle.prl_body.specs.Codes.{expression_of, pair_expressions}
-use Rattle.prl_body.specs.Expressions.{Expression, Rights}
-use Rattle.prl_body.specs.Texts.{tree_of, pair_trees}
-use Rattle.prl_body.specs.TypeChecks.{typed, typed_rights}
+use Rattle.prl_body.specs.Vocabulary.{BodyFault, ExprRight, expression_of, pair_expressions, Expression, Rights, tree_of, pair_trees, typed, typed_rights}
 use Rattle.prl_body.proofs.TextSeries.{tree_of_Series}
 use Rattle.prl_body.proofs.Typing.{expression_of_Series, typed_series, fails_series, rights_step, with_rights_none, prepended}
 use Rattle.prl_body.proofs.types.+typing.Goals as goal

@@ -1,6 +1,5 @@
 use Rattle.std.proofs.Common.{◌≡◌, drop}
-use Rattle.prl_body.specs.Texts.{pair_trees}
-use Rattle.prl_body.specs.TypeChecks.{typed_rights}
+use Rattle.prl_body.specs.Vocabulary.{pair_trees, typed_rights}
 use Rattle.prl_body.proofs.Typing.{prepended}
 use Rattle.prl_body.proofs.types.+typing.Given as goal
 

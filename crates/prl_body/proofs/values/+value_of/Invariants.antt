@@ -1,6 +1,5 @@
 use Rattle.std.proofs.Common.{◌≡◌, drop}
-use Rattle.prl_body.specs.Codes.{expression_of}
-use Rattle.prl_body.specs.Values.{value}
+use Rattle.prl_body.specs.Vocabulary.{expression_of, value}
 use Rattle.prl_body.proofs.Series.{along}
 use Rattle.prl_body.proofs.values.+value_of.Given as goal
 

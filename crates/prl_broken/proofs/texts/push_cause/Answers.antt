@@ -2,9 +2,8 @@ use Rattle.std.proofs.Common.{◌≡◌, ◌++◌, ◌∙◌, ℕ, List, ap, app
 use Rattle.std.specs.Prelude.{codes}
 use Rattle.prl_base.specs.declared.numbers.TaskNo.{TaskNo}
 use Rattle.prl_broken.specs.declared.causes.Cause.TheVariants as causes
-use Rattle.prl_broken.specs.declared.causes.DatedJob.{DatedJob}
+use Rattle.prl_broken.specs.Vocabulary.{DatedJob, cause_text, job_text, name_text, number_text}
 use Rattle.prl_schedules.specs.ScheduleTexts.{task_names}
-use Rattle.prl_broken.specs.CauseTexts.{cause_text, job_text, name_text, number_text}
 use Rattle.prl_broken.proofs.texts.push_cause.Goals as goal
 
 two : (old a b mid new : List ℕ) → mid ≡ old ++ a → new ≡ mid ++ b → new ≡ old ++ (a ++ b)

@@ -1,7 +1,6 @@
 use Rattle.std.proofs.Common.{◌≡◌, ℕ, List, length, sum, take, ap, sym, ◌∙◌, subst, arith}
 use Rattle.std.proofs.lemmas.List.Sums.{sum_by-take-le}
-use Rattle.prl_plan.specs.Cells.{EnumeratesUsed}
-use Rattle.prl_plan.specs.CellLists.{ListsSums}
+use Rattle.prl_plan.specs.Vocabulary.{EnumeratesUsed, ListsSums}
 use Rattle.prl_buffers.specs.code.Edges.{HasLeastCount}
 use Rattle.prl_buffers.proofs.EdgeNumbers.{numbers_small}
 use Rattle.prl_buffers.proofs.EdgeCells.{some_gap, sum_small, enumerates_cut, least_cut}

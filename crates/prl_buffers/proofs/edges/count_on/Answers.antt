@@ -2,8 +2,7 @@ use Rattle.std.proofs.Common.{rules, ◌≡◌, ℕ, List, length, ap, ◌∙◌
 use Rattle.prl_plan.specs.Words.{number_at}
 use Rattle.prl_plan.proofs.CellPeriods.{inside_from}
 use Rattle.prl_plan.proofs.RoundPeriods.{task_is}
-use Rattle.prl_buffers.specs.code.Counts.{IsLeastTurn}
-use Rattle.prl_buffers.specs.code.Edges.{AreReleases, AreEnds}
+use Rattle.prl_buffers.specs.Vocabulary.{IsLeastTurn, AreReleases, AreEnds}
 use Rattle.prl_buffers.proofs.EdgeNumbers.{edge_is, numbers_small}
 use Rattle.prl_buffers.proofs.EdgeCells.{releases_fit, ends_fit, released, ends_small, least_is}
 use Rattle.prl_buffers.proofs.edges.count_on.Goals as goal

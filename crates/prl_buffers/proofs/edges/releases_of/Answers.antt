@@ -3,8 +3,8 @@ use Rattle.std.proofs.lemmas.Bool.{cases_lt}
 use Rattle.std.proofs.lemmas.List.{length_push, get_or_push, get_or_append_left}
 use Rattle.std.proofs.lemmas.List.Sums.{sum_by_more}
 use Rattle.prl_base.specs.declared.operators.Clock.{Clock}
-use Rattle.prl_plan.specs.declared.tables.Window.{Window}
 use Rattle.prl_plan.specs.Jobs.{task_at}
+use Rattle.prl_plan.specs.declared.tables.Window.{Window}
 use Rattle.prl_buffers.specs.code.Edges.{release_in}
 use Rattle.prl_buffers.proofs.edges.releases_of.Goals as goal
 

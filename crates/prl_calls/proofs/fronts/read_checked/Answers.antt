@@ -1,7 +1,7 @@
 use Rattle.std.proofs.Common.{◌++◌, List}
 use Rattle.std.proofs.lemmas.Result.{err_from_is_err_and}
-use Rattle.prl_stages.specs.declared.stages.Stage.{Stage}
 use Rattle.prl_stages.specs.Stages.{front, graphed, named_bodies}
+use Rattle.prl_stages.specs.declared.stages.Stage.{Stage}
 use Rattle.prl_calls.specs.Stops.{given_of, AllHold, StopsIn}
 use Rattle.prl_calls.specs.declared.reading.Request.{Request}
 use Rattle.prl_calls.proofs.Stops.{both_hold, err_map, ok_map, stops_first, stops_rest}

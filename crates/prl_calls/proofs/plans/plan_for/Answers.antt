@@ -1,6 +1,5 @@
 use Rattle.std.proofs.Common.{◌++◌}
-use Rattle.prl_stages.specs.PlansAlone.{IsNoPlan}
-use Rattle.prl_stages.specs.Stages.{front, graphed, planned}
+use Rattle.prl_stages.specs.Vocabulary.{IsNoPlan, front, graphed, planned}
 use Rattle.prl_calls.specs.Stops.{given_of, StopsIn}
 use Rattle.prl_calls.proofs.Stops.{err_map, stops_no_plan}
 use Rattle.prl_calls.proofs.plans.plan_for.Goals as goal

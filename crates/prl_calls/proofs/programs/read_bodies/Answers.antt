@@ -1,8 +1,7 @@
 use Rattle.std.proofs.Common.{Ok, map, inl, inr}
 use Rattle.std.proofs.lemmas.Result.{err_from_is_err_and}
 use Rattle.prl_ast.specs.Trees.{program_tree}
-use Rattle.prl_body.specs.Checks.{body_tree}
-use Rattle.prl_body.specs.Texts.{text_trees}
+use Rattle.prl_body.specs.Vocabulary.{body_tree, text_trees}
 use Rattle.prl_bodytext.specs.Parsing.{IsParsed}
 use Rattle.prl_calls.specs.Stops.{given_of}
 use Rattle.prl_calls.proofs.Stops.{bodies_stop}

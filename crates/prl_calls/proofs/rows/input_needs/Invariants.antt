@@ -1,7 +1,6 @@
 use Rattle.std.proofs.Common.{◌≡◌, map, take}
 use Rattle.prl_base.specs.declared.numbers.FlowNo.{FlowNo}
-use Rattle.prl_flow.specs.Counts.{dates_before}
-use Rattle.prl_flow.specs.Solutions.{clock_of}
+use Rattle.prl_flow.specs.Vocabulary.{dates_before, clock_of}
 use Rattle.prl_calls.proofs.rows.input_needs.Given as goal
 
 -- the needs of the flows so far

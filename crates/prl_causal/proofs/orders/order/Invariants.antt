@@ -1,6 +1,5 @@
 use Rattle.std.proofs.Common.{◌<◌, ℕ, []}
-use Rattle.prl_causal.specs.code.Parts.{IsMarked}
-use Rattle.prl_causal.specs.code.Sorting.{IsSorted}
+use Rattle.prl_causal.specs.Vocabulary.{IsMarked, IsSorted}
 use Rattle.prl_causal.proofs.orders.order.Given as goal
 
 abbrev pub invariant-loop-from : goal.invariant-loop-from

@@ -1,6 +1,5 @@
 use Rattle.std.proofs.Common.{ℕ, length}
-use Rattle.prl_causal.specs.code.Parts.{IsMarked}
-use Rattle.prl_causal.specs.code.Sorting.{IsSorted, left}
+use Rattle.prl_causal.specs.Vocabulary.{IsMarked, IsSorted, left}
 use Rattle.prl_causal.proofs.orders.visit.Given as goal
 
 abbrev pub invariant-loop-top : goal.invariant-loop-top

@@ -1,6 +1,5 @@
 use Rattle.std.proofs.Common.{◌-◌, length}
-use Rattle.prl_causal.specs.code.Searches.{AreOpened, IsUnderWay}
-use Rattle.prl_causal.specs.code.Sources.{UsesBy}
+use Rattle.prl_causal.specs.Vocabulary.{AreOpened, IsUnderWay, UsesBy}
 use Rattle.prl_causal.proofs.searches.follow.Given as goal
 
 abbrev pub invariant-loop-done : goal.invariant-loop-done

@@ -1,6 +1,5 @@
 use Rattle.std.proofs.Common.{take}
-use Rattle.prl_causal.specs.code.Searches.{Adds}
-use Rattle.prl_causal.specs.code.Sources.{IsAmong}
+use Rattle.prl_causal.specs.Vocabulary.{Adds, IsAmong}
 use Rattle.prl_causal.proofs.searches.reach_all.Given as goal
 
 abbrev pub invariant-loop-arg : goal.invariant-loop-arg

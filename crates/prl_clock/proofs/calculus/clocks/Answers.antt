@@ -1,7 +1,5 @@
 use Rattle.std.proofs.Common.{◌<◌, List, ℕ, length, sym, subst, ◌∙◌}
-use Rattle.prl_clock.specs.code.Finishing.{IsFirstFree}
-use Rattle.prl_clock.specs.code.Standings.{HasClock}
-use Rattle.prl_clock.specs.declared.standings.Standing.{Standing}
+use Rattle.prl_clock.specs.Vocabulary.{IsFirstFree, HasClock, Standing}
 use Rattle.prl_clock.proofs.Finishing.{fault_of_stop, free_is}
 use Rattle.prl_clock.proofs.Taking.{if_err_same}
 use Rattle.prl_clock.proofs.calculus.clocks.Goals as goal

@@ -1,10 +1,7 @@
 use Rattle.std.proofs.Common.{◌≡◌, ◌<◌, ◌+◌, ◌++◌, ◌∷◌, [], List, ℕ, is_ok, length, length-append, Some, sym, ap, ◌∙◌, subst, arith}
 use Rattle.prl_base.specs.declared.operators.Clock.{Clock}
 use Rattle.prl_flow.specs.Solutions.{clock_of}
-use Rattle.prl_clock.specs.code.Finishing.{IsWholeClock}
-use Rattle.prl_clock.specs.declared.timings.Timing.{Timing}
-use Rattle.prl_clock.specs.code.Standings.{standing_at}
-use Rattle.prl_clock.specs.declared.standings.Standing.{Standing}
+use Rattle.prl_clock.specs.Vocabulary.{IsWholeClock, Timing, standing_at, Standing}
 use Rattle.prl_clock.proofs.Loops.{item_is}
 use Rattle.prl_clock.proofs.Finishing.{not_whole_is, whole_are, clock_pushed, if_true}
 use Rattle.prl_clock.proofs.calculus.whole_clocks.Goals as goal

@@ -1,8 +1,6 @@
 use Rattle.std.proofs.Common.{◌≡◌, ◌<◌, ℕ, Some, length}
 use Rattle.prl_flow.specs.Solutions.{clock_of}
-use Rattle.prl_clock.specs.code.Finishing.{IsWholeClock}
-use Rattle.prl_clock.specs.code.Standings.{standing_at}
-use Rattle.prl_clock.specs.declared.timings.Timing.{Timing}
+use Rattle.prl_clock.specs.Vocabulary.{IsWholeClock, standing_at, Timing}
 use Rattle.prl_clock.proofs.calculus.whole_clocks.Given as goal
 
 abbrev pub invariant-loop-i : goal.invariant-loop-i

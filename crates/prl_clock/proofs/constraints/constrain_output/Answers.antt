@@ -1,11 +1,10 @@
 use Rattle.std.proofs.Common.{◌≡◌, ◌<◌, ◌≤◌, ◌∷◌, [], List, length, map, get_or, Some, slice_get, subst, ap, ◌∙◌, arith, refl}
 use Rattle.std.proofs.lemmas.Option.{slice_get-get_or, slice_get_read, slice_get_within}
 use Rattle.prl_base.specs.declared.numbers.FlowNo.{FlowNo}
+use Rattle.prl_flow.specs.Programs.{IsApplication}
 use Rattle.prl_flow.specs.declared.programs.App.{App}
 use Rattle.prl_flow.specs.declared.programs.Arg.{Arg}
-use Rattle.prl_flow.specs.Programs.{IsApplication}
-use Rattle.prl_clock.specs.declared.timings.Timing.{Timing}
-use Rattle.prl_clock.specs.Constraints.{argument_constraint, output_constraints, related, same_clock}
+use Rattle.prl_clock.specs.Vocabulary.{Timing, argument_constraint, output_constraints, related, same_clock}
 use Rattle.prl_clock.proofs.Taking.{first_constraints, later_constraints, reached_as, stopped_as}
 use Rattle.prl_clock.proofs.constraints.constrain_output.Goals as goal
 use Rattle.prl_clock.proofs.constraints.constrain_output.Goals.{After-index-apps-app, After-as_slice-else-out-eq0, After-same_clock}

@@ -2,9 +2,7 @@ use Rattle.std.proofs.Common.{◌<◌, ◌++◌, ◌∷◌, [], List, map, take,
 use Rattle.std.proofs.lemmas.List.{take_all}
 use Rattle.std.proofs.lemmas.Option.{slice_get-get_or}
 use Rattle.prl_flow.specs.declared.programs.Arg.{Arg}
-use Rattle.prl_clock.specs.Constraints.{argument_constraint, related}
-use Rattle.prl_clock.specs.code.Progress.{IsReached, IsStopped}
-use Rattle.prl_clock.specs.declared.timings.Timing.{Timing}
+use Rattle.prl_clock.specs.Vocabulary.{argument_constraint, related, IsReached, IsStopped, Timing}
 use Rattle.prl_clock.proofs.Taking.{if_err_same, reached_next, stopped_next}
 use Rattle.prl_clock.proofs.constraints.relate_arguments.Goals as goal
 

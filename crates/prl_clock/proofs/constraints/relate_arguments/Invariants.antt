@@ -1,6 +1,5 @@
 use Rattle.std.proofs.Common.{◌++◌, List, map, take}
-use Rattle.prl_clock.specs.Constraints.{Placed, argument_constraint}
-use Rattle.prl_clock.specs.code.Progress.{IsReached}
+use Rattle.prl_clock.specs.Vocabulary.{Placed, argument_constraint, IsReached}
 use Rattle.prl_clock.proofs.constraints.relate_arguments.Given as goal
 
 abbrev pub invariant-loop-arg : goal.invariant-loop-arg

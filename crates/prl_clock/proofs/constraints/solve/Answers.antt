@@ -1,7 +1,5 @@
 use Rattle.std.proofs.Common.{◌<◌, ◌∙◌, List, ap, length, arith, sym, subst}
-use Rattle.prl_clock.specs.declared.standings.Standing.{Standing}
-use Rattle.prl_clock.specs.Constraints.{constraints_below}
-use Rattle.prl_clock.specs.code.Progress.{IsReached}
+use Rattle.prl_clock.specs.Vocabulary.{Standing, constraints_below, IsReached}
 use Rattle.prl_clock.proofs.Fine.{fine_none}
 use Rattle.prl_clock.proofs.Taking.{stopped_below, stop_of, if_err_same, reached_below, reached_end}
 use Rattle.prl_clock.proofs.constraints.solve.Goals as goal

@@ -1,5 +1,4 @@
-use Rattle.prl_clock.specs.Constraints.{constraints_below}
-use Rattle.prl_clock.specs.code.Progress.{IsReached}
+use Rattle.prl_clock.specs.Vocabulary.{constraints_below, IsReached}
 use Rattle.prl_clock.proofs.constraints.solve.Given as goal
 
 abbrev pub invariant-loop-x : goal.invariant-loop-x

@@ -3,9 +3,8 @@ use borrow.Author.Differences.{up, down}
 use mir.Val.{to_z, of_z, SFits}
 use Rattle.std.proofs.lemmas.Int.{to_z-of_z}
 use Rattle.std.specs.Prelude.{Result}
-use Rattle.prl_base.specs.Ratios.{Fraction}
+use Rattle.prl_base.specs.Vocabulary.{Fraction, IsReduction}
 use Rattle.prl_base.specs.declared.ratios.Past.{Past}
-use Rattle.prl_base.specs.Reductions.{IsReduction}
 use Rattle.prl_clock.proofs.Reducing.{total, below_is, above_is, positive3}
 use Rattle.prl_clock.proofs.fractions.sum_of_parts.Goals as goal
 use Rattle.prl_clock.proofs.fractions.sum_of_parts.Goals.{After-product-6}

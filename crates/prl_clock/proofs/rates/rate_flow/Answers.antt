@@ -1,8 +1,5 @@
 use Rattle.std.proofs.Common.{◌≡◌, refl, sym, subst, ◌∙◌}
-use Rattle.prl_clock.specs.Constraints.{timing_of_rate}
-use Rattle.prl_clock.specs.code.Rates.{IsReducedTiming}
-use Rattle.prl_clock.specs.declared.timings.Timing.{Timing}
-use Rattle.prl_clock.specs.code.Standings.{standing_at}
+use Rattle.prl_clock.specs.Vocabulary.{timing_of_rate, IsReducedTiming, Timing, standing_at}
 use Rattle.prl_clock.proofs.Loops.{item_is}
 use Rattle.prl_clock.proofs.Rated.{rate_link, rate_lowest, has_solved, has_refused, consistent, start_past, nonzero_over, over_past, one_past, timed_solved}
 use Rattle.prl_clock.proofs.Terms.{if_limit}

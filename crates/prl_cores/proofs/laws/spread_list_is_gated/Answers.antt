@@ -1,7 +1,5 @@
 use Rattle.std.specs.Prelude.{pos, nat_abs, slice_index}
-use Rattle.prl_plan.specs.Dates.{encoded_release}
-use Rattle.prl_plan.specs.Horizons.{constants_of, constants_on}
-use Rattle.prl_plan.specs.Runs.{opening}
+use Rattle.prl_plan.specs.Vocabulary.{encoded_release, constants_of, constants_on, opening}
 use Rattle.prl_cores.proofs.SpreadFacts.{no_earlier}
 use Rattle.prl_cores.proofs.Earlier.{gated_list_earlier}
 use Rattle.prl_cores.proofs.laws.spread_list_is_gated.Goals as goal

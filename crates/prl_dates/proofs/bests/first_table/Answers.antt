@@ -1,6 +1,5 @@
 use Rattle.std.proofs.Common.{◌≡◌, ◌+◌, ◌++◌, ℕ, List, replicate, sym, ap, subst, ◌∙◌}
-use Rattle.prl_dates.specs.Faults.{jobs_of}
-use Rattle.prl_dates.specs.code.Tables.{IsFirstTable}
+use Rattle.prl_dates.specs.Vocabulary.{jobs_of, IsFirstTable}
 use Rattle.prl_dates.proofs.FirstTables.{first_more}
 use Rattle.prl_dates.proofs.bests.first_table.Goals as goal
 

@@ -4,10 +4,8 @@ use Rattle.std.proofs.Math.Nat.{mul-le-mul_right}
 use Rattle.std.proofs.lemmas.Int.{to_z_pos}
 use Rattle.prl_plan.proofs.RoundPeriods.{task_is}
 use Rattle.prl_dates.specs.declared.bests.First.TheVariants as firsts
-use Rattle.prl_dates.specs.declared.faults.DateFault.{DateFault}
+use Rattle.prl_dates.specs.Vocabulary.{DateFault, IsDateFault, AreWithin}
 use Rattle.prl_dates.specs.declared.faults.DateFault.TheVariants as faults
-use Rattle.prl_dates.specs.Faults.{IsDateFault}
-use Rattle.prl_dates.specs.code.Tables.{AreWithin}
 use Rattle.prl_dates.proofs.LaneSteps.{few_jobs}
 use Rattle.prl_dates.proofs.Settles.{first_bests, late_fault, within_dues, loop_fault, round_still}
 use Rattle.prl_dates.proofs.Indices.{before_all}

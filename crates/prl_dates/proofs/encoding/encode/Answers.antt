@@ -1,15 +1,9 @@
 use Rattle.std.proofs.Common.{◌≡◌, ◌+◌, ◌<◌, ◌≤◌, ℕ, List, length, sym, subst, ◌∙◌, arith}
 use Rattle.std.specs.Prelude.{slice_index}
 use Rattle.std.proofs.lemmas.List.{with_items_is}
+use Rattle.prl_plan.specs.Vocabulary.{AreEncodedDates, task_at, HaveRoom, AreShortWindows}
 use Rattle.prl_plan.specs.declared.tables.Window.{Window}
-use Rattle.prl_plan.specs.Dates.{AreEncodedDates}
-use Rattle.prl_plan.specs.Jobs.{task_at}
-use Rattle.prl_plan.specs.Plans.{HaveRoom, AreShortWindows}
-use Rattle.prl_dates.specs.declared.lanes.Lane.{Lane}
-use Rattle.prl_dates.specs.Faults.{jobs_of}
-use Rattle.prl_dates.specs.code.Indices.{jobs_before}
-use Rattle.prl_dates.specs.code.Tables.{AreFinal, AreUpperDates, LeaveAll}
-use Rattle.prl_dates.specs.code.Windows.{AreWindows}
+use Rattle.prl_dates.specs.Vocabulary.{Lane, jobs_of, jobs_before, AreFinal, AreUpperDates, LeaveAll, AreWindows}
 use Rattle.prl_dates.proofs.DateTables.{best_room, first_dates, dates_made, room_made, short_made}
 use Rattle.prl_dates.proofs.Indices.{before_all}
 use Rattle.prl_dates.proofs.encoding.encode.Goals as goal

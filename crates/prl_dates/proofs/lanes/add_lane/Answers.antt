@@ -1,10 +1,9 @@
 use Rattle.std.proofs.Common.{◌≡◌, ◌+◌, ℕ, List, get_or, Some, sym, ap, subst, ◌∙◌}
 use Rattle.std.specs.Prelude.{slice_get}
+use Rattle.prl_plan.specs.Precedence.{ComesFrom}
 use Rattle.prl_plan.specs.declared.graphs.Edge.{Edge}
 use Rattle.prl_plan.specs.declared.graphs.Producer.{Producer}
-use Rattle.prl_plan.specs.Precedence.{ComesFrom}
-use Rattle.prl_dates.specs.declared.lanes.Lane.{Lane}
-use Rattle.prl_dates.specs.code.Lanes.{IsJoined, AreLanesOf}
+use Rattle.prl_dates.specs.Vocabulary.{Lane, IsJoined, AreLanesOf}
 use Rattle.prl_dates.proofs.Readings.{item_stands}
 use Rattle.prl_dates.proofs.LaneSteps.{lanes_same, lanes_more}
 use Rattle.prl_dates.proofs.lanes.add_lane.Goals as goal

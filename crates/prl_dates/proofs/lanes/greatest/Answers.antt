@@ -3,15 +3,11 @@ use Rattle.std.specs.Prelude.{ℤ, pos, slice_get, slice_index_or}
 use Rattle.std.specs.Int.{int_max}
 use Rattle.std.proofs.lemmas.List.{get_or_default, with_items_is}
 use Rattle.prl_base.specs.declared.operators.Op.{Op}
+use Rattle.prl_plan.specs.Vocabulary.{IsWellFormed, preceding, PrecedingFits}
 use Rattle.prl_plan.specs.declared.graphs.Edge.{Edge}
 use Rattle.prl_plan.specs.declared.graphs.TaskGraph.{TaskGraph}
-use Rattle.prl_plan.specs.Graphs.{IsWellFormed}
-use Rattle.prl_plan.specs.Precedence.{preceding}
-use Rattle.prl_plan.specs.Ranges.{PrecedingFits}
 use Rattle.prl_plan.proofs.ReaderLaws.{preceding_rises}
-use Rattle.prl_dates.specs.Faults.{jobs_of}
-use Rattle.prl_dates.specs.code.Lanes.{Joins, AreGreatest}
-use Rattle.prl_dates.specs.code.Runs.{Rises}
+use Rattle.prl_dates.specs.Vocabulary.{jobs_of, Joins, AreGreatest, Rises}
 use Rattle.prl_dates.proofs.Readings.{item_stands}
 use Rattle.prl_dates.proofs.LaneSteps.{joins_edge, joins_inside, joined_fits, greatest_first, greatest_more, greatest_same}
 use Rattle.prl_dates.proofs.lanes.greatest.Goals as goal

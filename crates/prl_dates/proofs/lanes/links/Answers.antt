@@ -1,11 +1,9 @@
 use Rattle.std.proofs.Common.{◌≡◌, ◌+◌, ◌<◌, ◌++◌, w64, to_z, of_z, ℕ, List, [], ◌∷◌, length, get_or, Some, inl, inr, refl, sym, ap, subst, ◌∙◌, arith}
 use Rattle.std.specs.Prelude.{ℤ, pos, slice_get}
 use Rattle.std.proofs.lemmas.Int.{to_z-of_z}
-use Rattle.prl_plan.specs.declared.graphs.TaskGraph.{TaskGraph}
 use Rattle.prl_plan.specs.Graphs.{IsWellFormed}
-use Rattle.prl_dates.specs.declared.lanes.Link.{Link}
-use Rattle.prl_dates.specs.Faults.{jobs_of}
-use Rattle.prl_dates.specs.code.Lanes.{IsGreatestBefore, AreGreatest, IsLinkOf}
+use Rattle.prl_plan.specs.declared.graphs.TaskGraph.{TaskGraph}
+use Rattle.prl_dates.specs.Vocabulary.{Link, jobs_of, IsGreatestBefore, AreGreatest, IsLinkOf}
 use Rattle.prl_dates.proofs.LaneSteps.{got_pushed, are_near, near_fits, greatest_all}
 use Rattle.prl_dates.proofs.lanes.links.Goals as goal
 

@@ -1,7 +1,6 @@
 use Rattle.std.proofs.Common.{◌≡◌, ℕ, Some, length, slice_index_or}
 use Rattle.std.specs.Prelude.{pos, slice_get}
-use Rattle.prl_dates.specs.declared.lanes.Link.{Link}
-use Rattle.prl_dates.specs.code.Lanes.{IsLinkOf}
+use Rattle.prl_dates.specs.Vocabulary.{Link, IsLinkOf}
 use Rattle.prl_dates.proofs.lanes.links.Given as goal
 
 abbrev pub invariant-loop-n : goal.invariant-loop-n

@@ -1,6 +1,5 @@
 use Rattle.std.proofs.Common.{◌≡◌, drop}
-use Rattle.prl_plan.specs.Precedence.{preceding}
-use Rattle.prl_plan.specs.Ranges.{PrecedingFits}
+use Rattle.prl_plan.specs.Vocabulary.{preceding, PrecedingFits}
 use Rattle.prl_dates.proofs.numbers.preceding_job.Given as goal
 
 -- the operators to come lead from the number to the same job

@@ -1,8 +1,7 @@
 use Rattle.std.proofs.Common.{◌≡◌, ◌+◌, ℕ, List, length, Some, Bool, false, sym, subst, arith}
 use Rattle.std.specs.Prelude.{slice_get, slice_index_or}
 use Rattle.prl_plan.specs.Jobs.{task_at}
-use Rattle.prl_dates.specs.code.Lanes.{IsLane}
-use Rattle.prl_dates.specs.code.Tables.{AreRaised, AreRound}
+use Rattle.prl_dates.specs.Vocabulary.{IsLane, AreRaised, AreRound}
 use Rattle.prl_dates.proofs.Readings.{item_stands}
 use Rattle.prl_dates.proofs.RoundSteps.{round_more, round_same, links_from, links_to}
 use Rattle.prl_dates.proofs.rounds.round.Goals as goal

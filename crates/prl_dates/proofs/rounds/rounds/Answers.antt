@@ -1,7 +1,5 @@
 use Rattle.std.proofs.Common.{rules, ◌≡◌, ◌+◌, ◌-◌, ◌*◌, ◌^◌, ℕ, List, length, sym, subst, arith}
-use Rattle.prl_dates.specs.code.Families.{AreBests, IsRound}
-use Rattle.prl_dates.specs.code.Indices.{dates_of}
-use Rattle.prl_dates.specs.code.Tables.{AreRound, AreSettled, AreWithin}
+use Rattle.prl_dates.specs.Vocabulary.{AreBests, IsRound, dates_of, AreRound, AreSettled, AreWithin}
 use Rattle.prl_dates.proofs.BestRounds.{next_bests, still_bests}
 use Rattle.prl_dates.proofs.TableRounds.{round_of_tables}
 use Rattle.prl_dates.proofs.RoundSteps.{next_within, next_settled}

@@ -1,7 +1,5 @@
 use Rattle.std.proofs.Common.{◌≡◌, ◌+◌, ◌*◌, ◌^◌}
-use Rattle.prl_dates.specs.code.Families.{AreBests}
-use Rattle.prl_dates.specs.code.Indices.{dates_of}
-use Rattle.prl_dates.specs.code.Tables.{AreSettled, AreWithin}
+use Rattle.prl_dates.specs.Vocabulary.{AreBests, dates_of, AreSettled, AreWithin}
 use Rattle.prl_dates.proofs.rounds.rounds.Given as goal
 
 abbrev pub invariant-loop-count : goal.invariant-loop-count

@@ -3,8 +3,7 @@ use Rattle.std.specs.Prelude.{ℤ, pos, ◌+ℤ◌, FitsSigned}
 use Rattle.std.proofs.lemmas.Bool.{cases_lt}
 use Rattle.std.proofs.lemmas.Int.{to_z-of_z}
 use Rattle.std.proofs.lemmas.List.{get_or_append_left, get_or_push, length_push}
-use Rattle.prl_plan.specs.Precedence.{preceding}
-use Rattle.prl_plan.specs.Ranges.{Fits64}
+use Rattle.prl_plan.specs.Vocabulary.{preceding, Fits64}
 use Rattle.prl_dates.proofs.TurnSteps.{first_fits, next_sum}
 use Rattle.prl_dates.proofs.runs.numbers_over.Goals as goal
 

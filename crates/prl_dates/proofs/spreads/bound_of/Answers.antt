@@ -1,9 +1,8 @@
 use Rattle.std.proofs.Common.{◌≡◌, List, ap, ◌∙◌, arith}
 use Rattle.std.specs.Prelude.{pos}
+use Rattle.prl_plan.specs.Vocabulary.{window_at, task_at}
 use Rattle.prl_plan.specs.declared.graphs.TaskGraph.{TaskGraph}
 use Rattle.prl_plan.specs.declared.tables.Window.{Window}
-use Rattle.prl_plan.specs.Dates.{window_at}
-use Rattle.prl_plan.specs.Jobs.{task_at}
 use Rattle.prl_dates.proofs.SpreadDates.{window_fits, window_small}
 use Rattle.prl_dates.proofs.spreads.bound_of.Goals as goal
 

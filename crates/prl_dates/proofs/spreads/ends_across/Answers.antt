@@ -1,6 +1,6 @@
 use Rattle.std.proofs.Common.{◌≡◌, ℕ, List, length, sym, subst}
-use Rattle.prl_plan.specs.declared.graphs.TaskGraph.{TaskGraph}
 use Rattle.prl_plan.specs.Graphs.{jobs_in_hyperperiod}
+use Rattle.prl_plan.specs.declared.graphs.TaskGraph.{TaskGraph}
 use Rattle.prl_dates.specs.declared.spreads.Bound.TheVariants as bounds
 use Rattle.prl_dates.specs.code.Lanes.{AreEachLane}
 use Rattle.prl_dates.proofs.SpreadDates.{table_long, deadlines_small}

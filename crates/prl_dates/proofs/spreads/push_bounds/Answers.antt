@@ -1,7 +1,6 @@
 use Rattle.std.proofs.Common.{◌≡◌, ◌+◌, List, ℕ, sym, ap, subst, arith}
 use Rattle.prl_plan.specs.declared.graphs.TaskGraph.{TaskGraph}
-use Rattle.prl_dates.specs.Faults.{jobs_of}
-use Rattle.prl_dates.specs.code.Spreads.{IsTablePart}
+use Rattle.prl_dates.specs.Vocabulary.{jobs_of, IsTablePart}
 use Rattle.prl_dates.proofs.SpreadSteps.{part_more}
 use Rattle.prl_dates.proofs.spreads.push_bounds.Goals as goal
 

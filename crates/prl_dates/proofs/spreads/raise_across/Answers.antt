@@ -2,9 +2,7 @@ use Rattle.std.proofs.Common.{◌≡◌, ◌+◌, ◌∙◌, ℕ, List, length, 
 use Rattle.std.specs.Prelude.{◌==◌, slice_get, slice_index}
 use Rattle.std.proofs.lemmas.Bool.{eq-eqb, eqb-true, both_ways}
 use Rattle.prl_plan.specs.Jobs.{task_at}
-use Rattle.prl_dates.specs.code.Lanes.{IsLane}
-use Rattle.prl_dates.specs.code.Tables.{AreRaised}
-use Rattle.prl_dates.specs.code.Spreads.{AreRaisedAcross}
+use Rattle.prl_dates.specs.Vocabulary.{IsLane, AreRaised, AreRaisedAcross}
 use Rattle.prl_dates.proofs.Readings.{item_stands}
 use Rattle.prl_dates.proofs.RoundSteps.{links_from, links_to}
 use Rattle.prl_dates.proofs.SpreadRounds.{across_more, across_same}

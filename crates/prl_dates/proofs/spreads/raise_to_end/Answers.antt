@@ -1,7 +1,6 @@
 use Rattle.std.proofs.Common.{rules, ◌≡◌, ◌-◌, ◌*◌, ◌<◌, ◌^◌, ℕ, List, length, sym, ◌∙◌, ap, subst, arith}
 use Rattle.std.specs.Prelude.{sum}
-use Rattle.prl_dates.specs.code.Tables.{AreSettled}
-use Rattle.prl_dates.specs.code.Spreads.{IsRising}
+use Rattle.prl_dates.specs.Vocabulary.{AreSettled, IsRising}
 use Rattle.prl_dates.proofs.RoundSteps.{next_settled}
 use Rattle.prl_dates.proofs.SpreadRounds.{ceiling_within, rising_more, rising_less}
 use Rattle.prl_dates.proofs.spreads.raise_to_end.Goals as goal

@@ -1,8 +1,7 @@
 use Rattle.std.proofs.Common.{◌≡◌, ◌-◌, ◌*◌, ◌^◌, length}
 use Rattle.std.specs.Prelude.{sum}
 use Rattle.prl_plan.specs.Graphs.{jobs_in_hyperperiod}
-use Rattle.prl_dates.specs.code.Spreads.{IsRising}
-use Rattle.prl_dates.specs.code.Tables.{AreSettled}
+use Rattle.prl_dates.specs.Vocabulary.{IsRising, AreSettled}
 use Rattle.prl_dates.proofs.spreads.raise_to_end.Given as goal
 
 abbrev pub invariant-loop-now : goal.invariant-loop-now

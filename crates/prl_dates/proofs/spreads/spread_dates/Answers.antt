@@ -1,14 +1,10 @@
 use Rattle.std.proofs.Common.{◌+◌, ◌<◌, ◌≤◌, ℕ, List, length, sym, ◌∙◌, ap, subst}
 use Rattle.std.specs.Prelude.{slice_index}
+use Rattle.prl_plan.specs.Vocabulary.{jobs_in_hyperperiod, task_at, IsSpread}
 use Rattle.prl_plan.specs.declared.graphs.TaskGraph.{TaskGraph}
 use Rattle.prl_plan.specs.declared.tables.Window.{Window}
-use Rattle.prl_plan.specs.Graphs.{jobs_in_hyperperiod}
-use Rattle.prl_plan.specs.Jobs.{task_at}
-use Rattle.prl_plan.specs.Spread.{IsSpread}
 use Rattle.prl_dates.specs.declared.spreads.Bound.TheVariants as bounds
-use Rattle.prl_dates.specs.Faults.{jobs_of}
-use Rattle.prl_dates.specs.code.Indices.{jobs_before}
-use Rattle.prl_dates.specs.code.Windows.{AreWindows}
+use Rattle.prl_dates.specs.Vocabulary.{jobs_of, jobs_before, AreWindows}
 use Rattle.prl_dates.proofs.SpreadDates.{table_long, end_room, windows_spread}
 use Rattle.prl_dates.proofs.spreads.spread_dates.Goals as goal
 

@@ -1,10 +1,8 @@
 use Rattle.std.proofs.Common.{◌≡◌, ℕ, List, length, sym, ◌∙◌, ap, subst, arith}
 use Rattle.std.proofs.lemmas.List.{with_items_is}
-use Rattle.prl_plan.specs.declared.graphs.TaskGraph.{TaskGraph}
 use Rattle.prl_plan.specs.Graphs.{jobs_in_hyperperiod}
-use Rattle.prl_dates.specs.declared.lanes.Lane.{Lane}
-use Rattle.prl_dates.specs.code.Lanes.{AreLanes, AreEachLane}
-use Rattle.prl_dates.specs.code.Spreads.{AreEndsAcross, HasCeiling, IsLeastAbove, AreSpreadEnds}
+use Rattle.prl_plan.specs.declared.graphs.TaskGraph.{TaskGraph}
+use Rattle.prl_dates.specs.Vocabulary.{Lane, AreLanes, AreEachLane, AreEndsAcross, HasCeiling, IsLeastAbove, AreSpreadEnds}
 use Rattle.prl_dates.proofs.SpreadDates.{within, each_within, across_ceiling, spread_made, ends_long}
 use Rattle.prl_dates.proofs.spreads.spread_ends.Goals as goal
 use Rattle.prl_dates.proofs.spreads.spread_ends.Goals.{After-as_slice}

@@ -1,6 +1,6 @@
 use Rattle.std.proofs.Common.{◌≡◌, List, length, take, sym, ap, subst, ◌∙◌, arith}
-use Rattle.prl_plan.specs.declared.tables.Window.{Window}
 use Rattle.prl_plan.specs.Repeats.{IsLeastRepeat}
+use Rattle.prl_plan.specs.declared.tables.Window.{Window}
 use Rattle.prl_dates.specs.code.Windows.{AreWindowsOf}
 use Rattle.prl_dates.proofs.DateTables.{cut_made}
 use Rattle.prl_dates.proofs.Indices.{some_jobs}

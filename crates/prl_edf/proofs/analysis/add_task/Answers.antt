@@ -1,9 +1,6 @@
 use Rattle.std.proofs.Common.{◌+◌, ◌<◌, ◌≤◌, ℕ, List, get_or, ap, arith}
-use Rattle.prl_plan.specs.Facts.{IsJob}
-use Rattle.prl_plan.specs.Horizons.{constants_of}
-use Rattle.prl_plan.specs.Runs.{RunConstants}
-use Rattle.prl_edf.specs.UnitLists.{wcets_of}
-use Rattle.prl_edf.specs.code.Starts.{cost_at}
+use Rattle.prl_plan.specs.Vocabulary.{IsJob, constants_of, RunConstants}
+use Rattle.prl_edf.specs.Vocabulary.{wcets_of, cost_at}
 use Rattle.prl_edf.proofs.FullUnits.{wcet_bounds}
 use Rattle.prl_edf.proofs.Starts.{count_bound, cost_at_small, added, not_added, sum_next}
 use Rattle.prl_edf.proofs.analysis.add_task.Goals as goal

@@ -1,7 +1,6 @@
 use Rattle.std.proofs.Common.{◌≡◌, ◌+◌, ◌≤◌, ℕ, slice_index}
 use Rattle.prl_plan.specs.Horizons.{constants_of, sum_below}
-use Rattle.prl_edf.specs.UnitLists.{wcets_of}
-use Rattle.prl_edf.specs.code.Starts.{cost_at}
+use Rattle.prl_edf.specs.Vocabulary.{wcets_of, cost_at}
 use Rattle.prl_edf.proofs.analysis.add_task.Given as goal
 
 -- the jobs so far are added

@@ -1,11 +1,7 @@
 use Rattle.std.proofs.Common.{ℕ, subst}
-use Rattle.prl_plan.specs.Horizons.{constants_of}
-use Rattle.prl_plan.specs.Runs.{RunConstants}
-use Rattle.prl_edf.specs.declared.runs.Outcome.{Outcome}
+use Rattle.prl_plan.specs.Vocabulary.{constants_of, RunConstants}
+use Rattle.prl_edf.specs.Vocabulary.{Outcome, ComesTo, run_of, wcets_of}
 use Rattle.prl_edf.specs.declared.runs.Outcome.TheVariants as outcomes
-use Rattle.prl_edf.specs.Outcomes.{ComesTo}
-use Rattle.prl_edf.specs.Pieces.{run_of}
-use Rattle.prl_edf.specs.UnitLists.{wcets_of}
 use Rattle.prl_edf.proofs.analysis.analyse.Goals as goal
 
 pub returns-in-Met : goal.returns-in-Met

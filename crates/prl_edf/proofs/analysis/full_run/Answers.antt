@@ -1,11 +1,8 @@
 use Rattle.std.proofs.Common.{ℕ, List, Global, map, vec_items, sym, subst}
 use Rattle.std.proofs.lemmas.Result.{IfOk-weaker}
 use Rattle.std.specs.declared.vec.Vec.{Vec}
-use Rattle.prl_plan.specs.Horizons.{constants_of}
-use Rattle.prl_plan.specs.Runs.{RunConstants}
-use Rattle.prl_edf.specs.Outcomes.{ComesTo}
-use Rattle.prl_edf.specs.UnitLists.{units_of, wcets_of}
-use Rattle.prl_edf.specs.code.Starts.{AreFullLists}
+use Rattle.prl_plan.specs.Vocabulary.{constants_of, RunConstants}
+use Rattle.prl_edf.specs.Vocabulary.{ComesTo, units_of, wcets_of, AreFullLists}
 use Rattle.prl_edf.proofs.FullUnits.{comes_as}
 use Rattle.prl_edf.proofs.analysis.full_run.Goals as goal
 

@@ -1,8 +1,7 @@
 use Rattle.std.proofs.Common.{◌≡◌, length, map, vec_items, refl, ap, arith}
 use Rattle.std.proofs.lemmas.List.{length-map}
+use Rattle.prl_plan.specs.Vocabulary.{constants_of, task_at}
 use Rattle.prl_plan.specs.declared.graphs.TaskGraph.{TaskGraph}
-use Rattle.prl_plan.specs.Horizons.{constants_of}
-use Rattle.prl_plan.specs.Jobs.{task_at}
 use Rattle.prl_edf.specs.UnitLists.{wcets_of}
 use Rattle.prl_edf.proofs.FullUnits.{wcet_bounds, full_lists}
 use Rattle.prl_edf.proofs.analysis.full_units.Goals as goal

@@ -1,6 +1,5 @@
 use Rattle.std.proofs.Common.{◌≡◌, ◌<◌, ℕ, [], length, map, vec_items, replicate, slice_index_or}
-use Rattle.prl_plan.specs.Horizons.{constants_of}
-use Rattle.prl_plan.specs.Jobs.{task_at}
+use Rattle.prl_plan.specs.Vocabulary.{constants_of, task_at}
 use Rattle.prl_edf.proofs.analysis.full_units.Given as goal
 
 -- the tasks so far have their lists

@@ -1,9 +1,7 @@
 use Rattle.std.proofs.Common.{◌≡◌, ◌+◌, ◌-◌, ◌≤◌, ℕ, suc, inl, inr, ap, sym, ◌∙◌, arith}
 use Rattle.std.proofs.lemmas.Bool.{cases_lt}
-use Rattle.prl_plan.specs.Horizons.{constants_of}
-use Rattle.prl_plan.specs.Runs.{RunConstants}
-use Rattle.prl_edf.specs.Demand.{demand}
-use Rattle.prl_edf.specs.UnitLists.{wcets_of}
+use Rattle.prl_plan.specs.Vocabulary.{constants_of, RunConstants}
+use Rattle.prl_edf.specs.Vocabulary.{demand, wcets_of}
 use Rattle.prl_edf.proofs.Starts.{nothing_past, demand_falls, one_earlier}
 use Rattle.prl_edf.proofs.analysis.greatest.Goals as goal
 

@@ -1,7 +1,6 @@
 use Rattle.std.proofs.Common.{◌≡◌, ◌+◌, ◌-◌, ◌<◌, ◌≤◌, ℕ}
 use Rattle.prl_plan.specs.Horizons.{constants_of}
-use Rattle.prl_edf.specs.Demand.{demand}
-use Rattle.prl_edf.specs.UnitLists.{wcets_of}
+use Rattle.prl_edf.specs.Vocabulary.{demand, wcets_of}
 use Rattle.prl_edf.proofs.analysis.greatest.Given as goal
 
 -- the demand of the interval so far, which is not overloaded, nor is a shorter one

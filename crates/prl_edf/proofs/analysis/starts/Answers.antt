@@ -1,9 +1,7 @@
 use Rattle.std.proofs.Common.{◌≡◌, ◌+◌, ◌<◌, ℕ, List, length, get_or, ◌∙◌, ap, arith}
+use Rattle.prl_plan.specs.Vocabulary.{constants_of, sum_below, RunConstants}
 use Rattle.prl_plan.specs.declared.graphs.TaskGraph.{TaskGraph}
-use Rattle.prl_plan.specs.Horizons.{constants_of, sum_below}
-use Rattle.prl_plan.specs.Runs.{RunConstants}
-use Rattle.prl_edf.specs.UnitLists.{wcets_of}
-use Rattle.prl_edf.specs.code.Starts.{cost_at}
+use Rattle.prl_edf.specs.Vocabulary.{wcets_of, cost_at}
 use Rattle.prl_edf.proofs.FullUnits.{wcet_bounds}
 use Rattle.prl_edf.proofs.Starts.{tasks_bound, part_less, cost_at_small, sum_next}
 use Rattle.prl_edf.proofs.analysis.starts.Goals as goal

@@ -1,7 +1,6 @@
 use Rattle.std.proofs.Common.{◌≡◌, ◌<◌, ◌≤◌, ℕ, length, map, vec_items, MatchOption}
 use Rattle.prl_plan.specs.Horizons.{constants_of}
-use Rattle.prl_edf.specs.UnitLists.{units_of}
-use Rattle.prl_edf.specs.code.Going.{rest_of, IsFresh}
+use Rattle.prl_edf.specs.Vocabulary.{units_of, rest_of, IsFresh}
 use Rattle.prl_edf.proofs.runs.all_rests.Given as goal
 
 -- the tasks so far have their first jobs

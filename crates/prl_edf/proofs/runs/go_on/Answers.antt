@@ -1,8 +1,6 @@
 use Rattle.std.proofs.Common.{ℕ, map, vec_items, arith}
-use Rattle.prl_plan.specs.Horizons.{constants_of}
-use Rattle.prl_plan.specs.Runs.{RunConstants}
-use Rattle.prl_edf.specs.Pieces.{run_of}
-use Rattle.prl_edf.specs.UnitLists.{units_of}
+use Rattle.prl_plan.specs.Vocabulary.{constants_of, RunConstants}
+use Rattle.prl_edf.specs.Vocabulary.{run_of, units_of}
 use Rattle.prl_edf.proofs.Going.{kept_first}
 use Rattle.prl_edf.proofs.Making.{had_well, first_chosen, some_time, works}
 use Rattle.prl_edf.proofs.runs.go_on.Goals as goal

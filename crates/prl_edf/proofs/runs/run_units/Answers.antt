@@ -1,9 +1,6 @@
 use Rattle.std.proofs.Common.{ℕ, List, map, vec_items, sym, subst}
-use Rattle.prl_plan.specs.Horizons.{constants_of}
-use Rattle.prl_plan.specs.Runs.{RunConstants}
-use Rattle.prl_edf.specs.declared.pieces.Piece.{Piece}
-use Rattle.prl_edf.specs.Outcomes.{IsFeasibleRun}
-use Rattle.prl_edf.specs.UnitLists.{units_of}
+use Rattle.prl_plan.specs.Vocabulary.{constants_of, RunConstants}
+use Rattle.prl_edf.specs.Vocabulary.{Piece, IsFeasibleRun, units_of}
 use Rattle.prl_edf.proofs.Making.{of_all, waits, is_whole, misses}
 use Rattle.prl_edf.proofs.runs.run_units.Goals as goal
 

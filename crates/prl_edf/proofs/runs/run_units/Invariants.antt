@@ -1,7 +1,6 @@
 use Rattle.std.proofs.Common.{◌-◌, map, vec_items}
 use Rattle.prl_plan.specs.Horizons.{constants_of}
-use Rattle.prl_edf.specs.UnitLists.{units_of}
-use Rattle.prl_edf.specs.code.Going.{IsMaking}
+use Rattle.prl_edf.specs.Vocabulary.{units_of, IsMaking}
 use Rattle.prl_edf.proofs.runs.run_units.Given as goal
 
 -- the pieces so far are those of the plain run up to now

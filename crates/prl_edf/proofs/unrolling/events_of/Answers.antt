@@ -1,11 +1,6 @@
 use Rattle.std.proofs.Common.{ℕ, List, subst}
-use Rattle.prl_plan.specs.Horizons.{constants_of}
-use Rattle.prl_plan.specs.Runs.{RunConstants}
-use Rattle.prl_edf.specs.declared.pieces.Piece.{Piece}
-use Rattle.prl_edf.specs.Pieces.{run_of}
-use Rattle.prl_edf.specs.UnitLists.{wcets_of}
-use Rattle.prl_edf.specs.Unrolled.{IsUnrolled}
-use Rattle.prl_edf.specs.TimedRuns.{totals}
+use Rattle.prl_plan.specs.Vocabulary.{constants_of, RunConstants}
+use Rattle.prl_edf.specs.Vocabulary.{Piece, run_of, wcets_of, IsUnrolled, totals}
 use Rattle.prl_edf.proofs.EventsLegal.{events_legal}
 use Rattle.prl_edf.proofs.Skips.{total_units, total_edf, total_met}
 use Rattle.prl_edf.proofs.unrolling.events_of.Goals as goal

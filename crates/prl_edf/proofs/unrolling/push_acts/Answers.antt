@@ -1,7 +1,6 @@
 use Rattle.std.proofs.Common.{◌++◌, ℕ, replicate, ap, sym, ◌∙◌}
 use Rattle.prl_plan.specs.declared.events.Event.TheVariants as kinds
-use Rattle.prl_plan.specs.Horizons.{constants_of}
-use Rattle.prl_plan.specs.Runs.{RunConstants}
+use Rattle.prl_plan.specs.Vocabulary.{constants_of, RunConstants}
 use Rattle.prl_edf.proofs.Acted.{one_more_event, is_last}
 use Rattle.prl_edf.proofs.unrolling.push_acts.Goals as goal
 

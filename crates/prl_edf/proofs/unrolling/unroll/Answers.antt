@@ -1,13 +1,9 @@
 use Rattle.std.proofs.Common.{◌≡◌, ◌+◌, ◌<◌, ℕ, List, length, get_or, drop, sym, ap, subst, ◌∙◌, arith}
 use Rattle.std.proofs.lemmas.Option.{slice_get-get_or}
+use Rattle.prl_plan.specs.Vocabulary.{constants_of, RunConstants}
 use Rattle.prl_plan.specs.declared.events.Event.{Event}
 use Rattle.prl_plan.specs.declared.graphs.TaskGraph.{TaskGraph}
-use Rattle.prl_plan.specs.Horizons.{constants_of}
-use Rattle.prl_plan.specs.Runs.{RunConstants}
-use Rattle.prl_edf.specs.declared.pieces.Piece.{Piece}
-use Rattle.prl_edf.specs.Pieces.{run_of}
-use Rattle.prl_edf.specs.UnitLists.{wcets_of}
-use Rattle.prl_edf.specs.code.Lasts.{IsUnrolling}
+use Rattle.prl_edf.specs.Vocabulary.{Piece, run_of, wcets_of, IsUnrolling}
 use Rattle.prl_edf.proofs.Skips.{piece_job, piece_at, told_last, lasts_length, none_left, unrolls, unrolled}
 use Rattle.prl_edf.proofs.unrolling.unroll.Goals as goal
 

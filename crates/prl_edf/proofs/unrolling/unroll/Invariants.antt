@@ -1,7 +1,6 @@
 use Rattle.std.proofs.Common.{drop}
 use Rattle.prl_plan.specs.Horizons.{constants_of}
-use Rattle.prl_edf.specs.Pieces.{run_of}
-use Rattle.prl_edf.specs.code.Lasts.{IsUnrolling}
+use Rattle.prl_edf.specs.Vocabulary.{run_of, IsUnrolling}
 use Rattle.prl_edf.proofs.unrolling.unroll.Given as goal
 
 -- the events of the pieces so far

@@ -1,5 +1,4 @@
-use Rattle.prl_evaluation.specs.code.Dates.{IsPart, IsRest, place_after}
-use Rattle.prl_evaluation.specs.code.Fronts.{UnderWay}
+use Rattle.prl_evaluation.specs.Vocabulary.{IsPart, IsRest, place_after, UnderWay}
 use Rattle.prl_evaluation.proofs.by_date.advance_due.Given as goal
 
 abbrev pub invariant-loop-place : goal.invariant-loop-place

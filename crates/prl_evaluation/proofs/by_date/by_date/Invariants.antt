@@ -1,6 +1,5 @@
 use Rattle.std.proofs.Common.{◌≡◌, ◌-◌, ◌≤◌}
-use Rattle.prl_evaluation.specs.code.Dates.{AreAt, IsRest, clocks_by}
-use Rattle.prl_evaluation.specs.code.Fronts.{UnderWay}
+use Rattle.prl_evaluation.specs.Vocabulary.{AreAt, IsRest, clocks_by, UnderWay}
 use Rattle.prl_evaluation.proofs.by_date.by_date.Given as goal
 
 abbrev pub invariant-loop-due : goal.invariant-loop-due

@@ -2,8 +2,7 @@ use Rattle.std.proofs.Common.{◌≡◌, ◌≤◌, ◌∙◌, ap, arith}
 use Rattle.std.proofs.lemmas.List.{get_or_default}
 use Rattle.std.proofs.lemmas.List.Sums.{sum_by_more}
 use Rattle.prl_base.specs.Clocks.{IsClock}
-use Rattle.prl_flow.specs.Counts.{dates_before}
-use Rattle.prl_flow.specs.Solutions.{clock_of}
+use Rattle.prl_flow.specs.Vocabulary.{dates_before, clock_of}
 use Rattle.prl_flow.proofs.ClockDates.{dates_before_le}
 use Rattle.prl_evaluation.proofs.evaluation.count_values.Goals as goal
 

@@ -1,7 +1,6 @@
 use Rattle.std.proofs.Common.{◌≡◌, ℕ, Some, length, slice_get}
 use Rattle.prl_flow.specs.declared.programs.App.{App}
-use Rattle.prl_evaluation.specs.code.Runs.{IsNew}
-use Rattle.prl_evaluation.specs.declared.runs.Run.{Run}
+use Rattle.prl_evaluation.specs.Vocabulary.{IsNew, Run}
 use Rattle.prl_evaluation.proofs.evaluation.new_runs.Given as goal
 
 abbrev pub invariant-loop-app : goal.invariant-loop-app

@@ -1,8 +1,7 @@
 use Rattle.std.proofs.Common.{◌≡◌, ◌∙◌, ◌++◌, List, ap, drop, length, slice_get, subst, sym, take, take_at}
 use Rattle.prl_base.specs.declared.values.Value.{Value}
 use Rattle.prl_flow.specs.declared.programs.App.{App}
-use Rattle.prl_evaluation.specs.Evaluations.{AreSolution}
-use Rattle.prl_evaluation.specs.declared.runs.Run.{Run}
+use Rattle.prl_evaluation.specs.Vocabulary.{AreSolution, Run}
 use Rattle.prl_evaluation.proofs.Solutions.{full_solution, none_under_way}
 use Rattle.prl_evaluation.proofs.evaluation.solution.Goals as goal
 

@@ -1,5 +1,4 @@
-use Rattle.prl_evaluation.specs.code.Fronts.{UnderWay}
-use Rattle.prl_evaluation.specs.code.Wholes.{IsFilling}
+use Rattle.prl_evaluation.specs.Vocabulary.{UnderWay, IsFilling}
 use Rattle.prl_evaluation.proofs.wholes.fill_instance.Given as goal
 
 abbrev pub invariant-loop-flow : goal.invariant-loop-flow

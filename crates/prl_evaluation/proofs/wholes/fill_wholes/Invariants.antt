@@ -1,5 +1,4 @@
-use Rattle.prl_evaluation.specs.code.Fronts.{UnderWay}
-use Rattle.prl_evaluation.specs.code.Wholes.{AreWhole}
+use Rattle.prl_evaluation.specs.Vocabulary.{UnderWay, AreWhole}
 use Rattle.prl_evaluation.proofs.wholes.fill_wholes.Given as goal
 
 abbrev pub invariant-loop-flow : goal.invariant-loop-flow

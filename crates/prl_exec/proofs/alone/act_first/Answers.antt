@@ -1,8 +1,7 @@
 use Rattle.std.proofs.Common.{ℕ, ◌∙◌, subst, arith, inl, inr}
 use Rattle.std.proofs.lemmas.Bool.{cases_eq}
 use Rattle.prl_plan.specs.Rules.{KeepsGated}
-use Rattle.prl_rule.specs.Known.{run_of}
-use Rattle.prl_rule.specs.Rule.{reached}
+use Rattle.prl_rule.specs.Vocabulary.{run_of, reached}
 use Rattle.prl_exec.specs.Standing.{act_of}
 use Rattle.prl_exec.proofs.alone.act_first.Goals as goal
 

@@ -1,9 +1,8 @@
 use Rattle.std.specs.Prelude.{◌≡◌, ◌+◌, ◌*◌, ◌<◌, ◌≤◌, ℕ, List, length}
-use Rattle.prl_plan.specs.declared.events.Event.{Event}
 use Rattle.prl_plan.specs.Rules.{KeepsGated}
+use Rattle.prl_plan.specs.declared.events.Event.{Event}
+use Rattle.prl_rule.specs.Vocabulary.{run_of, reached}
 use Rattle.prl_rule.specs.declared.views.ClockPart.{ClockPart}
-use Rattle.prl_rule.specs.Known.{run_of}
-use Rattle.prl_rule.specs.Rule.{reached}
 use Rattle.prl_board.specs.Lones.{IsLoneOf}
 use Rattle.prl_exec.specs.Standing.{StandsIn, act_of}
 use Rattle.prl_exec.proofs.alone.act_first.Given as goal

@@ -1,7 +1,7 @@
 use Rattle.std.specs.Prelude.{◌≡◌, ◌+◌, List}
 use Rattle.prl_plan.specs.declared.events.Event.{Event}
-use Rattle.prl_rule.specs.declared.views.ClockPart.{ClockPart}
 use Rattle.prl_rule.specs.Known.{run_of}
+use Rattle.prl_rule.specs.declared.views.ClockPart.{ClockPart}
 use Rattle.prl_board.specs.Lones.{IsLoneOf}
 use Rattle.prl_exec.specs.Standing.{HasSeen, StandsIn}
 use Rattle.prl_exec.proofs.alone.look_all.Given as goal

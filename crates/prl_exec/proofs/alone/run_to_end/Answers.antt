@@ -1,6 +1,6 @@
 use Rattle.std.proofs.Common.{◌≡◌, ◌+◌, ◌*◌, ◌≤◌, ◌++◌, ℕ, [], ◌∷◌, length, length-append, ap, arith}
-use Rattle.prl_plan.specs.declared.horizons.Horizon.{Horizon}
 use Rattle.prl_plan.specs.Horizons.{alone}
+use Rattle.prl_plan.specs.declared.horizons.Horizon.{Horizon}
 use Rattle.prl_exec.proofs.alone.run_to_end.Goals as goal
 
 pub loop-done-smaller : goal.loop-done-smaller

@@ -1,8 +1,6 @@
 use Rattle.std.proofs.Common.{Option, subst}
 use Rattle.std.specs.Prelude.{IfNone, IfSome}
-use Rattle.prl_exec.specs.declared.overruns.Missed.{Missed}
-use Rattle.prl_exec.specs.code.Alone.{IsOver}
-use Rattle.prl_exec.specs.code.Overruns.{IsOverrunIn}
+use Rattle.prl_exec.specs.Vocabulary.{Missed, IsOver, IsOverrunIn}
 use Rattle.prl_rule.specs.Known.{run_of}
 use Rattle.prl_exec.proofs.Rounds.{all_ended}
 use Rattle.prl_exec.proofs.Stopping.{has_stopped}

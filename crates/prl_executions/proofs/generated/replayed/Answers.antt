@@ -1,7 +1,6 @@
 use Rattle.std.proofs.Common.{◌∙◌, sym, subst}
 use Rattle.std.specs.Prelude.{All}
-use Rattle.prl_plan.specs.Horizons.{alone, constants_of}
-use Rattle.prl_plan.specs.Runs.{opening}
+use Rattle.prl_plan.specs.Vocabulary.{alone, constants_of, opening}
 use Rattle.prl_track.specs.Machine.{IsOfPlan}
 use Rattle.prl_calls.specs.Stops.{given_of}
 use Rattle.prl_executions.proofs.Preparing.{horizon_there}

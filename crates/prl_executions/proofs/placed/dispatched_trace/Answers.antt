@@ -1,13 +1,11 @@
 use Rattle.std.proofs.Common.{◌≡◌, ◌≢◌, List, Result, Ok, Err, MatchResult, IfErr, sym, ◌∙◌, subst}
 use Rattle.std.specs.Prelude.{All}
 use Rattle.prl_core.specs.Cores.{opened_on}
+use Rattle.prl_plan.specs.Vocabulary.{Placement, constants_on, IsComplete, IsLegal, opening, after_events}
 use Rattle.prl_plan.specs.declared.events.Event.{Event}
-use Rattle.prl_plan.specs.Horizons.{Placement, constants_on}
-use Rattle.prl_plan.specs.Rules.{IsComplete, IsLegal}
-use Rattle.prl_plan.specs.Runs.{opening, after_events}
+use Rattle.prl_replay.specs.Replays.{FailsWith}
 use Rattle.prl_replay.specs.declared.faults.ReplayFault.{ReplayFault}
 use Rattle.prl_replay.specs.declared.faults.ReplayFault.TheVariants as causes
-use Rattle.prl_replay.specs.Replays.{FailsWith}
 use Rattle.prl_track.specs.Machine.{IsOfPlan}
 use Rattle.prl_calls.proofs.Schedules.{legal_of_plan}
 use Rattle.prl_executions.proofs.placed.dispatched_trace.Goals as goal

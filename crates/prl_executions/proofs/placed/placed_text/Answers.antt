@@ -1,7 +1,7 @@
 use Rattle.std.proofs.Common.{List, [], ◌∷◌, inl, inr}
+use Rattle.prl_stages.specs.Stages.{Holds}
 use Rattle.prl_stages.specs.declared.stages.Stage.{Stage}
 use Rattle.prl_stages.specs.declared.stages.Stage.TheVariants as stages
-use Rattle.prl_stages.specs.Stages.{Holds}
 use Rattle.prl_calls.specs.Stops.{given_of, AllHold, StopsAt, StopsIn}
 use Rattle.prl_executions.proofs.Preparing.{has_plan_there}
 use Rattle.prl_calls.proofs.Stops.{err_map, ok_map}

@@ -1,8 +1,8 @@
 use Rattle.std.proofs.Common.{◌++◌, List, [], ◌∷◌, inr}
 use Rattle.std.proofs.lemmas.Result.{err_from_is_err_and}
+use Rattle.prl_stages.specs.Stages.{front, ran}
 use Rattle.prl_stages.specs.declared.stages.Stage.{Stage}
 use Rattle.prl_stages.specs.declared.stages.Stage.TheVariants as stages
-use Rattle.prl_stages.specs.Stages.{front, ran}
 use Rattle.prl_calls.specs.Stops.{given_of, AllHold, StopsIn}
 use Rattle.prl_calls.proofs.Stops.{both_hold, err_map, ok_map, stops_first, stops_rest}
 use Rattle.prl_executions.proofs.ready.make_ready.Goals as goal

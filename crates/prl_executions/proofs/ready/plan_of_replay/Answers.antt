@@ -1,8 +1,8 @@
 use Rattle.std.proofs.Common.{◌++◌, List, [], ◌∷◌, inl}
 use Rattle.std.proofs.lemmas.Result.{err_from_is_err_and}
+use Rattle.prl_stages.specs.Stages.{graphed, planned}
 use Rattle.prl_stages.specs.declared.stages.Stage.{Stage}
 use Rattle.prl_stages.specs.declared.stages.Stage.TheVariants as stages
-use Rattle.prl_stages.specs.Stages.{graphed, planned}
 use Rattle.prl_calls.specs.Stops.{given_of}
 use Rattle.prl_calls.proofs.Stops.{both_hold, stops_first, stops_rest}
 use Rattle.prl_executions.proofs.ready.plan_of_replay.Goals as goal

@@ -1,12 +1,11 @@
 use Rattle.std.proofs.Common.{◌≡◌, ◌≢◌, ◌∙◌, ℕ, List, length, Some, None, Ok, refl, sym, ap, subst, arith}
 use Rattle.prl_plan.specs.declared.graphs.TaskGraph.{TaskGraph}
-use Rattle.prl_schedules.specs.Schedules.{schedule_of}
-use Rattle.prl_schedules.specs.ScheduleTexts.{task_names}
+use Rattle.prl_schedules.specs.Vocabulary.{schedule_of, task_names}
 use Rattle.prl_replay.specs.declared.faults.ReplayFault.TheVariants as causes
 use Rattle.prl_replay.specs.Replays.{IsReplayFault}
 use Rattle.prl_core.specs.Cores.{opened}
-use Rattle.prl_stages.specs.declared.faults.ScheduleRefusal.{ScheduleRefusal}
 use Rattle.prl_stages.specs.Replayed.{schedule_refusal}
+use Rattle.prl_stages.specs.declared.faults.ScheduleRefusal.{ScheduleRefusal}
 use Rattle.prl_calls.specs.Stops.{given_of}
 use Rattle.prl_executions.specs.code.Faults.{IsOfTask}
 use Rattle.prl_executions.proofs.Preparing.{has_horizon_there, horizon_there, replay_text_is}

@@ -1,7 +1,6 @@
 use Rattle.std.proofs.Common.{◌≡◌, ◌++◌, inl, subst, sym}
 use Rattle.prl_stages.specs.declared.stages.Stop.TheVariants as stops
-use Rattle.prl_stages.specs.Ran.{IsRunText}
-use Rattle.prl_stages.specs.Stages.{front, ran}
+use Rattle.prl_stages.specs.Vocabulary.{IsRunText, front, ran}
 use Rattle.prl_calls.specs.Stops.{given_of, AllHold, StopsIn}
 use Rattle.prl_calls.proofs.Stops.{err_map, ok_map}
 use Rattle.prl_executions.proofs.running.run_text.Goals as goal

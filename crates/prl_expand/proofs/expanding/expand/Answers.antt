@@ -1,22 +1,12 @@
 use Rattle.std.proofs.Common.{ℕ, ◌≡◌, ◌<◌, ◌≤◌, ◌+◌, ◌++◌, [], ◌∙◌, ap, arith, length, map, subst, sym}
 use Rattle.std.specs.List.{range_with_len}
 use Rattle.std.proofs.lemmas.List.{length-map}
-use Rattle.prl_ast.specs.declared.declarations.Program.{Program}
 use Rattle.prl_ast.specs.Trees.{node_tree, program_tree}
-use Rattle.prl_flow.specs.Programs.{IsFlat}
-use Rattle.prl_flow.specs.States.{IsSolution}
-use Rattle.prl_behaviours.specs.Annotations.{flows_in}
-use Rattle.prl_behaviours.specs.Asked.{outputs_of}
-use Rattle.prl_behaviours.specs.Behaviours.{Satisfies, state_in}
-use Rattle.prl_expand.specs.Correspondence.{IsOneToOne}
-use Rattle.prl_expand.specs.Flats.{devices_of, entered_apps, entered_flows, flat_of, flow_no, sensors_from}
-use Rattle.prl_expand.specs.declared.counts.Next.{Next}
-use Rattle.prl_expand.specs.Expanding.{IsExpandFault}
-use Rattle.prl_expand.specs.code.Limits.{IsPast}
-use Rattle.prl_expand.specs.code.Made.{a_node}
-use Rattle.prl_expand.specs.code.Terms.{flows_of, number_of}
-use Rattle.prl_expand.specs.code.Variables.{def_of}
-use Rattle.prl_expand.specs.code.Within.{IsSound, MayApply}
+use Rattle.prl_ast.specs.declared.declarations.Program.{Program}
+use Rattle.prl_flow.specs.Vocabulary.{IsFlat, IsSolution}
+use Rattle.prl_behaviours.specs.Vocabulary.{flows_in, outputs_of, Satisfies, state_in}
+use Rattle.prl_expand.specs.Vocabulary.{IsOneToOne, devices_of, entered_apps, entered_flows, flat_of, flow_no, sensors_from, Next, IsExpandFault, IsPast, a_node, flows_of, number_of, def_of, IsSound}
+use Rattle.prl_expand.specs.Vocabulary.{MayApply}
 use Rattle.prl_names.specs.Applications.{applies}
 use Rattle.prl_expand.proofs.Adding.{numbers_are}
 use Rattle.prl_expand.proofs.Expanded.{first}

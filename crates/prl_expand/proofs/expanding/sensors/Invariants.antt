@@ -1,7 +1,6 @@
 use Rattle.std.proofs.Common.{◌≡◌, map}
 use Rattle.std.specs.List.{range_with_len}
-use Rattle.prl_expand.specs.Flats.{sensors_from}
-use Rattle.prl_expand.specs.code.Variables.{def_of}
+use Rattle.prl_expand.specs.Vocabulary.{sensors_from, def_of}
 use Rattle.prl_expand.proofs.expanding.sensors.Given as goal
 
 abbrev pub invariant-loop-k : goal.invariant-loop-k

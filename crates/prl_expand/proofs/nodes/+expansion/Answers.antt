@@ -1,29 +1,19 @@
 use Rattle.std.proofs.Common.{ℕ, ◌≡◌, ◌<◌, ◌+◌, ◌-◌, ◌++◌, [], ◌∙◌, Some, ap, arith, length, map, refl, slice_get, subst, sym}
 use Rattle.std.proofs.lemmas.Option.{slice_get_read}
+use Rattle.prl_ast.specs.Trees.{apply, equation_tree, group, node_tree, program_tree, root_of, tree_of}
 use Rattle.prl_ast.specs.declared.declarations.Import.{Import}
 use Rattle.prl_ast.specs.declared.declarations.Program.{Program}
-use Rattle.prl_ast.specs.Trees.{apply, equation_tree, group, node_tree, program_tree, root_of, tree_of}
-use Rattle.prl_names.specs.ExprLists.{all_trees}
-use Rattle.prl_names.specs.Lookups.{callee_of, param_at, params_of}
-use Rattle.prl_names.specs.Named.{IsKnownRoot}
+use Rattle.prl_names.specs.Vocabulary.{all_trees, callee_of, param_at, params_of, IsKnownRoot}
 use Rattle.prl_names.specs.declared.lookups.Callee.TheVariants as callees
 use Rattle.prl_names.proofs.Marking.{callee_below}
 use Rattle.prl_names.proofs.Rows.{root_of_Apply, root_of_Group}
 use Rattle.prl_types.proofs.Counting.{drop_trees}
 use Rattle.prl_behaviours.specs.Annotations as notes
-use Rattle.prl_behaviours.specs.Asked.{outputs_of, root_given}
-use Rattle.prl_behaviours.specs.Texts.{node_at, node_or}
+use Rattle.prl_behaviours.specs.Vocabulary.{outputs_of, root_given, node_at, node_or}
 use Rattle.prl_types.specs.Flows.{all_flows, root_flows}
 use Rattle.prl_expand.specs.Flats as flats
-use Rattle.prl_expand.specs.Flats.{arguments, copies, copy_of, equated, paired}
-use Rattle.prl_expand.specs.declared.counts.Next.{Next}
-use Rattle.prl_expand.specs.code.Limits.{IsPast}
-use Rattle.prl_expand.specs.code.Made.{a_core, a_node, all_parts, all_resolved, have_types, the_rights, types_of}
-use Rattle.prl_expand.specs.code.Adding.{Adds}
-use Rattle.prl_expand.specs.code.Numbering.{past_entered, past_parts, past_rights}
-use Rattle.prl_expand.specs.code.Terms.{arg_of, flow_of, flows_of}
-use Rattle.prl_expand.specs.code.Within.{EquationsFit, RootFits, TreesFit}
-use Rattle.prl_expand.specs.code.Variables.{copied, def_of, pairs_of}
+use Rattle.prl_expand.specs.Vocabulary.{arguments, copies, copy_of, equated, paired, Next, IsPast, a_core, a_node, all_parts, all_resolved, have_types, the_rights, types_of, Adds, past_entered}
+use Rattle.prl_expand.specs.Vocabulary.{past_parts, past_rights, arg_of, flow_of, flows_of, EquationsFit, RootFits, TreesFit, copied, def_of, pairs_of}
 use Rattle.prl_expand.proofs.Adding.{adds_as, below_few}
 use Rattle.prl_expand.proofs.Entering.{AreVariables, entered_apps, entered_given, entered_made, entered_next, entered_types, equations_past, node_found, node_variables, params_length, variables_past}
 use Rattle.prl_expand.proofs.Expressions.{apply_given, apply_made, apply_past, args_past, copied_are, drop_equations, err_and, expression_made, given_numbers, if_err, if_ok, import_apps, import_flows, import_next, import_past, import_types, node_apps, node_flows, node_given, node_next, node_past, on_ok, operators_past, var_given, var_types}

@@ -1,8 +1,6 @@
 use Rattle.std.proofs.Common.{◌≤◌, ◌+◌, ◌∙◌, ap, length, map}
 use Rattle.std.specs.List.{range_with_len}
-use Rattle.prl_expand.specs.declared.counts.Next.{Next}
-use Rattle.prl_expand.specs.code.Made.{types_of}
-use Rattle.prl_expand.specs.code.Terms.{arg_of, flow_of}
+use Rattle.prl_expand.specs.Vocabulary.{Next, types_of, arg_of, flow_of}
 use Rattle.prl_expand.proofs.Adding.{import_adds, output_flows_of, output_types_of}
 use Rattle.prl_expand.proofs.Expressions.{next_of}
 use Rattle.prl_expand.proofs.Within.{import_few}

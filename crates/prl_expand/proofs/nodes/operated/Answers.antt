@@ -2,10 +2,7 @@ use Rattle.std.proofs.Common.{◌≤◌, ◌+◌, ◌-◌, ◌++◌, ◌∷◌, 
 use Rattle.std.specs.Prelude.{reverse}
 use Rattle.std.specs.List.{range_with_len}
 use Rattle.prl_behaviours.specs.Asked.{last_of}
-use Rattle.prl_expand.specs.Flats.{flow_no}
-use Rattle.prl_expand.specs.declared.counts.Next.{Next}
-use Rattle.prl_expand.specs.code.Made.{first_type, head_of, types_of}
-use Rattle.prl_expand.specs.code.Terms.{arg_of, flow_of, flows_of, operators_over, placed_at}
+use Rattle.prl_expand.specs.Vocabulary.{flow_no, Next, first_type, head_of, types_of, arg_of, flow_of, flows_of, operators_over, placed_at}
 use Rattle.prl_expand.proofs.Adding.{given_last, no_given, no_types, operators_add, placed_given, placed_types}
 use Rattle.prl_expand.proofs.Expressions.{next_of}
 use Rattle.prl_expand.proofs.Within.{more_few}

@@ -1,6 +1,5 @@
 use Rattle.std.proofs.Common.{◌≡◌, ◌++◌, drop, map}
-use Rattle.prl_expand.specs.Flats.{copies}
-use Rattle.prl_expand.specs.code.Variables.{def_of, pairs_of}
+use Rattle.prl_expand.specs.Vocabulary.{copies, def_of, pairs_of}
 use Rattle.prl_expand.proofs.variables.push_copies.Given as goal
 
 abbrev pub invariant-loop-param : goal.invariant-loop-param

@@ -1,6 +1,5 @@
 use Rattle.std.proofs.Common.{◌≡◌, ◌-◌, ◌++◌, drop, map, length}
-use Rattle.prl_expand.specs.code.Terms.{flows_of}
-use Rattle.prl_expand.specs.code.Variables.{def_of, param_of, variables_made}
+use Rattle.prl_expand.specs.Vocabulary.{flows_of, def_of, param_of, variables_made}
 use Rattle.prl_expand.proofs.variables.push_flows.Given as goal
 
 abbrev pub invariant-loop-k : goal.invariant-loop-k

@@ -1,7 +1,5 @@
 use Rattle.std.proofs.Common.{◌≡◌, ◌-◌, ◌++◌, drop, map, length}
-use Rattle.prl_expand.specs.Flats.{paired}
-use Rattle.prl_expand.specs.code.Terms.{flow_of}
-use Rattle.prl_expand.specs.code.Variables.{pairs_of}
+use Rattle.prl_expand.specs.Vocabulary.{paired, flow_of, pairs_of}
 use Rattle.prl_expand.proofs.variables.push_pairs.Given as goal
 
 abbrev pub invariant-loop-k : goal.invariant-loop-k

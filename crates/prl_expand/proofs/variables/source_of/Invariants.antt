@@ -1,6 +1,5 @@
 use Rattle.std.proofs.Common.{◌≡◌, drop}
-use Rattle.prl_expand.specs.Flats.{source_of}
-use Rattle.prl_expand.specs.code.Variables.{pairs_of}
+use Rattle.prl_expand.specs.Vocabulary.{source_of, pairs_of}
 use Rattle.prl_expand.proofs.variables.source_of.Given as goal
 
 abbrev pub invariant-loop-pair : goal.invariant-loop-pair

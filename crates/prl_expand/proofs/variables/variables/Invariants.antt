@@ -1,8 +1,7 @@
 use Rattle.std.proofs.Common.{◌≡◌, map}
 use Rattle.std.specs.List.{range_with_len}
 use Rattle.prl_ast.specs.Trees.{program_tree}
-use Rattle.prl_expand.specs.code.Made.{have_types, types_of}
-use Rattle.prl_expand.specs.code.Terms.{flow_of}
+use Rattle.prl_expand.specs.Vocabulary.{have_types, types_of, flow_of}
 use Rattle.prl_expand.proofs.variables.variables.Given as goal
 
 abbrev pub invariant-loop-j : goal.invariant-loop-j

@@ -1,6 +1,5 @@
 use Rattle.std.proofs.Common.{◌≡◌, ◌++◌, get_or}
-use Rattle.prl_gen.specs.Numbered.{each}
-use Rattle.prl_gen.specs.Texts.{body}
+use Rattle.prl_gen.specs.Vocabulary.{each, body}
 use Rattle.prl_gen.proofs.bodies.push_bodies.Given as goal
 
 abbrev pub invariant-loop-lane : goal.invariant-loop-lane

@@ -1,6 +1,5 @@
 use Rattle.std.proofs.Common.{◌≡◌, ◌++◌}
-use Rattle.prl_gen.specs.Numbered.{each}
-use Rattle.prl_gen.specs.Texts.{equation}
+use Rattle.prl_gen.specs.Vocabulary.{each, equation}
 use Rattle.prl_gen.proofs.equations.push_equations.Given as goal
 
 abbrev pub invariant-loop-lane : goal.invariant-loop-lane

@@ -1,6 +1,5 @@
 use Rattle.std.proofs.Common.{◌≡◌}
-use Rattle.prl_gen.specs.Draws.{state_after}
-use Rattle.prl_gen.specs.Lanes.{factors_from}
+use Rattle.prl_gen.specs.Vocabulary.{state_after, factors_from}
 use Rattle.prl_gen.proofs.lanes.draw_factors.Given as goal
 
 abbrev pub invariant-loop-lane : goal.invariant-loop-lane

@@ -1,6 +1,5 @@
 use Rattle.std.proofs.Common.{◌≡◌}
-use Rattle.prl_gen.specs.Draws.{state_after}
-use Rattle.prl_gen.specs.Lanes.{ArePositive, periods_from}
+use Rattle.prl_gen.specs.Vocabulary.{state_after, ArePositive, periods_from}
 use Rattle.prl_gen.proofs.lanes.draw_periods.Given as goal
 
 abbrev pub invariant-loop-lane : goal.invariant-loop-lane

@@ -1,6 +1,5 @@
 use Rattle.std.proofs.Common.{◌≡◌, ◌++◌, get_or}
-use Rattle.prl_gen.specs.Numbered.{each}
-use Rattle.prl_gen.specs.Texts.{input, semicolon_before}
+use Rattle.prl_gen.specs.Vocabulary.{each, input, semicolon_before}
 use Rattle.prl_gen.proofs.programs.push_inputs.Given as goal
 
 abbrev pub invariant-loop-lane : goal.invariant-loop-lane

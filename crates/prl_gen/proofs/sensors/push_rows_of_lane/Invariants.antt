@@ -1,7 +1,5 @@
 use Rattle.std.proofs.Common.{◌≡◌, ◌++◌}
-use Rattle.prl_gen.specs.Draws.{state_after}
-use Rattle.prl_gen.specs.Numbered.{each}
-use Rattle.prl_gen.specs.Texts.{row}
+use Rattle.prl_gen.specs.Vocabulary.{state_after, each, row}
 use Rattle.prl_gen.proofs.sensors.push_rows_of_lane.Given as goal
 
 abbrev pub invariant-loop-instance : goal.invariant-loop-instance

@@ -1,7 +1,5 @@
 use Rattle.std.proofs.Common.{◌≡◌, ◌++◌, get_or}
-use Rattle.prl_gen.specs.Lanes.{state_of_lane}
-use Rattle.prl_gen.specs.Numbered.{each}
-use Rattle.prl_gen.specs.Texts.{rows_of_lane}
+use Rattle.prl_gen.specs.Vocabulary.{state_of_lane, each, rows_of_lane}
 use Rattle.prl_gen.proofs.sensors.push_sensors.Given as goal
 
 abbrev pub invariant-loop-lane : goal.invariant-loop-lane

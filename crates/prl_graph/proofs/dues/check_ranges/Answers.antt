@@ -1,7 +1,6 @@
 use Rattle.std.proofs.Common.{arith, below_more, subst, sym}
 use Rattle.prl_base.specs.declared.operators.Clock.{Clock}
-use Rattle.prl_graph.specs.Dues.{IsDueOutOfRange}
-use Rattle.prl_graph.specs.code.Marks.{IsRanged}
+use Rattle.prl_graph.specs.Vocabulary.{IsDueOutOfRange, IsRanged}
 use Rattle.prl_graph.proofs.DueFacts.{all_ranged, out_of_range}
 use Rattle.prl_graph.proofs.Lists.{same_length}
 use Rattle.prl_graph.proofs.dues.check_ranges.Goals as goal

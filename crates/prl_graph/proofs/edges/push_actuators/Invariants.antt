@@ -1,6 +1,5 @@
 use Rattle.std.proofs.Common.{take}
-use Rattle.prl_graph.specs.Ports.{actuator_no, actuator_ports}
-use Rattle.prl_graph.specs.code.Steps.{AddsEdges}
+use Rattle.prl_graph.specs.Vocabulary.{actuator_no, actuator_ports, AddsEdges}
 use Rattle.prl_graph.proofs.edges.push_actuators.Given as goal
 
 abbrev pub invariant-loop-k : goal.invariant-loop-k

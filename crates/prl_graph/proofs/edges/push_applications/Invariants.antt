@@ -1,6 +1,5 @@
 use Rattle.std.proofs.Common.{take}
-use Rattle.prl_graph.specs.Ports.{application_ports, node_no}
-use Rattle.prl_graph.specs.code.Steps.{AddsEdges}
+use Rattle.prl_graph.specs.Vocabulary.{application_ports, node_no, AddsEdges}
 use Rattle.prl_graph.proofs.edges.push_applications.Given as goal
 
 abbrev pub invariant-loop-k : goal.invariant-loop-k

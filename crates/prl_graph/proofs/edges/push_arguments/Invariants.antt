@@ -1,6 +1,5 @@
 use Rattle.std.proofs.Common.{take}
-use Rattle.prl_graph.specs.Ports.{argument_ports}
-use Rattle.prl_graph.specs.code.Steps.{AddsEdges}
+use Rattle.prl_graph.specs.Vocabulary.{argument_ports, AddsEdges}
 use Rattle.prl_graph.proofs.edges.push_arguments.Given as goal
 
 abbrev pub invariant-loop-j : goal.invariant-loop-j

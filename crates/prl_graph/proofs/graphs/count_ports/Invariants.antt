@@ -1,6 +1,5 @@
 use Rattle.std.proofs.Common.{◌≡◌, ◌+◌, length, take}
-use Rattle.prl_graph.specs.Ports.{application_ports}
-use Rattle.prl_graph.specs.TaskGraphs.{told}
+use Rattle.prl_graph.specs.Vocabulary.{application_ports, told}
 use Rattle.prl_graph.proofs.graphs.count_ports.Given as goal
 
 abbrev pub invariant-loop-app : goal.invariant-loop-app

@@ -1,9 +1,7 @@
 use Rattle.std.proofs.Common.{◌∙◌, ◌≤◌, ap, subst, List}
 use Rattle.std.proofs.lemmas.Result.{err_from_is_err_and}
 use Rattle.prl_base.specs.declared.operators.Clock.{Clock}
-use Rattle.prl_graph.specs.Ports.{task_count}
-use Rattle.prl_graph.specs.Hyperperiods.{IsHyperperiod}
-use Rattle.prl_graph.specs.TaskGraphs.{jobs_within}
+use Rattle.prl_graph.specs.Vocabulary.{task_count, IsHyperperiod, jobs_within}
 use Rattle.prl_graph.proofs.JobValues.{job_values_are}
 use Rattle.prl_graph.proofs.TaskFacts.{have_periods, small_periods}
 use Rattle.prl_graph.proofs.Whole.{made_whole, past_jobs}

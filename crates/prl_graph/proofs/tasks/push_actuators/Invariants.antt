@@ -1,5 +1,4 @@
-use Rattle.prl_graph.specs.Ports.{actuator_no}
-use Rattle.prl_graph.specs.code.Made.{AreFirstTasks}
+use Rattle.prl_graph.specs.Vocabulary.{actuator_no, AreFirstTasks}
 use Rattle.prl_graph.proofs.tasks.push_actuators.Given as goal
 
 abbrev pub invariant-loop-k : goal.invariant-loop-k

@@ -1,7 +1,6 @@
 use Rattle.std.proofs.Common.{◌≡◌, drop}
 use Rattle.std.specs.Option.{is_some}
-use Rattle.prl_names.specs.Tables.{found}
-use Rattle.prl_names.specs.Unknowns.{absent_by}
+use Rattle.prl_names.specs.Vocabulary.{found, absent_by}
 use Rattle.prl_names.proofs.absences.absent.Given as goal
 
 abbrev pub invariant-loop-param : goal.invariant-loop-param

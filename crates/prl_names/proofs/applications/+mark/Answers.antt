@@ -1,9 +1,6 @@
 use Rattle.std.proofs.Common.{◌||◌, ℕ, sym, ◌∙◌, ap}
 use Rattle.prl_ast.specs.Trees.{program_tree, root_of}
-use Rattle.prl_names.specs.Applications.{is_node, applied_root, applied_trees}
-use Rattle.prl_names.specs.ExprLists.{all_trees}
-use Rattle.prl_names.specs.Lookups.{callee_of}
-use Rattle.prl_names.specs.Marks.{Adds}
+use Rattle.prl_names.specs.Vocabulary.{is_node, applied_root, applied_trees, all_trees, callee_of, Adds}
 use Rattle.prl_names.proofs.Marking.{adds_then, adds_same, applied_step}
 use Rattle.prl_names.proofs.Rows.{root_of_Apply, root_of_Group}
 use Rattle.prl_names.proofs.applications.+mark.Goals as goal

@@ -1,8 +1,6 @@
 use Rattle.std.proofs.Common.{take}
 use Rattle.prl_ast.specs.Trees.{program_tree}
-use Rattle.prl_names.specs.Applications.{applied_trees}
-use Rattle.prl_names.specs.ExprLists.{all_trees}
-use Rattle.prl_names.specs.Marks.{Adds}
+use Rattle.prl_names.specs.Vocabulary.{applied_trees, all_trees, Adds}
 use Rattle.prl_names.proofs.applications.+mark.Given as goal
 
 abbrev pub invariant-mark_all-loop-expr : goal.invariant-mark_all-loop-expr

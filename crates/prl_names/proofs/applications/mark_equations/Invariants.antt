@@ -1,7 +1,6 @@
 use Rattle.std.proofs.Common.{take, map}
 use Rattle.prl_ast.specs.Trees.{program_tree, equation_tree}
-use Rattle.prl_names.specs.Applications.{applied_equations}
-use Rattle.prl_names.specs.Marks.{Adds}
+use Rattle.prl_names.specs.Vocabulary.{applied_equations, Adds}
 use Rattle.prl_names.proofs.applications.mark_equations.Given as goal
 
 abbrev pub invariant-loop-equation : goal.invariant-loop-equation

@@ -1,7 +1,6 @@
 use Rattle.std.proofs.Common.{◌≡◌, ◌<◌, true, false, length, refl, sym, ◌∙◌, ap}
 use Rattle.prl_ast.specs.Trees.{program_tree}
-use Rattle.prl_names.specs.Applications.{reaches, recursive_of}
-use Rattle.prl_names.specs.Marks.{mark_of}
+use Rattle.prl_names.specs.Vocabulary.{reaches, recursive_of, mark_of}
 use Rattle.prl_names.proofs.Rowing.{closed_row, recursive_here, recursive_later}
 use Rattle.prl_names.proofs.applications.recursive.Goals as goal
 

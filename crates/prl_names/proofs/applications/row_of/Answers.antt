@@ -1,8 +1,7 @@
 use Rattle.std.proofs.Common.{◌≡◌, false, replicate, length, sym, ◌∙◌, ap}
 use Rattle.std.proofs.lemmas.List.{length-map}
 use Rattle.prl_ast.specs.Trees.{program_tree, node_tree}
-use Rattle.prl_names.specs.Applications.{applied_equations}
-use Rattle.prl_names.specs.Marks.{Adds}
+use Rattle.prl_names.specs.Vocabulary.{applied_equations, Adds}
 use Rattle.prl_names.proofs.Rowing.{first_row, kept_row}
 use Rattle.prl_names.proofs.applications.row_of.Goals as goal
 

@@ -1,10 +1,9 @@
 use Rattle.std.proofs.Common.{◌≡◌, ◌++◌, drop, map, filter}
 use Rattle.std.specs.Option.{is_some}
-use Rattle.prl_ast.specs.declared.declarations.Placed.{Placed}
 use Rattle.prl_ast.specs.Trees.{EquationTree, program_tree, equation_tree}
+use Rattle.prl_ast.specs.declared.declarations.Placed.{Placed}
 use Rattle.std.specs.List.{flat_map}
-use Rattle.prl_names.specs.Mentions.{all_placed}
-use Rattle.prl_names.specs.Lookups.{param_at}
+use Rattle.prl_names.specs.Vocabulary.{all_placed, param_at}
 use Rattle.prl_names.proofs.repeats.definitions.Given as goal
 
 abbrev pub invariant-loop-equation : goal.invariant-loop-equation

@@ -1,6 +1,5 @@
 use Rattle.std.proofs.Common.{◌≡◌, ◌++◌, drop, take}
-use Rattle.prl_names.specs.Mentions.{all_placed}
-use Rattle.prl_names.specs.Repeats.{front_before, rest_from}
+use Rattle.prl_names.specs.Vocabulary.{all_placed, front_before, rest_from}
 use Rattle.prl_names.proofs.repeats.front_len.Given as goal
 
 abbrev pub invariant-loop-k : goal.invariant-loop-k

@@ -1,6 +1,5 @@
 use Rattle.std.proofs.Common.{◌≡◌, ◌++◌, drop}
-use Rattle.prl_names.specs.Mentions.{all_placed}
-use Rattle.prl_names.specs.Repeats.{merged}
+use Rattle.prl_names.specs.Vocabulary.{all_placed, merged}
 use Rattle.prl_names.proofs.repeats.merged.Given as goal
 
 abbrev pub invariant-loop-mention : goal.invariant-loop-mention

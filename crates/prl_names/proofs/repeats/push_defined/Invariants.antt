@@ -1,9 +1,8 @@
 use Rattle.std.proofs.Common.{◌≡◌, ◌++◌, drop, filter}
 use Rattle.std.specs.Option.{is_some}
-use Rattle.prl_ast.specs.declared.declarations.Placed.{Placed}
 use Rattle.prl_ast.specs.Trees.{program_tree}
-use Rattle.prl_names.specs.Mentions.{all_placed}
-use Rattle.prl_names.specs.Lookups.{param_at}
+use Rattle.prl_ast.specs.declared.declarations.Placed.{Placed}
+use Rattle.prl_names.specs.Vocabulary.{all_placed, param_at}
 use Rattle.prl_names.proofs.repeats.push_defined.Given as goal
 
 abbrev pub invariant-loop-left : goal.invariant-loop-left

@@ -1,7 +1,7 @@
 use Rattle.std.proofs.Common.{◌≡◌, subst, Option, IfOk}
 use Rattle.std.specs.Option.{option_map}
-use Rattle.prl_ast.specs.declared.declarations.Placed.{Placed}
 use Rattle.prl_ast.specs.Trees.{program_tree}
+use Rattle.prl_ast.specs.declared.declarations.Placed.{Placed}
 use Rattle.prl_names.specs.Mentions.{placed_of}
 use Rattle.prl_names.proofs.Repeating.{spaces_in_turn}
 use Rattle.prl_names.proofs.repeats.repeat.Goals as goal

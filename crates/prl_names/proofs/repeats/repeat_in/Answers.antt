@@ -1,7 +1,6 @@
 use Rattle.std.proofs.Common.{◌≡◌, sym, ap, ◌∙◌, true, false, take}
 use Rattle.std.specs.Option.{is_some}
-use Rattle.prl_names.specs.Mentions.{names_in}
-use Rattle.prl_names.specs.Repeats.{is_among}
+use Rattle.prl_names.specs.Vocabulary.{names_in, is_among}
 use Rattle.prl_names.proofs.FirstIndices.{step_new}
 use Rattle.prl_names.proofs.Repeating.{repeat_here, repeat_later}
 use Rattle.prl_names.proofs.repeats.repeat_in.Goals as goal

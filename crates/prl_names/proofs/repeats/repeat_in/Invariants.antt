@@ -1,7 +1,5 @@
 use Rattle.std.proofs.Common.{◌≡◌, take, drop}
-use Rattle.prl_names.specs.Mentions.{names_in, all_placed}
-use Rattle.prl_names.specs.Tables.{AreIndices}
-use Rattle.prl_names.specs.Repeats.{repeat_after, repeat_in}
+use Rattle.prl_names.specs.Vocabulary.{names_in, all_placed, AreIndices, repeat_after, repeat_in}
 use Rattle.prl_names.proofs.repeats.repeat_in.Given as goal
 
 abbrev pub invariant-loop-k : goal.invariant-loop-k

@@ -1,8 +1,7 @@
 use Rattle.std.proofs.Common.{◌≡◌, ◌∙◌, ap}
 use Rattle.std.specs.Option.{option_map}
 use Rattle.prl_ast.specs.Trees.{program_tree, node_tree}
-use Rattle.prl_names.specs.Mentions.{all_placed, placed_of}
-use Rattle.prl_names.specs.Repeats.{first_of, repeat_in, definition_space}
+use Rattle.prl_names.specs.Vocabulary.{all_placed, placed_of, first_of, repeat_in, definition_space}
 use Rattle.prl_names.proofs.Repeating.{defined_step, definitions_at, node_at}
 use Rattle.prl_names.proofs.repeats.repeat_in_definitions.Goals as goal
 

@@ -1,8 +1,7 @@
 use Rattle.std.proofs.Common.{◌≡◌, drop, map}
 use Rattle.std.specs.Option.{option_map}
 use Rattle.prl_ast.specs.Trees.{node_tree}
-use Rattle.prl_names.specs.Mentions.{placed_of}
-use Rattle.prl_names.specs.Repeats.{earliest_repeat, definition_space}
+use Rattle.prl_names.specs.Vocabulary.{placed_of, earliest_repeat, definition_space}
 use Rattle.prl_names.proofs.repeats.repeat_in_definitions.Given as goal
 
 abbrev pub invariant-loop-k : goal.invariant-loop-k

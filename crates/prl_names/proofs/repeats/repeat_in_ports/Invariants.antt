@@ -1,7 +1,6 @@
 use Rattle.std.proofs.Common.{◌≡◌, drop, map}
 use Rattle.std.specs.Option.{option_map}
-use Rattle.prl_names.specs.Mentions.{placed_of}
-use Rattle.prl_names.specs.Repeats.{earliest_repeat, port_space}
+use Rattle.prl_names.specs.Vocabulary.{placed_of, earliest_repeat, port_space}
 use Rattle.prl_names.proofs.repeats.repeat_in_ports.Given as goal
 
 abbrev pub invariant-loop-import : goal.invariant-loop-import

@@ -1,6 +1,5 @@
 use Rattle.std.proofs.Common.{take}
-use Rattle.prl_names.specs.Mentions.{names_in}
-use Rattle.prl_names.specs.Tables.{AreIndices}
+use Rattle.prl_names.specs.Vocabulary.{names_in, AreIndices}
 use Rattle.prl_names.proofs.tables.indices.Given as goal
 
 abbrev pub invariant-loop-k : goal.invariant-loop-k

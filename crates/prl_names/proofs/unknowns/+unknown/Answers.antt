@@ -1,10 +1,7 @@
 use Rattle.std.proofs.Common.{◌≡◌, sym, ◌∙◌, ap, refl, Some, List, ℕ}
 use Rattle.prl_base.specs.declared.places.Span.{Span}
 use Rattle.prl_ast.specs.Trees.{apply, Trees, ProgramTree, program_tree}
-use Rattle.prl_names.specs.declared.lookups.Callee.{Callee}
-use Rattle.prl_names.specs.ExprLists.{all_trees}
-use Rattle.prl_names.specs.Lookups.{callee_of}
-use Rattle.prl_names.specs.Unknowns.{unknown_root, unknown_trees}
+use Rattle.prl_names.specs.Vocabulary.{Callee, all_trees, callee_of, unknown_root, unknown_trees}
 use Rattle.prl_names.proofs.Rows.{root_of_Apply, root_of_Group}
 use Rattle.prl_names.proofs.unknowns.+unknown.Goals as goal
 

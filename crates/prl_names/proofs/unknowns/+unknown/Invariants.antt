@@ -1,7 +1,6 @@
 use Rattle.std.proofs.Common.{◌≡◌, drop}
 use Rattle.prl_ast.specs.Trees.{program_tree}
-use Rattle.prl_names.specs.ExprLists.{all_trees}
-use Rattle.prl_names.specs.Unknowns.{unknown_trees}
+use Rattle.prl_names.specs.Vocabulary.{all_trees, unknown_trees}
 use Rattle.prl_names.proofs.unknowns.+unknown.Given as goal
 
 abbrev pub invariant-unknown_trees-loop-expr : goal.invariant-unknown_trees-loop-expr

@@ -1,7 +1,5 @@
 use Rattle.std.proofs.Common.{◌≡◌, ◌++◌, drop}
-use Rattle.prl_names.specs.ExprLists.{all_trees}
-use Rattle.prl_names.specs.Mentions.{names_in}
-use Rattle.prl_names.specs.Uses.{all_applied}
+use Rattle.prl_names.specs.Vocabulary.{all_trees, names_in, all_applied}
 use Rattle.prl_names.proofs.uses.+push_applied.Given as goal
 
 abbrev pub invariant-push_all_applied-loop-expr : goal.invariant-push_all_applied-loop-expr

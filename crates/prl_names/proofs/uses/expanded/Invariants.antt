@@ -1,7 +1,6 @@
 use Rattle.std.proofs.Common.{◌≡◌, ◌++◌, drop, map}
 use Rattle.prl_ast.specs.Trees.{program_tree, node_tree}
-use Rattle.prl_names.specs.Mentions.{names_in}
-use Rattle.prl_names.specs.Uses.{expanded_from, expanded_names}
+use Rattle.prl_names.specs.Vocabulary.{names_in, expanded_from, expanded_names}
 use Rattle.prl_names.proofs.uses.expanded.Given as goal
 
 abbrev pub invariant-loop-k : goal.invariant-loop-k

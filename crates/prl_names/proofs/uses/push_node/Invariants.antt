@@ -1,8 +1,7 @@
 use Rattle.std.proofs.Common.{◌≡◌, ◌++◌, drop, map}
 use Rattle.std.specs.List.{flat_map}
 use Rattle.prl_ast.specs.Trees.{EquationTree, equation_tree}
-use Rattle.prl_names.specs.Mentions.{names_in}
-use Rattle.prl_names.specs.Uses.{applied_names}
+use Rattle.prl_names.specs.Vocabulary.{names_in, applied_names}
 use Rattle.prl_names.proofs.uses.push_node.Given as goal
 
 abbrev pub invariant-loop-equation : goal.invariant-loop-equation

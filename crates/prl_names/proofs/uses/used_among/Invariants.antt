@@ -1,6 +1,5 @@
 use Rattle.std.proofs.Common.{◌≡◌, ◌++◌, drop, vec_items}
-use Rattle.prl_names.specs.Mentions.{names_in}
-use Rattle.prl_names.specs.Uses.{used_among}
+use Rattle.prl_names.specs.Vocabulary.{names_in, used_among}
 use Rattle.prl_names.proofs.uses.used_among.Given as goal
 
 abbrev pub invariant-loop-import : goal.invariant-loop-import

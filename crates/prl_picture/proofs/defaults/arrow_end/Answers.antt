@@ -1,9 +1,7 @@
 use Rattle.std.proofs.Common.{◌≡◌, ◌≤◌, ◌∙◌, ℕ, inl, inr, true, ap, subst, arith, rules}
 use Rattle.std.proofs.lemmas.Bool.{cases_lt}
+use Rattle.prl_plan.specs.Vocabulary.{job_count, task_at, edge_at, ComesFrom}
 use Rattle.prl_plan.specs.declared.graphs.Edge.{Edge}
-use Rattle.prl_plan.specs.Jobs.{job_count, task_at}
-use Rattle.prl_plan.specs.Plans.{edge_at}
-use Rattle.prl_plan.specs.Precedence.{ComesFrom}
 use Rattle.prl_views.specs.Acts.{is_in}
 use Rattle.prl_picture.specs.Ranges.{IsArrow}
 use Rattle.prl_picture.proofs.Arrows.{one_producer}

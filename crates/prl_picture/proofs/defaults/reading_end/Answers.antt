@@ -1,9 +1,7 @@
 use Rattle.std.proofs.Common.{◌≡◌, ◌+◌, ◌*◌, ◌<◌, ◌≤◌, ℕ, subst, sym, rules}
+use Rattle.prl_plan.specs.Vocabulary.{job_count, task_at, operand_of, edge_at}
 use Rattle.prl_plan.specs.declared.graphs.Edge.{Edge}
 use Rattle.prl_plan.specs.declared.walks.Operand.TheVariants as operands
-use Rattle.prl_plan.specs.Jobs.{job_count, task_at}
-use Rattle.prl_plan.specs.Operands.{operand_of}
-use Rattle.prl_plan.specs.Plans.{edge_at}
 use Rattle.prl_plan.proofs.RoundPeriods.{task_is}
 use Rattle.prl_picture.specs.Ranges.{IsArrow, IsEndOfReading}
 use Rattle.prl_picture.proofs.Arrows.{own, reading_ends}

@@ -4,10 +4,7 @@ use Rattle.prl_ast.specs.Trees.{program_tree}
 use Rattle.prl_base.specs.declared.operators.Clock.{Clock}
 use Rattle.prl_behaviours.specs.Behaviours.{state_in}
 use Rattle.prl_evaluation.specs.Evaluations.{AreSolution}
-use Rattle.prl_flow.specs.Actuators.{AreUpTo, actuator_text}
-use Rattle.prl_flow.specs.Applications.{HaveBodies}
-use Rattle.prl_flow.specs.Programs.{FlatProgram}
-use Rattle.prl_flow.specs.States.{Timed}
+use Rattle.prl_flow.specs.Vocabulary.{AreUpTo, actuator_text, HaveBodies, FlatProgram, Timed}
 use Rattle.prl_solutions.specs.Conditions.{clocks_in}
 use Rattle.prl_stages.specs.Runs.{rows_for}
 use Rattle.prl_stages.proofs.Inputs.{few_outputs}

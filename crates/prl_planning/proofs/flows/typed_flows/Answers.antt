@@ -1,8 +1,8 @@
 use Rattle.std.proofs.Common.{List, [], ◌∷◌, inl, refl}
 use Rattle.std.proofs.lemmas.Result.{err_from_is_err_and}
+use Rattle.prl_stages.specs.Stages.{Holds}
 use Rattle.prl_stages.specs.declared.stages.Stage.{Stage}
 use Rattle.prl_stages.specs.declared.stages.Stage.TheVariants as stages
-use Rattle.prl_stages.specs.Stages.{Holds}
 use Rattle.prl_calls.specs.Stops.{given_of, AllHold, StopsAt, StopsIn}
 use Rattle.prl_calls.proofs.Stops.{both_hold, ok_map, err_map, stops_first, stops_rest}
 use Rattle.prl_planning.specs.code.Flows.{flow_stages}

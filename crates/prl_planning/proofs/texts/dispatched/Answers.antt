@@ -1,8 +1,7 @@
 use Rattle.std.proofs.Common.{◌≡◌, ◌∙◌, sym, ap, subst}
 use Rattle.std.specs.Prelude.{All}
 use Rattle.prl_track.specs.Machine.{IsOfPlan}
-use Rattle.prl_plan.specs.Horizons.{alone, constants_of}
-use Rattle.prl_plan.specs.Runs.{opening}
+use Rattle.prl_plan.specs.Vocabulary.{alone, constants_of, opening}
 use Rattle.prl_schedules.specs.ScheduleTexts.{task_names, text_of_events}
 use Rattle.prl_stages.specs.Scheduled.{IsScheduleText}
 use Rattle.prl_calls.specs.Stops.{given_of}

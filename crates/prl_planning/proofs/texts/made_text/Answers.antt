@@ -1,7 +1,7 @@
 use Rattle.std.proofs.Common.{◌++◌, ◌∷◌, [], List, inl}
+use Rattle.prl_stages.specs.Stages.{Holds, front, graphed, planned}
 use Rattle.prl_stages.specs.declared.stages.Stage.{Stage}
 use Rattle.prl_stages.specs.declared.stages.Stage.TheVariants as stages
-use Rattle.prl_stages.specs.Stages.{Holds, front, graphed, planned}
 use Rattle.prl_calls.specs.Stops.{given_of, AllHold, StopsAt, StopsIn}
 use Rattle.prl_calls.proofs.Stops.{both_hold, err_map, ok_map, stops_rest}
 use Rattle.prl_planning.proofs.texts.made_text.Goals as goal

@@ -1,6 +1,5 @@
 use Rattle.std.proofs.Common.{ℕ, List, Option, subst, sym}
-use Rattle.prl_stages.specs.Planned.{HasPlan}
-use Rattle.prl_stages.specs.PlansAlone.{program_alone}
+use Rattle.prl_stages.specs.Vocabulary.{HasPlan, program_alone}
 use Rattle.prl_plot.proofs.asked.plan_asked.Goals as goal
 
 pub returns-in-Ok-clause-plan : goal.returns-in-Ok-clause-plan

@@ -1,6 +1,5 @@
 use Rattle.std.proofs.lemmas.Option.{slice_get-get_or}
-use Rattle.prl_plan.specs.Jobs.{task_at}
-use Rattle.prl_plan.specs.Plans.{edge_at, no_edge}
+use Rattle.prl_plan.specs.Vocabulary.{task_at, edge_at, no_edge}
 use Rattle.prl_plan.proofs.Periods.{preceding_shift}
 use Rattle.prl_plan.proofs.RoundPeriods.{edge_takes}
 use Rattle.prl_plan.proofs.ReaderLaws.{preceding_rises}

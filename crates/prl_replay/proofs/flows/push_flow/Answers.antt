@@ -1,10 +1,9 @@
 use Rattle.std.proofs.Common.{◌≡◌, ◌<◌, ℕ, length, sym, ap, subst, ◌∙◌}
 use Rattle.prl_base.specs.Names.{IsName}
+use Rattle.prl_plan.specs.Vocabulary.{task_at, PlanView, IsPlan}
 use Rattle.prl_plan.specs.declared.graphs.Kind.{Kind}
-use Rattle.prl_plan.specs.declared.graphs.Kind.TheVariants as kinds
 use Rattle.prl_plan.specs.declared.graphs.Task.{Task}
-use Rattle.prl_plan.specs.Jobs.{task_at}
-use Rattle.prl_plan.specs.Plans.{PlanView, IsPlan}
+use Rattle.prl_plan.specs.declared.graphs.Kind.TheVariants as kinds
 use Rattle.prl_plan.proofs.RoundPeriods.{task_is}
 use Rattle.prl_core.specs.Cores.{AreOutputs}
 use Rattle.prl_replay.specs.Replays.{AddsFlow}

@@ -1,9 +1,9 @@
 use Rattle.std.proofs.Common.{◌+◌, ◌<◌, List, length, get_or, take, refl, subst, ◌∙◌, ap, arith, vec_items}
 use Rattle.std.proofs.lemmas.Option.{slice_get-get_or}
 use Rattle.std.proofs.lemmas.List.{take_more, take_all}
+use Rattle.prl_plan.specs.Rules.{IsLegal, IsComplete, IsFirstUnfinished, FirstBroken}
 use Rattle.prl_plan.specs.declared.events.Event.{Event}
 use Rattle.prl_plan.specs.declared.events.Event.TheVariants as events
-use Rattle.prl_plan.specs.Rules.{IsLegal, IsComplete, IsFirstUnfinished, FirstBroken}
 use Rattle.prl_core.specs.Cores.{CoreView, constants}
 use Rattle.prl_replay.specs.Replays.{after_all, TellsAll}
 use Rattle.prl_replay.proofs.Runs.{legal_on, state_on, told_on}

@@ -1,10 +1,10 @@
 use Rattle.std.proofs.Common.{◌≡◌, Some, sym, ap, subst, ◌∙◌}
 use Rattle.prl_base.specs.Names.{IsName}
 use Rattle.prl_board.specs.Closings.{Drives}
-use Rattle.prl_plan.specs.declared.graphs.Kind.{Kind}
-use Rattle.prl_plan.specs.declared.graphs.Kind.TheVariants as kinds
-use Rattle.prl_plan.specs.declared.graphs.Task.{Task}
 use Rattle.prl_plan.specs.Jobs.{task_at}
+use Rattle.prl_plan.specs.declared.graphs.Kind.{Kind}
+use Rattle.prl_plan.specs.declared.graphs.Task.{Task}
+use Rattle.prl_plan.specs.declared.graphs.Kind.TheVariants as kinds
 use Rattle.prl_plan.proofs.RoundPeriods.{task_is}
 use Rattle.prl_results.specs.Shown.{AddsShown}
 use Rattle.prl_results.proofs.Results.{actuator_name, drives_in, task_read}

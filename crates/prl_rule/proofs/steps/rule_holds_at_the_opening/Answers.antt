@@ -1,6 +1,5 @@
 use Rattle.std.specs.Prelude.{[]}
-use Rattle.prl_rule.specs.Known.{run_of, values_of}
-use Rattle.prl_rule.specs.Rule.{first_witness}
+use Rattle.prl_rule.specs.Vocabulary.{run_of, values_of, first_witness}
 use Rattle.prl_rule.proofs.Opens.{opens}
 use Rattle.prl_rule.proofs.steps.rule_holds_at_the_opening.Goals as goal
 

@@ -1,13 +1,8 @@
 use Rattle.std.proofs.Common.{◌<◌, List, [], append-nil, sym, ◌∙◌, ap, subst}
+use Rattle.prl_plan.specs.Vocabulary.{HasPlanFacts, constants_on, KeepsLegal, RunConstants, opening, IsSound}
 use Rattle.prl_plan.specs.declared.events.Event.{Event}
-use Rattle.prl_plan.specs.Facts.{HasPlanFacts}
-use Rattle.prl_plan.specs.Horizons.{constants_on}
-use Rattle.prl_plan.specs.Rules.{KeepsLegal}
-use Rattle.prl_plan.specs.Runs.{RunConstants, opening}
-use Rattle.prl_plan.specs.States.{IsSound}
 use Rattle.prl_plan.proofs.StateLaws.{gated_event_keeps_sound, legal_event_is_gated}
-use Rattle.prl_track.specs.Lefts.{left_in}
-use Rattle.prl_track.specs.Tracks.{TrackView, run_of}
+use Rattle.prl_track.specs.Vocabulary.{left_in, TrackView, run_of}
 use Rattle.prl_track.proofs.NextLaws.{next_keeps_legal}
 use Rattle.prl_track.proofs.Falls.{legal_event_leaves_less}
 use Rattle.prl_schedules.specs.Dispatches.{IsDispatched}

@@ -1,9 +1,6 @@
 use Rattle.std.proofs.Common.{◌≡◌}
-use Rattle.prl_plan.specs.Horizons.{constants_on}
-use Rattle.prl_plan.specs.Runs.{opening}
-use Rattle.prl_plan.specs.States.{IsSound}
-use Rattle.prl_track.specs.Tracks.{run_of}
-use Rattle.prl_track.specs.Lefts.{left_in}
+use Rattle.prl_plan.specs.Vocabulary.{constants_on, opening, IsSound}
+use Rattle.prl_track.specs.Vocabulary.{run_of, left_in}
 use Rattle.prl_schedules.proofs.Dispatching.{LeadsTo}
 use Rattle.prl_schedules.proofs.dispatches.dispatch_on.Given as goal
 

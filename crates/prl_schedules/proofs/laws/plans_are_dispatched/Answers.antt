@@ -1,7 +1,5 @@
 use Rattle.std.proofs.Common.{◌+◌, arith}
-use Rattle.prl_plan.specs.Facts.{HasPlanFacts}
-use Rattle.prl_plan.specs.Horizons.{constants_of}
-use Rattle.prl_plan.specs.Runs.{opening}
+use Rattle.prl_plan.specs.Vocabulary.{HasPlanFacts, constants_of, opening}
 use Rattle.prl_plan.proofs.StateLaws.{opening_is_sound}
 use Rattle.prl_track.specs.Lefts.{left_in}
 use Rattle.prl_schedules.proofs.Dispatching.{some_dispatch, dispatched_is_legal, dispatched_is_complete}

@@ -1,7 +1,6 @@
 use Rattle.std.proofs.Common.{◌≡◌, take}
 use Rattle.std.specs.List.{flat_map}
-use Rattle.prl_schedules.specs.ScheduleTexts.{task_names}
-use Rattle.prl_schedules.specs.ReadTexts.{read_line}
+use Rattle.prl_schedules.specs.Vocabulary.{task_names, read_line}
 use Rattle.prl_schedules.proofs.read_texts.reads_text.Given as goal
 
 -- the lines of the reads so far

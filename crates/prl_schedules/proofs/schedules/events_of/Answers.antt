@@ -2,8 +2,7 @@ use Rattle.std.proofs.Common.{rules, arith, ◌≡◌, ◌≢◌, ℕ, ◌+◌, 
 use Rattle.std.specs.Prelude.{All}
 use Rattle.std.proofs.lemmas.List.Elements.{All-push}
 use borrow.Author.Tests.{eqb-false}
-use Rattle.prl_base.specs.Lines.{lines_of}
-use Rattle.prl_base.specs.Reading.{◌>>=◌}
+use Rattle.prl_base.specs.Vocabulary.{lines_of, ◌>>=◌}
 use Rattle.prl_base.proofs.LineCuts.{option_map_none, length_cut}
 use Rattle.prl_schedules.specs.declared.schedules.ScheduleFault.TheVariants as faults
 use Rattle.prl_schedules.specs.Schedules.{or_line, event_of, events_from, schedule_of, IsOfTasks}

@@ -1,9 +1,7 @@
 use Rattle.std.proofs.Common.{List, ℕ, subst}
-use Rattle.prl_flow.specs.Programs.{FlatProgram}
-use Rattle.prl_flow.specs.Uses.{IsCycleLabel}
+use Rattle.prl_flow.specs.Vocabulary.{FlatProgram, IsCycleLabel}
 use Rattle.prl_stages.specs.declared.faults.InputFile.TheVariants as parts
-use Rattle.prl_stages.specs.Flattened.{IsFlattened}
-use Rattle.prl_stages.specs.Given.{text_of}
+use Rattle.prl_stages.specs.Vocabulary.{IsFlattened, text_of}
 use Rattle.prl_stages.proofs.laws.cycles_are_told_by_name.Goals as goal
 
 pub returns : goal.returns

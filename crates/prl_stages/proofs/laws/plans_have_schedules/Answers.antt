@@ -1,6 +1,5 @@
 use Rattle.std.proofs.Common.{refl}
-use Rattle.prl_plan.specs.Horizons.{constants_of}
-use Rattle.prl_plan.specs.Runs.{opening}
+use Rattle.prl_plan.specs.Vocabulary.{constants_of, opening}
 use Rattle.prl_schedules.specs.ScheduleTexts.{task_names, text_of_events}
 use Rattle.prl_stages.proofs.laws.plans_have_schedules.Goals as goal
 

@@ -1,5 +1,4 @@
-use Rattle.prl_stages.specs.code.Ones.{FindOne, PartLaws}
-use Rattle.prl_stages.specs.code.Wholes.{WholeLaws}
+use Rattle.prl_stages.specs.Vocabulary.{FindOne, PartLaws, WholeLaws}
 use Rattle.prl_stages.proofs.OneParts.{one_clocks, one_flat}
 use Rattle.prl_stages.proofs.OnePlan.{one_graph}
 use Rattle.prl_stages.proofs.OneRun.{one_plan}

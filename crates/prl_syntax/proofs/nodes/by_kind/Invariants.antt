@@ -1,6 +1,5 @@
 use Rattle.std.proofs.Common.{◌≡◌, length, map, reverse}
-use Rattle.prl_syntax.specs.code.Nodes.{declared_view, declarations_view, followed_by}
-use Rattle.prl_syntax.specs.Trees.{program_of}
+use Rattle.prl_syntax.specs.Vocabulary.{declared_view, declarations_view, followed_by, program_of}
 use Rattle.prl_syntax.proofs.nodes.by_kind.Given as goal
 
 abbrev pub invariant-each : goal.invariant-each

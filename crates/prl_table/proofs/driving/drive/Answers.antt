@@ -2,13 +2,11 @@ use Rattle.std.proofs.Common.{◌≡◌, ℕ, List, Option, Some, refl, sym, ◌
 use Rattle.std.specs.Vec.{vec_items}
 use Rattle.prl_board.specs.Openings.{first_clock}
 use Rattle.prl_exec.proofs.Rounds.{all_ended, opening_stands}
+use Rattle.prl_plan.specs.Vocabulary.{constants_of, PlanView}
 use Rattle.prl_plan.specs.declared.horizons.Horizon.{Horizon}
-use Rattle.prl_plan.specs.Horizons.{constants_of}
-use Rattle.prl_plan.specs.Plans.{PlanView}
-use Rattle.prl_rule.specs.declared.views.Constants.{Constants}
 use Rattle.prl_rule.specs.Known.{run_of}
-use Rattle.prl_tables.specs.CheckedTables.{CheckedView}
-use Rattle.prl_tables.specs.Tables.{last_unit}
+use Rattle.prl_rule.specs.declared.views.Constants.{Constants}
+use Rattle.prl_tables.specs.Vocabulary.{CheckedView, last_unit}
 use Rattle.prl_table.specs.code.Driving.{acts_at, AreFirst, IsDriven}
 use Rattle.prl_table.proofs.Driven.{all_over, opened}
 use Rattle.prl_table.proofs.driving.drive.Goals as goal

@@ -1,6 +1,5 @@
 use Rattle.std.proofs.Common.{◌≡◌, ◌+◌, ◌<◌, ℕ, Option, length, set, sym, ◌∙◌, ap, subst, arith}
-use Rattle.prl_plan.specs.Horizons.{IsHorizon}
-use Rattle.prl_plan.specs.Plans.{PlanView}
+use Rattle.prl_plan.specs.Vocabulary.{IsHorizon, PlanView}
 use Rattle.prl_rule.specs.Known.{run_of}
 use Rattle.prl_table.specs.code.Driving.{acts_at, next_act, IsDriven}
 use Rattle.prl_table.proofs.Driven.{next_of_board, noted_now}

@@ -3,9 +3,7 @@ use Rattle.std.proofs.lemmas.Option.{slice_get-get_or}
 use Rattle.prl_base.specs.declared.numbers.TaskNo.{TaskNo}
 use Rattle.prl_plan.specs.declared.graphs.TaskGraph.{TaskGraph}
 use Rattle.prl_tables.specs.declared.tables.Entry.{Entry}
-use Rattle.prl_table.specs.Made.{cut_from, cut_to, last_of, with_tick}
-use Rattle.prl_table.specs.MakeFaults.{job_in}
-use Rattle.prl_table.specs.code.Ticks.{HaveAtMost}
+use Rattle.prl_table.specs.Vocabulary.{cut_from, cut_to, last_of, with_tick, job_in, HaveAtMost}
 use Rattle.prl_table.proofs.Cuts.{few_more}
 use Rattle.prl_table.proofs.making.cut.Goals as goal
 

@@ -1,7 +1,5 @@
 use Rattle.std.specs.Prelude.{◌≡◌, ℕ, Option}
-use Rattle.prl_table.specs.Made.{cut_from, cut_to, last_of}
-use Rattle.prl_table.specs.MakeFaults.{job_in}
-use Rattle.prl_table.specs.code.Ticks.{HasTicks, HaveAtMost}
+use Rattle.prl_table.specs.Vocabulary.{cut_from, cut_to, last_of, job_in, HasTicks, HaveAtMost}
 use Rattle.prl_table.proofs.making.cut.Given as goal
 
 -- the pieces of the ticks so far, and what the last one goes to

@@ -1,6 +1,5 @@
 use Rattle.std.specs.Prelude.{◌≡◌, ◌+◌, ◌<◌, ◌≤◌, ℕ, Option}
-use Rattle.prl_table.specs.Made.{cut_from, later}
-use Rattle.prl_table.specs.code.Ticks.{HasTicks}
+use Rattle.prl_table.specs.Vocabulary.{cut_from, later, HasTicks}
 use Rattle.prl_table.proofs.making.first_unsteady.Given as goal
 
 -- the run is steady so far

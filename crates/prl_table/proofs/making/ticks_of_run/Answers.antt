@@ -1,6 +1,6 @@
 use Rattle.std.proofs.Common.{List, ◌∙◌, subst}
-use Rattle.prl_edf.specs.declared.pieces.Piece.{Piece}
 use Rattle.prl_edf.specs.Pieces.{run_of}
+use Rattle.prl_edf.specs.declared.pieces.Piece.{Piece}
 use Rattle.prl_table.specs.code.Ticks.{HasTicks}
 use Rattle.prl_table.proofs.MadeCode.{are_of_plan}
 use Rattle.prl_table.proofs.making.ticks_of_run.Goals as goal

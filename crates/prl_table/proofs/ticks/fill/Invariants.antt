@@ -1,7 +1,6 @@
 use Rattle.std.specs.Prelude.{◌≡◌, ◌≤◌, ◌&&◌, max, ℕ, Option, Some, length, slice_get, nat_le, nat_lt, if◌then◌else◌}
 use Rattle.prl_base.specs.declared.numbers.TaskNo.{TaskNo}
-use Rattle.prl_table.specs.MakeFaults.{job_in}
-use Rattle.prl_table.specs.code.Ticks.{HasTicks}
+use Rattle.prl_table.specs.Vocabulary.{job_in, HasTicks}
 use Rattle.prl_table.proofs.ticks.fill.Given as goal
 
 -- the ticks of the piece so far

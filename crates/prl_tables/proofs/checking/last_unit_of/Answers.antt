@@ -1,8 +1,7 @@
 use Rattle.std.proofs.Common.{◌≡◌, ◌+◌, ◌*◌, ◌/◌, ◌%◌, ◌<◌, ◌≤◌, ◌^◌, ℕ, ap, arith}
 use Rattle.std.proofs.Math.Nat.{mul-le-mul_left, mul-le-mul_right}
 use Rattle.prl_plan.specs.declared.graphs.TaskGraph.{TaskGraph}
-use Rattle.prl_tables.specs.declared.sums.Sums.{Sums}
-use Rattle.prl_tables.specs.Tables.{classes, end_of}
+use Rattle.prl_tables.specs.Vocabulary.{Sums, classes, end_of}
 use Rattle.prl_tables.proofs.Ordering.{end_is}
 use Rattle.prl_tables.proofs.checking.last_unit_of.Goals as goal
 

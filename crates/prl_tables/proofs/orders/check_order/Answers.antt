@@ -1,7 +1,6 @@
 use Rattle.std.proofs.Common.{rules, ℕ, length, sym, ap, subst, arith, inl, inr}
 use Rattle.prl_plan.specs.declared.graphs.TaskGraph.{TaskGraph}
-use Rattle.prl_tables.specs.Checks.{IsFault}
-use Rattle.prl_tables.specs.Tables.{KeepsOrder}
+use Rattle.prl_tables.specs.Vocabulary.{IsFault, KeepsOrder}
 use Rattle.prl_tables.proofs.orders.check_order.Goals as goal
 
 pub returns-in_err-check_edge-clause-cause : goal.returns-in_err-check_edge-clause-cause

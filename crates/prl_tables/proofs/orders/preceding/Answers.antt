@@ -1,9 +1,8 @@
 use Rattle.std.proofs.Common.{◌≡◌, ℕ, sym, ◌∙◌, ap, subst, arith}
 use Rattle.std.specs.Prelude.{pos}
+use Rattle.prl_plan.specs.Vocabulary.{edge_at, IsSmallOperand, preceding}
 use Rattle.prl_plan.specs.declared.walks.Operand.{Operand}
 use Rattle.prl_plan.specs.declared.walks.Operand.TheVariants as operands
-use Rattle.prl_plan.specs.Plans.{edge_at, IsSmallOperand}
-use Rattle.prl_plan.specs.Precedence.{preceding}
 use Rattle.prl_tables.proofs.orders.preceding.Goals as goal
 
 same_from : (m n : ℕ) → ◌≡◌ {A = Operand} (operands.From m) (operands.From n) → m ≡ n

@@ -1,6 +1,5 @@
 use Rattle.std.specs.Prelude.{◌≡◌, ◌<◌, ℕ, Some, slice_get}
-use Rattle.prl_tables.specs.declared.tables.Entry.{Entry}
-use Rattle.prl_tables.specs.Tables.{IsPiece}
+use Rattle.prl_tables.specs.Vocabulary.{Entry, IsPiece}
 use Rattle.prl_tables.proofs.pieces.check_pieces.Given as goal
 
 -- the entries so far are pieces

@@ -1,8 +1,7 @@
 use Rattle.std.proofs.Common.{◌∙◌, ap, sym, subst, length, length-append, ◌∷◌, [], map, arith, vec_items, List, Some, ◌≡◌, ℕ}
 use Rattle.std.specs.Prelude.{slice_get}
 use Rattle.std.proofs.lemmas.List.{map_push}
-use Rattle.prl_tables.specs.declared.sums.Sums.{Sums}
-use Rattle.prl_tables.specs.code.Sums.{AreTaskSums}
+use Rattle.prl_tables.specs.Vocabulary.{Sums, AreTaskSums}
 use Rattle.prl_tables.proofs.Listed.{pushed}
 use Rattle.prl_tables.proofs.sums.all_sums.Goals as goal
 

@@ -1,6 +1,5 @@
 use Rattle.std.specs.Prelude.{◌≡◌, ℕ, List, Some, length, map, slice_get, vec_items}
-use Rattle.prl_tables.specs.declared.sums.Sums.{Sums}
-use Rattle.prl_tables.specs.code.Sums.{AreTaskSums}
+use Rattle.prl_tables.specs.Vocabulary.{Sums, AreTaskSums}
 use Rattle.prl_tables.proofs.sums.all_sums.Given as goal
 
 -- the lists of the tasks so far

@@ -2,10 +2,8 @@ use Rattle.std.proofs.Common.{◌≡◌, ◌+◌, ◌-◌, ◌<◌, ℕ, List, [
 use Rattle.std.proofs.lemmas.List.{drop_more, length-replicate}
 use Rattle.std.proofs.lemmas.Option.{slice_get-get_or}
 use Rattle.std.proofs.Math.Seq.{drop-length}
-use Rattle.prl_tables.specs.declared.tables.Entry.{Entry}
-use Rattle.prl_tables.specs.Tables.{ArePieces, IsPiece}
+use Rattle.prl_tables.specs.Vocabulary.{Entry, ArePieces, IsPiece, HasSums}
 use Rattle.prl_plan.specs.Plans.{PlanView}
-use Rattle.prl_tables.specs.code.Sums.{HasSums}
 use Rattle.prl_tables.proofs.Summed.{none_added}
 use Rattle.prl_tables.proofs.sums.task_sums.Goals as goal
 

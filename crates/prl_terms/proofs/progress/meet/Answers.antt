@@ -1,6 +1,5 @@
 use Rattle.std.proofs.Common.{◌≡◌, false, true, subst}
-use Rattle.prl_terms.specs.declared.solving.Unsolved.{Unsolved}
-use Rattle.prl_terms.specs.code.Marks.{Refuses}
+use Rattle.prl_terms.specs.Vocabulary.{Unsolved, Refuses}
 use Rattle.prl_terms.proofs.RuleStates.{passed_over, solved_too, contradicted}
 use Rattle.prl_terms.proofs.progress.meet.Goals as goal
 

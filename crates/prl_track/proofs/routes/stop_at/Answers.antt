@@ -1,10 +1,8 @@
 use Rattle.std.proofs.Common.{◌≡◌, ◌+◌, List, length, get_or, Some, arith, refl, sym, ◌∙◌, ap}
 use Rattle.std.specs.Prelude.{slice_get}
 use Rattle.std.proofs.lemmas.Option.{slice_get-get_or}
-use Rattle.prl_track.specs.declared.routes.Access.{Access}
+use Rattle.prl_track.specs.Vocabulary.{Access, Cursor, route_of}
 use Rattle.prl_track.specs.declared.routes.Access.TheVariants as accesses
-use Rattle.prl_track.specs.declared.routes.Cursor.{Cursor}
-use Rattle.prl_track.specs.Routes.{route_of}
 use Rattle.prl_track.proofs.RouteLaws.{route_is_of_task, action_here, cursor_passes, end_here}
 use Rattle.prl_track.proofs.routes.stop_at.Goals as goal
 

@@ -1,8 +1,7 @@
 use Rattle.std.proofs.Common.{◌≡◌, ◌≤◌, ℕ, length, Option, Some, slice_get}
 use Rattle.std.specs.Prelude.{MatchOption}
 use Rattle.prl_plan.specs.Horizons.{constants_on}
-use Rattle.prl_track.specs.declared.firsts.First.{First}
-use Rattle.prl_track.specs.code.Firsts.{IsFirstAt}
+use Rattle.prl_track.specs.Vocabulary.{First, IsFirstAt}
 use Rattle.prl_track.proofs.tracks.all_firsts.Given as goal
 
 -- the first jobs of the tasks so far

@@ -1,10 +1,8 @@
 use Rattle.std.proofs.Common.{◌∙◌, ap, sym, length}
 use Rattle.prl_ast.specs.Trees.{program_tree, tree_of}
-use Rattle.prl_names.specs.ExprLists.{all_trees}
-use Rattle.prl_names.specs.Lookups.{callee_of}
+use Rattle.prl_names.specs.Vocabulary.{all_trees, callee_of}
 use Rattle.prl_names.proofs.Rows.{root_of_Apply, root_of_Group}
-use Rattle.prl_types.specs.Arity.{counted, first_at, faults_in, root_faults, all_faults, unless_equal}
-use Rattle.prl_types.specs.Flows.{flows_of, root_flows, all_flows, inputs_of}
+use Rattle.prl_types.specs.Vocabulary.{counted, first_at, faults_in, root_faults, all_faults, unless_equal, flows_of, root_flows, all_flows, inputs_of}
 use Rattle.prl_types.proofs.Counting.{drop_trees, parts_more}
 use Rattle.prl_types.proofs.arities.+arity.Goals as goal
 

@@ -1,7 +1,6 @@
 use Rattle.std.proofs.Common.{◌∙◌, sym, length}
 use Rattle.prl_ast.specs.Trees.{program_tree, tree_of}
-use Rattle.prl_types.specs.Arity.{faults_in, unless_equal}
-use Rattle.prl_types.specs.Flows.{flows_of}
+use Rattle.prl_types.specs.Vocabulary.{faults_in, unless_equal, flows_of}
 use Rattle.prl_types.proofs.Counting.{equation_some, equation_none}
 use Rattle.prl_types.proofs.arities.equations_fault.Goals as goal
 

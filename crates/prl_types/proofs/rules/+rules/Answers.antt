@@ -1,12 +1,9 @@
 use Rattle.std.proofs.Common.{◌∙◌, ◌++◌, ap, sym, List}
 use Rattle.prl_ast.specs.Trees.{program_tree}
-use Rattle.prl_names.specs.ExprLists.{all_trees}
-use Rattle.prl_names.specs.Lookups.{callee_of}
+use Rattle.prl_names.specs.Vocabulary.{all_trees, callee_of}
 use Rattle.prl_names.proofs.Rows.{root_of_Apply, root_of_Group}
 use Rattle.prl_terms.specs.declared.terms.Rule.{Rule}
-use Rattle.prl_types.specs.Flows.{root_flows, inputs_of, placed_flows, terms_of}
-use Rattle.prl_types.specs.Rules.{root_rules, all_rules}
-use Rattle.prl_types.specs.code.Segments.{flows_in}
+use Rattle.prl_types.specs.Vocabulary.{root_flows, inputs_of, placed_flows, terms_of, root_rules, all_rules, flows_in}
 use Rattle.prl_types.proofs.Segmented.{terms_of_flows}
 use Rattle.prl_types.proofs.Walking.{terms_placed_flows, application_rules}
 use Rattle.prl_types.proofs.rules.+rules.Goals as goal

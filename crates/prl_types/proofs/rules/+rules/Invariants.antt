@@ -1,9 +1,7 @@
 use Rattle.std.proofs.Common.{◌≡◌, ◌++◌, drop}
 use Rattle.prl_ast.specs.Trees.{program_tree}
 use Rattle.prl_names.specs.ExprLists.{all_trees}
-use Rattle.prl_types.specs.Flows.{placed_flows}
-use Rattle.prl_types.specs.Rules.{all_rules}
-use Rattle.prl_types.specs.code.Segments.{flows_in}
+use Rattle.prl_types.specs.Vocabulary.{placed_flows, all_rules, flows_in}
 use Rattle.prl_types.proofs.rules.+rules.Given as goal
 
 abbrev pub invariant-parts-loop-expr : goal.invariant-parts-loop-expr

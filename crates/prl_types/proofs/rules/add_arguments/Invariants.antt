@@ -1,6 +1,5 @@
 use Rattle.std.proofs.Common.{◌≡◌, ◌++◌, drop}
-use Rattle.prl_types.specs.Rules.{argument_rules}
-use Rattle.prl_types.specs.code.Segments.{flows_in}
+use Rattle.prl_types.specs.Vocabulary.{argument_rules, flows_in}
 use Rattle.prl_types.proofs.rules.add_arguments.Given as goal
 
 abbrev pub invariant-loop-segment : goal.invariant-loop-segment

@@ -1,6 +1,5 @@
 use Rattle.std.proofs.Common.{◌≡◌, ◌++◌, map, drop}
-use Rattle.prl_types.specs.code.Contexts.{owned_of}
-use Rattle.prl_types.specs.Rules.{declared_rules}
+use Rattle.prl_types.specs.Vocabulary.{owned_of, declared_rules}
 use Rattle.prl_types.proofs.rules.add_declared.Given as goal
 
 abbrev pub invariant-loop-k : goal.invariant-loop-k

@@ -1,6 +1,5 @@
 use Rattle.std.proofs.Common.{◌≡◌, ◌++◌, ◌-◌, drop, length}
-use Rattle.prl_types.specs.Flows.{placed}
-use Rattle.prl_types.specs.Rules.{argument_rules}
+use Rattle.prl_types.specs.Vocabulary.{placed, argument_rules}
 use Rattle.prl_types.proofs.rules.add_given.Given as goal
 
 abbrev pub invariant-loop-k : goal.invariant-loop-k

@@ -1,7 +1,5 @@
 use Rattle.std.proofs.Common.{◌++◌, ◌∙◌, ◌+◌, drop, ap, List}
-use Rattle.prl_types.specs.declared.segments.Segment.{Segment}
-use Rattle.prl_types.specs.Flows.{placed}
-use Rattle.prl_types.specs.code.Segments.{terms_in, flows_in}
+use Rattle.prl_types.specs.Vocabulary.{Segment, placed, terms_in, flows_in}
 use Rattle.prl_types.proofs.Segmented.{flows_push}
 use Rattle.prl_types.proofs.segments.add_flows.Goals as goal
 

@@ -1,6 +1,5 @@
 use Rattle.std.proofs.Common.{◌≡◌, ◌++◌, drop}
-use Rattle.prl_types.specs.Flows.{placed}
-use Rattle.prl_types.specs.code.Segments.{terms_in, flows_in}
+use Rattle.prl_types.specs.Vocabulary.{placed, terms_in, flows_in}
 use Rattle.prl_types.proofs.segments.add_flows.Given as goal
 
 abbrev pub invariant-loop-segment : goal.invariant-loop-segment

@@ -1,6 +1,5 @@
 use Rattle.std.proofs.Common.{◌≡◌, drop}
-use Rattle.prl_types.specs.Flows.{operand}
-use Rattle.prl_types.specs.code.Segments.{terms_in}
+use Rattle.prl_types.specs.Vocabulary.{operand, terms_in}
 use Rattle.prl_types.proofs.segments.operand.Given as goal
 
 abbrev pub invariant-loop-segment : goal.invariant-loop-segment

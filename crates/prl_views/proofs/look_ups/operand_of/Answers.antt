@@ -1,9 +1,8 @@
 use Rattle.std.proofs.Common.{◌≡◌, ◌<◌, ◌≤◌, ◌^◌, ℕ, length, refl, subst, arith}
+use Rattle.prl_plan.specs.Vocabulary.{operand_of, IsPlan, IsSmallOperand, PlanView, edge_at, release_at}
 use Rattle.prl_plan.specs.declared.graphs.Edge.{Edge}
 use Rattle.prl_plan.specs.declared.walks.Operand.{Operand}
 use Rattle.prl_plan.specs.declared.walks.Operand.TheVariants as operands
-use Rattle.prl_plan.specs.Operands.{operand_of}
-use Rattle.prl_plan.specs.Plans.{IsPlan, IsSmallOperand, PlanView, edge_at, release_at}
 use Rattle.prl_views.proofs.look_ups.operand_of.Goals as goal
 
 -- by the law on what jobs read

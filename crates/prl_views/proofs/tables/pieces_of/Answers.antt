@@ -1,8 +1,8 @@
 use Rattle.std.proofs.Common.{List, subst, sym}
 use Rattle.std.specs.Prelude.{slice_index_or}
 use Rattle.std.proofs.lemmas.Option.{slice_get-get_or}
-use Rattle.prl_tables.specs.declared.tables.Entry.{Entry}
 use Rattle.prl_tables.specs.Tables.{ArePieces}
+use Rattle.prl_tables.specs.declared.tables.Entry.{Entry}
 use Rattle.prl_views.proofs.tables.pieces_of.Goals as goal
 
 -- stands where there is no entry

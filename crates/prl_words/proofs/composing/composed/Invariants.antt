@@ -1,6 +1,5 @@
 use Rattle.std.proofs.Common.{ℕ, take, drop}
-use Rattle.prl_words.specs.Counts.{HaveCounts}
-use Rattle.prl_words.specs.code.Steps.{IsSoFar}
+use Rattle.prl_words.specs.Vocabulary.{HaveCounts, IsSoFar}
 use Rattle.prl_words.proofs.composing.composed.Given as goal
 
 abbrev pub invariant-loop-op : goal.invariant-loop-op

@@ -2,13 +2,9 @@ use Rattle.std.proofs.Common.{◌≡◌, ◌*◌, ◌/◌, ◌<◌, ◌≤◌, �
 use Rattle.std.proofs.Math.Nat.{mul-le-mul_left, mul-le-mul_right}
 use Rattle.std.proofs.lemmas.List.{take_rest}
 use Rattle.prl_base.specs.declared.operators.Op.{Op}
+use Rattle.prl_plan.specs.Vocabulary.{walk, word_at, IsWordOf}
 use Rattle.prl_plan.specs.declared.words.Word.{Word}
-use Rattle.prl_plan.specs.Operands.{walk}
-use Rattle.prl_plan.specs.Words.{word_at, IsWordOf}
-use Rattle.prl_words.specs.code.Holding.{IsLeading, IsHeld}
-use Rattle.prl_words.specs.code.Shortest.{IsSteady, IsShortened}
-use Rattle.prl_words.specs.code.Steps.{IsSoFar, IsComposed}
-use Rattle.prl_words.specs.Counts.{HaveCounts}
+use Rattle.prl_words.specs.Vocabulary.{IsLeading, IsHeld, IsSteady, IsShortened, IsSoFar, IsComposed, HaveCounts}
 use Rattle.prl_words.proofs.Held.{operand_held, steady_held}
 use Rattle.prl_words.proofs.SoFar.{counts_here, steady_so_far, word_shortest}
 use Rattle.prl_words.proofs.Turns.{second_some}

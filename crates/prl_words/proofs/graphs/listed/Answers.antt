@@ -2,12 +2,10 @@ use Rattle.std.proofs.Common.{◌≡◌, ◌+◌, ℕ, List, Some, length, sym, 
 use Rattle.std.specs.Prelude.{slice_get}
 use Rattle.std.proofs.lemmas.Option.{slice_get_within}
 use Rattle.prl_base.specs.declared.operators.Op.{Op}
-use Rattle.prl_plan.specs.declared.words.Word.{Word}
-use Rattle.prl_plan.specs.Words.{IsWordOf}
-use Rattle.prl_plan.specs.Words.{AreWords}
-use Rattle.prl_words.proofs.Constants.{edge_few, edge_jobs, edge_read}
+use Rattle.prl_plan.specs.Vocabulary.{IsWordOf, AreWords, first_reader}
 use Rattle.prl_plan.specs.declared.graphs.Edge.{Edge}
-use Rattle.prl_plan.specs.FirstReaders.{first_reader}
+use Rattle.prl_plan.specs.declared.words.Word.{Word}
+use Rattle.prl_words.proofs.Constants.{edge_few, edge_jobs, edge_read}
 use Rattle.prl_plan.proofs.ReaderLaws.{is_first_reader}
 use Rattle.prl_plan.proofs.WordNumbers.{first_after_prefix, one_first}
 use Rattle.prl_words.proofs.Listed.{AreSoMany, one_more, same_sum}

@@ -1,7 +1,7 @@
 use Rattle.std.proofs.Common.{◌≡◌, ◌≤◌, ◌*◌, take}
 use Rattle.std.specs.Prelude.{sum_by}
-use Rattle.prl_plan.specs.declared.graphs.Edge.{Edge}
 use Rattle.prl_plan.specs.FirstReaders.{first_reader}
+use Rattle.prl_plan.specs.declared.graphs.Edge.{Edge}
 use Rattle.prl_words.proofs.prefixes.all_constants.Given as goal
 
 abbrev pub invariant-loop-edge : goal.invariant-loop-edge

@@ -2,8 +2,7 @@ use Rattle.std.proofs.Common.{◌≡◌, ◌/◌, ◌≤◌, ℕ, refl, sym, ap,
 use Rattle.std.specs.Int.{IsGcd}
 use Rattle.prl_base.specs.declared.operators.Op.{Op}
 use Rattle.prl_base.specs.declared.operators.Op.TheVariants as operators
-use Rattle.prl_words.specs.Counts.{IsCountBefore}
-use Rattle.prl_words.specs.code.Steps.{IsStep}
+use Rattle.prl_words.specs.Vocabulary.{IsCountBefore, IsStep}
 use Rattle.prl_words.proofs.Turns.{first_some}
 use Rattle.prl_words.proofs.Rooms.{gcd_some}
 use Rattle.prl_words.proofs.steps.turns_under.Goals as goal

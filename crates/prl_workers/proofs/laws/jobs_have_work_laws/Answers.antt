@@ -2,8 +2,7 @@ use Rattle.std.proofs.Common.{◌≡◌, Some, sym, ◌∙◌, subst, arith}
 use Rattle.prl_body.specs.declared.bodies.CheckedBody.{CheckedBody}
 use Rattle.prl_plan.specs.Jobs.{IsHorizonJob}
 use Rattle.prl_plan.proofs.RoundPeriods.{task_is}
-use Rattle.prl_values.specs.Fitting.{FitsTask}
-use Rattle.prl_values.specs.JobValues.{job_values}
+use Rattle.prl_values.specs.Vocabulary.{FitsTask, job_values}
 use Rattle.prl_workers.proofs.laws.jobs_have_work_laws.Goals as goal
 
 pub returns : goal.returns

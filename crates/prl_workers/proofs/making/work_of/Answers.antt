@@ -2,9 +2,8 @@ use Rattle.std.proofs.Common.{◌≡◌, ℕ, List, Some, None, sym, ap, subst, 
 use Rattle.std.specs.Option.{option_copied}
 use Rattle.prl_base.specs.Names.{IsName}
 use Rattle.prl_body.specs.Bodies.{body_named}
+use Rattle.prl_plan.specs.Vocabulary.{IsTask, task_at}
 use Rattle.prl_plan.specs.declared.graphs.Task.{Task}
-use Rattle.prl_plan.specs.Graphs.{IsTask}
-use Rattle.prl_plan.specs.Jobs.{task_at}
 use Rattle.prl_plan.proofs.RoundPeriods.{task_is}
 use Rattle.prl_values.specs.JobValues.{word_of}
 use Rattle.prl_workers.proofs.TaskNames.{node_word, task_read}

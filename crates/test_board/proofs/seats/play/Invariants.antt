@@ -1,7 +1,6 @@
 use Rattle.std.proofs.Common.{vec_items}
 use Rattle.prl_rule.specs.declared.views.ClockPart.{ClockPart}
-use Rattle.prl_board.specs.ClockSeats.{IsClockOf}
-use Rattle.prl_board.specs.Lones.{AreSeatsOf}
+use Rattle.prl_board.specs.Vocabulary.{IsClockOf, AreSeatsOf}
 use Rattle.test_board.proofs.seats.play.Given as goal
 
 -- the seats belong to the board

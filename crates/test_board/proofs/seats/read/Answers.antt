@@ -1,6 +1,6 @@
 use Rattle.std.proofs.Common.{subst}
-use Rattle.prl_board.specs.declared.seats.Got.{Got}
 use Rattle.prl_board.specs.TaskSeats.{AnswersRead}
+use Rattle.prl_board.specs.declared.seats.Got.{Got}
 use Rattle.test_board.proofs.Overruns.{may_raise}
 use Rattle.test_board.proofs.seats.read.Goals as goal
 

@@ -1,11 +1,9 @@
 use Rattle.std.proofs.Common.{ℕ, subst, arith}
-use Rattle.prl_plan.specs.Horizons.{constants_of}
-use Rattle.prl_plan.specs.Runs.{RunConstants}
+use Rattle.prl_plan.specs.Vocabulary.{constants_of, RunConstants}
 use Rattle.prl_plan.proofs.RoundPeriods.{task_is}
+use Rattle.prl_edf.specs.Vocabulary.{wcets_of, IsVerdict}
 use Rattle.prl_edf.specs.declared.analysis.Verdict.{Verdict}
 use Rattle.prl_edf.specs.declared.analysis.Verdict.TheVariants as verdicts
-use Rattle.prl_edf.specs.UnitLists.{wcets_of}
-use Rattle.prl_edf.specs.Verdicts.{IsVerdict}
 use Rattle.test_edf.proofs.runs.count_events.Goals as goal
 
 pub events_of-requires-clause-run : goal.events_of-requires-clause-run

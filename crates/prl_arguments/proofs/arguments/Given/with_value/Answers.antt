@@ -2,9 +2,7 @@ use Rattle.std.proofs.Common.{◌≡◌, ℕ, Bool, true, false, length, map, Li
 use Rattle.std.proofs.Math.Path.{fun_ext}
 use Rattle.std.proofs.lemmas.List.{get_or-set_other, get_or-set_same, length-map}
 use denote.Ref.{Bor}
-use Rattle.prl_arguments.specs.declared.arguments.Setting.{Setting}
-use Rattle.prl_arguments.specs.Arguments.{all_settings, is_same, with_value}
-use Rattle.prl_arguments.specs.code.Settings.{bytes_of, given_by, place_of}
+use Rattle.prl_arguments.specs.Vocabulary.{Setting, all_settings, is_same, with_value, bytes_of, given_by, place_of}
 use Rattle.prl_arguments.proofs.Names.{inside, same_is, same_place}
 use Rattle.prl_arguments.proofs.arguments.Given.with_value.Goals as goal
 

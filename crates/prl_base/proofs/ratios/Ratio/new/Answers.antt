@@ -3,8 +3,7 @@ use mir.Val.{to_z, of_z, SFits}
 use Rattle.std.specs.Int.{IsGcd}
 use Rattle.std.specs.Int.Signed.{lt_z}
 use Rattle.std.proofs.lemmas.Int.{to_z-of_z}
-use Rattle.prl_base.specs.Reductions.{signed}
-use Rattle.prl_base.specs.declared.ratios.TheConstants.{MAX_PART}
+use Rattle.prl_base.specs.Vocabulary.{signed, MAX_PART}
 use Rattle.prl_base.proofs.Lowest.{divisor_positive, lowest_is, lowest_small, lowest_past}
 use Rattle.prl_base.proofs.ratios.Ratio.new.Goals as goal
 

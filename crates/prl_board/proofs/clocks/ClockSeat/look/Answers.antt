@@ -1,8 +1,7 @@
 use Rattle.std.proofs.Common.{◌≡◌, ap, subst, ◌∙◌}
+use Rattle.prl_rule.specs.Vocabulary.{LookTold, looked}
 use Rattle.prl_rule.specs.declared.views.View.{View}
-use Rattle.prl_rule.specs.Told.{LookTold}
 use Rattle.prl_board.specs.ClockSeats.{ClockSeatView}
-use Rattle.prl_rule.specs.Steps.{looked}
 use Rattle.prl_board.proofs.ClockAfter.{clock_after}
 use Rattle.prl_board.proofs.clocks.ClockSeat.look.Goals as goal
 

@@ -1,8 +1,7 @@
 use Rattle.std.proofs.Common.{◌≡◌, ap, subst, ◌∙◌}
+use Rattle.prl_rule.specs.Vocabulary.{ClockStopTold, clock_stop_loaded}
 use Rattle.prl_rule.specs.declared.views.View.{View}
-use Rattle.prl_rule.specs.Told.{ClockStopTold}
 use Rattle.prl_board.specs.ClockSeats.{ClockSeatView}
-use Rattle.prl_rule.specs.Steps.{clock_stop_loaded}
 use Rattle.prl_board.proofs.ClockAfter.{clock_after}
 use Rattle.prl_board.proofs.clocks.ClockSeat.stopped.Goals as goal
 

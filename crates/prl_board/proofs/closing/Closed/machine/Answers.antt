@@ -2,9 +2,8 @@ use Rattle.std.proofs.Common.{◌≡◌, ◌<◌, length, sym, ap, subst, ◌∙
 use Rattle.std.specs.Prelude.{slice_get}
 use Rattle.prl_base.specs.declared.numbers.TaskNo.{TaskNo}
 use Rattle.prl_rule.specs.declared.views.View.{View}
-use Rattle.prl_board.specs.Closings.{ClosedView}
+use Rattle.prl_board.specs.Vocabulary.{ClosedView, IsMachineOf, IsNodeTask}
 use Rattle.prl_seats.specs.JobSeats.{JobSeatView}
-use Rattle.prl_board.specs.TaskSeats.{IsMachineOf, IsNodeTask}
 use Rattle.prl_board.proofs.Lists.{read_there}
 use Rattle.prl_board.proofs.ClosedBoards.{left_of}
 use Rattle.prl_board.proofs.closing.Closed.machine.Goals as goal

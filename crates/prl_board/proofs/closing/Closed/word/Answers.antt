@@ -1,7 +1,6 @@
 use Rattle.std.proofs.Common.{arith, ◌≡◌, ◌+◌, ℕ, length, get_or, sym, ap, ◌∙◌, vec_items}
 use Rattle.std.specs.Mem.Slots.{slots_items}
-use Rattle.prl_rule.specs.Agreement.{slot_word}
-use Rattle.prl_rule.specs.Known.{run_of}
+use Rattle.prl_rule.specs.Vocabulary.{slot_word, run_of}
 use Rattle.prl_board.specs.Closings.{ClosedView, slot_of}
 use Rattle.prl_board.proofs.ClosedBoards.{left_of, word_there}
 use Rattle.prl_board.proofs.closing.Closed.word.Goals as goal

@@ -3,10 +3,8 @@ use Rattle.std.specs.Mem.Slots.{slots_items}
 use Rattle.std.specs.Prelude.{slice_get}
 use lib.ListN.{get_elem?}
 use Rattle.prl_rule.specs.declared.views.KeptHalf.{KeptHalf}
-use Rattle.prl_board.specs.Closings.{ClosedView, KeepsTag}
+use Rattle.prl_board.specs.Vocabulary.{ClosedView, KeepsTag, LoneView, IsSettled}
 use Rattle.prl_seats.specs.JobSeats.{JobSeatView}
-use Rattle.prl_board.specs.Lones.{LoneView}
-use Rattle.prl_board.specs.code.Lent.{IsSettled}
 use Rattle.prl_board.proofs.ClosedBoards.{closed_from, closing_clock, closing_tags}
 use Rattle.prl_board.proofs.lone.Lone.close.Goals as goal
 

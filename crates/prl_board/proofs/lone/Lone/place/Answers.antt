@@ -1,8 +1,7 @@
 use Rattle.std.proofs.Common.{◌≡◌, ◌<◌, length, sym, ap, subst, ◌∙◌, vec_items, Some}
 use Rattle.std.specs.Prelude.{slice_get}
 use Rattle.prl_seats.specs.JobSeats.{JobSeatView}
-use Rattle.prl_board.specs.Lones.{LoneView}
-use Rattle.prl_board.specs.TaskSeats.{place_of}
+use Rattle.prl_board.specs.Vocabulary.{LoneView, place_of}
 use Rattle.prl_board.proofs.Lists.{read_there}
 use Rattle.prl_board.proofs.lone.Lone.place.Goals as goal
 

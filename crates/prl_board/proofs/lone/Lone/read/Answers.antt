@@ -1,7 +1,6 @@
 use Rattle.std.proofs.Common.{vec_items}
 use Rattle.prl_rule.specs.Known.{run_of}
-use Rattle.prl_board.specs.Lones.{FindsTag}
-use Rattle.prl_board.specs.TaskSeats.{AnswersRead, MayRead}
+use Rattle.prl_board.specs.Vocabulary.{FindsTag, AnswersRead, MayRead}
 use Rattle.prl_board.proofs.Called.{call_after, has_index, kept_after, lone_after, may_lend, seen_with, taken, taken_lent, taken_placed}
 use Rattle.prl_board.proofs.Found.{read_is_exact}
 use Rattle.prl_board.proofs.lone.Lone.read.Goals as goal

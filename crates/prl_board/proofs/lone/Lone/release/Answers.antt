@@ -1,7 +1,6 @@
 use Rattle.std.proofs.Common.{◌≡◌, ◌∙◌, ap}
 use Rattle.prl_seats.specs.JobSeats.{AnswersRelease}
-use Rattle.prl_board.specs.Lones.{IsReleasedBy, LoneView}
-use Rattle.prl_board.specs.TaskSeats.{MayRelease}
+use Rattle.prl_board.specs.Vocabulary.{IsReleasedBy, LoneView, MayRelease}
 use Rattle.prl_board.proofs.Called.{call_after, has_index, kept_after, lone_after, may_lend, release_is_exact, seen_with, taken, taken_lent, taken_placed}
 use Rattle.prl_board.proofs.lone.Lone.release.Goals as goal
 

@@ -2,8 +2,7 @@ use Rattle.std.proofs.Common.{◌≡◌, ◌<◌, ℕ, length, set, sym, ap, sub
 use lib.ListN.{get_elem?}
 use Rattle.prl_base.specs.declared.numbers.TaskNo.{TaskNo}
 use Rattle.prl_seats.specs.JobSeats.{JobSeatView}
-use Rattle.prl_board.specs.Lones.{LoneView, StandAs}
-use Rattle.prl_board.specs.code.Lent.{AreLent, IsLent, IsSettled, KeepHalves}
+use Rattle.prl_board.specs.Vocabulary.{LoneView, StandAs, AreLent, IsLent, IsSettled, KeepHalves}
 use Rattle.prl_seats.proofs.Following.{known_once}
 use Rattle.prl_board.proofs.Lending.{relent, set_is, stands_set}
 use Rattle.prl_board.proofs.Lists.{read_there}

@@ -2,8 +2,7 @@ use Rattle.std.proofs.Common.{arith, ℕ, length, sym, ap, subst, ◌∙◌}
 use Rattle.std.specs.Prelude.{slice_get}
 use mathlib.Core.Logic.{dite}
 use native.Mathlib.Decide.{ℕ_discrete}
-use Rattle.prl_board.specs.Lones.{LoneView}
-use Rattle.prl_board.specs.code.Lent.{IsSettled}
+use Rattle.prl_board.specs.Vocabulary.{LoneView, IsSettled}
 use Rattle.prl_board.proofs.Lending.{keep_then, settled_stays, stands_then}
 use Rattle.prl_board.proofs.lone.Lone.settle_all.Goals as goal
 

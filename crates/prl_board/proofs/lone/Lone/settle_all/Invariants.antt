@@ -1,8 +1,7 @@
 use Rattle.std.proofs.Common.{◌≡◌, ◌<◌, ℕ, Some}
 use Rattle.std.specs.Prelude.{slice_get}
 use Rattle.prl_seats.specs.JobSeats.{JobSeatView}
-use Rattle.prl_board.specs.Lones.{IsLoneOf, StandAs}
-use Rattle.prl_board.specs.code.Lent.{IsSettled, KeepHalves}
+use Rattle.prl_board.specs.Vocabulary.{IsLoneOf, StandAs, IsSettled, KeepHalves}
 use Rattle.prl_board.proofs.lone.Lone.settle_all.Given as goal
 
 -- the parts of the tasks so far stand where their seats do

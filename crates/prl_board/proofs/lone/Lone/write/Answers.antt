@@ -1,7 +1,6 @@
 use Rattle.std.proofs.Common.{set, vec_items, refl}
 use Rattle.prl_rule.specs.Known.{run_of}
-use Rattle.prl_board.specs.Lones.{LeavesTag}
-use Rattle.prl_board.specs.TaskSeats.{AnswersWrite, MayWrite}
+use Rattle.prl_board.specs.Vocabulary.{LeavesTag, AnswersWrite, MayWrite}
 use Rattle.prl_board.proofs.Called.{call_after, has_index, kept_after, lone_after, may_lend, seen_with, taken, taken_lent, taken_placed}
 use Rattle.prl_board.proofs.Found.{write_is_exact}
 use Rattle.prl_board.proofs.Lists.{set_here}

@@ -1,8 +1,7 @@
 use Rattle.std.proofs.Common.{arith, ◌≡◌, ◌+◌, ◌/◌, ◌^◌, sym, ap, subst, ◌∙◌}
 use Rattle.prl_board.specs.declared.seats.Got.TheVariants as gots
-use Rattle.prl_rule.specs.Halves.{AreHalves, value_of_halves}
+use Rattle.prl_rule.specs.Vocabulary.{AreHalves, value_of_halves, values_of}
 use Rattle.prl_seats.specs.JobSeats.{JobSeatView, StaysAt}
-use Rattle.prl_rule.specs.Known.{values_of}
 use Rattle.prl_board.specs.TaskSeats.{ReadsHalf}
 use Rattle.prl_seats.proofs.Following.{known_once}
 use Rattle.prl_board.proofs.HalfReads.{finds_half, stands_at, value_here}

@@ -1,10 +1,9 @@
 use Rattle.std.proofs.Common.{◌≡◌, ◌/◌, ℕ, refl, sym, ap, subst, ◌∙◌}
-use Rattle.prl_base.specs.declared.numbers.TaskNo.{TaskNo}
 use Rattle.prl_base.specs.Values.{FitsValue}
+use Rattle.prl_base.specs.declared.numbers.TaskNo.{TaskNo}
 use Rattle.prl_plan.specs.declared.events.Action.TheVariants as actions
 use Rattle.prl_plan.specs.Runs.{action_at}
-use Rattle.prl_rule.specs.Known.{run_of, values_of}
-use Rattle.prl_rule.specs.RunValues.{half_of}
+use Rattle.prl_rule.specs.Vocabulary.{run_of, values_of, half_of}
 use Rattle.prl_board.specs.code.Lows.{MayGive}
 use Rattle.prl_seats.proofs.Following.{known_once}
 use Rattle.prl_board.proofs.Lows.{low_after_write}

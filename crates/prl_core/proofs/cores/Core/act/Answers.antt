@@ -1,11 +1,9 @@
 use Rattle.std.proofs.Common.{sym, ◌∙◌, ap, subst}
 use Rattle.std.proofs.lemmas.Result.{err_from_is_err_and}
 use Rattle.prl_plan.specs.declared.events.Event.TheVariants as events
-use Rattle.prl_plan.specs.Rules.{KeepsLegal, FirstBroken, first_unfinished}
-use Rattle.prl_plan.specs.Runs.{next_action, after_event}
+use Rattle.prl_plan.specs.Vocabulary.{KeepsLegal, FirstBroken, first_unfinished, next_action, after_event}
 use Rattle.prl_track.specs.Tracks.{TrackView}
-use Rattle.prl_core.specs.Cores.{CoreView, constants, IsSightOf}
-use Rattle.prl_core.specs.code.Kept.{IsKept}
+use Rattle.prl_core.specs.Vocabulary.{CoreView, constants, IsSightOf, IsKept}
 use Rattle.prl_core.proofs.Keeping.{act_served, can_serve, core_on}
 use Rattle.prl_core.proofs.cores.Core.act.Goals as goal
 

@@ -3,8 +3,7 @@ use Rattle.std.proofs.lemmas.Result.{err_from_is_err_and}
 use Rattle.prl_plan.specs.declared.events.Event.TheVariants as events
 use Rattle.prl_plan.specs.Rules.{FirstBroken}
 use Rattle.prl_track.specs.Tracks.{TrackView}
-use Rattle.prl_core.specs.Cores.{CoreView, constants}
-use Rattle.prl_core.specs.code.Kept.{IsKept}
+use Rattle.prl_core.specs.Vocabulary.{CoreView, constants, IsKept}
 use Rattle.prl_core.proofs.Keeping.{core_on, tick_kept}
 use Rattle.prl_core.proofs.cores.Core.tick.Goals as goal
 

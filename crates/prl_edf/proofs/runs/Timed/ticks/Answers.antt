@@ -1,6 +1,5 @@
 use Rattle.std.proofs.Common.{◌+◌, ◌∙◌, ℕ, sym, ap, subst, arith}
-use Rattle.prl_edf.specs.declared.pieces.Piece.{Piece}
-use Rattle.prl_edf.specs.Pieces.{ticks_of, AreLongest}
+use Rattle.prl_edf.specs.Vocabulary.{Piece, ticks_of, AreLongest}
 use Rattle.prl_edf.proofs.TickSums.{IsSumOf, none_added, in_order, not_more, one_added, all_added}
 use Rattle.prl_edf.proofs.runs.Timed.ticks.Goals as goal
 

@@ -1,7 +1,6 @@
 use Rattle.std.proofs.Common.{◌≡◌, ◌+◌, ◌-◌, ◌*◌, ◌/◌, ◌%◌, ◌<◌, ◌≤◌, ℕ, Some, length, sum, take, sym, ◌∙◌, ap, arith}
 use Rattle.std.specs.Prelude.{slice_index_or}
-use Rattle.prl_plan.specs.declared.tables.Used.{Used}
-use Rattle.prl_plan.specs.Cells.{no_used, place_of}
+use Rattle.prl_plan.specs.Vocabulary.{Used, no_used, place_of}
 use Rattle.prl_plan.proofs.PlaceLaws.{none_without_gaps, place_before, enumerated, Known, known, some_total, rest_below, is_at, is_not}
 use Rattle.prl_plan.proofs.cell_lists.Cells.place.Goals as goal
 use Rattle.prl_plan.proofs.cell_lists.Cells.place.Goals.{After-sum_of-total}

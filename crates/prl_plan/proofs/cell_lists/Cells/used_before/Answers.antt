@@ -1,8 +1,6 @@
 use Rattle.std.proofs.Common.{◌≡◌, ◌+◌, ◌-◌, ◌*◌, ◌/◌, ◌%◌, ◌<◌, ◌≤◌, ℕ, length, sum, take, refl, sym, ap, subst, arith}
 use Rattle.std.specs.Prelude.{slice_index_or}
-use Rattle.prl_plan.specs.Cells.{no_used}
-use Rattle.prl_plan.specs.declared.tables.Used.{Used}
-use Rattle.prl_plan.specs.CellLists.{CountsUsed}
+use Rattle.prl_plan.specs.Vocabulary.{no_used, Used, CountsUsed}
 use Rattle.prl_plan.proofs.PlaceLaws.{Known, known, some_total, rest_below, number, counts_at}
 use Rattle.prl_plan.proofs.cell_lists.Cells.used_before.Goals as goal
 use Rattle.prl_plan.proofs.cell_lists.Cells.used_before.Goals.{After-gaps_to-last, After-sum_of-total}

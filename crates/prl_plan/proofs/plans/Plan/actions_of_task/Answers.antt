@@ -1,6 +1,5 @@
 use Rattle.std.proofs.Common.{rules, ◌≡◌, ◌+◌, ◌*◌, ◌<◌, ◌≤◌, ℕ, length, take, arith}
-use Rattle.prl_plan.specs.Horizons.{sum_below}
-use Rattle.prl_plan.specs.Plans.{reads_of}
+use Rattle.prl_plan.specs.Vocabulary.{sum_below, reads_of}
 use Rattle.prl_plan.proofs.ActionCounts.{reads_begin, writes_begin, reads_add, reads_stay, writes_add, writes_stay, all_counted}
 use Rattle.prl_plan.proofs.plans.Plan.actions_of_task.Goals.{then-leads_to, else-leads_to, then-comes_from, else-comes_from}
 use Rattle.prl_plan.proofs.plans.Plan.actions_of_task.Goals as goal

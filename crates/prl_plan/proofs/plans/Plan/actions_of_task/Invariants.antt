@@ -1,6 +1,5 @@
 use Rattle.std.proofs.Common.{◌≡◌, ◌+◌, ◌*◌, ◌≤◌, length, take}
-use Rattle.prl_plan.specs.Horizons.{sum_below}
-use Rattle.prl_plan.specs.Plans.{reads_of, writes_of}
+use Rattle.prl_plan.specs.Vocabulary.{sum_below, reads_of, writes_of}
 use Rattle.prl_plan.proofs.plans.Plan.actions_of_task.Given as goal
 
 abbrev pub invariant-loop-e : goal.invariant-loop-e

@@ -1,7 +1,5 @@
 use Rattle.std.proofs.Common.{rules, ◌≡◌, ◌+◌, ◌*◌, ◌<◌, ◌^◌, ℕ, suc, length, ap, arith}
-use Rattle.prl_plan.specs.Horizons.{sum_below}
-use Rattle.prl_plan.specs.Jobs.{task_at, job_count}
-use Rattle.prl_plan.specs.Plans.{actions_of}
+use Rattle.prl_plan.specs.Vocabulary.{sum_below, task_at, job_count, actions_of}
 use Rattle.prl_plan.proofs.PartsOfSums.{part_of_sum}
 use Rattle.prl_plan.proofs.plans.Plan.all_actions.Goals as goal
 

@@ -1,6 +1,5 @@
 use Rattle.std.proofs.Common.{◌≡◌, ◌*◌, ◌≤◌, ◌^◌}
-use Rattle.prl_plan.specs.Horizons.{sum_below}
-use Rattle.prl_plan.specs.Jobs.{task_at, job_count}
+use Rattle.prl_plan.specs.Vocabulary.{sum_below, task_at, job_count}
 use Rattle.prl_plan.proofs.plans.Plan.all_jobs.Given as goal
 
 abbrev pub invariant-loop-i : goal.invariant-loop-i

@@ -1,6 +1,5 @@
 use Rattle.std.proofs.Common.{◌≡◌, ◌<◌, ◌≤◌, ◌^◌, ◌⊎◌, ℕ}
-use Rattle.prl_plan.specs.Jobs.{IsHorizonJob}
-use Rattle.prl_plan.specs.Plans.{deadline_at}
+use Rattle.prl_plan.specs.Vocabulary.{IsHorizonJob, deadline_at}
 use Rattle.prl_plan.proofs.plans.Plan.end_of.Given as goal
 
 abbrev pub invariant-loop-i : goal.invariant-loop-i

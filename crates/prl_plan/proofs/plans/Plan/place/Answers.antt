@@ -1,6 +1,5 @@
 use Rattle.std.proofs.Common.{◌<◌, length, sym, subst}
-use Rattle.prl_plan.specs.Plans.{PlanView}
-use Rattle.prl_plan.specs.CellLists.{plan_of}
+use Rattle.prl_plan.specs.Vocabulary.{PlanView, plan_of}
 use Rattle.prl_plan.proofs.PlanParts.{used_ordered}
 use Rattle.prl_plan.proofs.plans.Plan.place.Goals as goal
 

@@ -1,8 +1,6 @@
 use Rattle.std.proofs.Common.{rules, ◌≡◌, ◌+◌, ◌<◌, ◌^◌, ℕ, length, take, refl, subst, sym, arith}
-use Rattle.prl_plan.specs.declared.walks.Operand.{Operand}
+use Rattle.prl_plan.specs.Vocabulary.{Operand, operand_of, PlanView, IsPlan, edge_at, release_at, reads_of, IsSmallOperand}
 use Rattle.prl_plan.specs.declared.walks.Operand.TheVariants as operands
-use Rattle.prl_plan.specs.Operands.{operand_of}
-use Rattle.prl_plan.specs.Plans.{PlanView, IsPlan, edge_at, release_at, reads_of, IsSmallOperand}
 use Rattle.prl_plan.proofs.ActionLists.{read_found, read_passed, read_other}
 use Rattle.prl_plan.proofs.PlanNumbers.{operand_within}
 use Rattle.prl_plan.proofs.plans.Plan.read_at.Goals.{then-leads_to+in-Err, else-leads_to}

@@ -1,6 +1,5 @@
 use Rattle.std.proofs.Common.{length, sym, ◌∙◌, arith}
-use Rattle.prl_plan.specs.Operands.{operand_of}
-use Rattle.prl_plan.specs.Plans.{edge_at, reading}
+use Rattle.prl_plan.specs.Vocabulary.{operand_of, edge_at, reading}
 use Rattle.prl_plan.proofs.SumLaws.{sum_ones, sum_steps, constant_reads, early_read, late_read}
 use Rattle.prl_plan.proofs.plans.Plan.reads_on.Goals as goal
 

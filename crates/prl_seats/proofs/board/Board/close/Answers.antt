@@ -1,7 +1,7 @@
 use Rattle.std.proofs.Common.{ap, subst, ◌∙◌}
 use Rattle.std.specs.Mem.Slots.{slots_items}
-use Rattle.prl_rule.specs.declared.views.Constants.{Constants}
 use Rattle.prl_rule.specs.Known.{known}
+use Rattle.prl_rule.specs.declared.views.Constants.{Constants}
 use Rattle.prl_seats.specs.Boards.{BoardView, IsClosing}
 use Rattle.prl_seats.proofs.Joining.{closing_from}
 use Rattle.prl_seats.proofs.board.Board.close.Goals as goal

@@ -1,9 +1,7 @@
 use Rattle.std.proofs.Common.{arith, ◌≡◌, false, sym, ap, subst, ◌∙◌, Some}
-use Rattle.prl_rule.specs.declared.views.View.{View}
-use Rattle.prl_seats.specs.Boards.{BoardView}
 use Rattle.prl_rule.specs.Known.{known, run_of, values_of}
-use Rattle.prl_seats.specs.code.Joining.{IsLive}
-use Rattle.prl_seats.specs.Parts.{share_part}
+use Rattle.prl_rule.specs.declared.views.View.{View}
+use Rattle.prl_seats.specs.Vocabulary.{BoardView, IsLive, share_part}
 use Rattle.prl_seats.proofs.Joining.{join_allowed, joined_is, were_apart}
 use Rattle.prl_seats.proofs.board.Board.join.Goals as goal
 

@@ -1,11 +1,7 @@
 use Rattle.std.proofs.Common.{arith, ◌≡◌, ℕ, sym, subst, Some}
 use Rattle.atomic_table.specs.Table.{Allows}
+use Rattle.prl_rule.specs.Vocabulary.{stop_word, ClockStopTold, run_of, Agreed, clock_stop_loaded, with_clock}
 use Rattle.prl_rule.specs.declared.views.ClockPart.{ClockPart}
-use Rattle.prl_rule.specs.Agreement.{stop_word}
-use Rattle.prl_rule.specs.Told.{ClockStopTold}
-use Rattle.prl_rule.specs.Known.{run_of}
-use Rattle.prl_rule.specs.Rule.{Agreed}
-use Rattle.prl_rule.specs.Steps.{clock_stop_loaded, with_clock}
 use Rattle.prl_rule.proofs.Allowed.{load_allowed}
 use Rattle.prl_rule.proofs.Granted.{grants_any_clock_stop}
 use Rattle.prl_seats.proofs.board.Board.load_clock_stop.Goals as goal

@@ -1,8 +1,6 @@
 use Rattle.std.proofs.Common.{arith, ◌≡◌, Some}
+use Rattle.prl_rule.specs.Vocabulary.{done_word, LookTold, looked, with_clock}
 use Rattle.prl_rule.specs.declared.views.ClockPart.{ClockPart}
-use Rattle.prl_rule.specs.Agreement.{done_word}
-use Rattle.prl_rule.specs.Told.{LookTold}
-use Rattle.prl_rule.specs.Steps.{looked, with_clock}
 use Rattle.prl_rule.proofs.Allowed.{load_allowed}
 use Rattle.prl_rule.proofs.Granted.{grants_any_look}
 use Rattle.prl_seats.proofs.board.Board.load_done.Goals as goal

@@ -3,13 +3,9 @@ use Rattle.atomic_table.specs.Table.{Allows}
 use Rattle.prl_base.specs.declared.numbers.EdgeNo.{EdgeNo}
 use Rattle.prl_plan.specs.declared.events.Action.TheVariants as actions
 use Rattle.prl_plan.specs.Facts.{HasPlanFacts}
+use Rattle.prl_rule.specs.Vocabulary.{slot_word, HalfTold, part_at, known, run_of, values_of, Agreed, StandsAt, half_loaded, with_part}
 use Rattle.prl_rule.specs.declared.views.Constants.{Constants}
-use Rattle.prl_rule.specs.Agreement.{slot_word}
 use Rattle.prl_seats.specs.Boards.{BoardView}
-use Rattle.prl_rule.specs.Told.{HalfTold, part_at}
-use Rattle.prl_rule.specs.Known.{known, run_of, values_of}
-use Rattle.prl_rule.specs.Rule.{Agreed, StandsAt}
-use Rattle.prl_rule.specs.Steps.{half_loaded, with_part}
 use Rattle.prl_rule.proofs.Allowed.{load_allowed}
 use Rattle.prl_rule.proofs.Granted.{grants_any_half}
 use Rattle.prl_seats.proofs.board.Board.load_half.Goals as goal

@@ -1,9 +1,7 @@
 use Rattle.std.specs.Prelude.{ℕ}
 use Rattle.prl_base.specs.declared.numbers.EdgeNo.{EdgeNo}
 use Rattle.prl_plan.specs.declared.events.Action.TheVariants as actions
-use Rattle.prl_rule.specs.Told.{HalfTold, part_at}
-use Rattle.prl_rule.specs.Known.{run_of}
-use Rattle.prl_rule.specs.Rule.{StandsAt}
+use Rattle.prl_rule.specs.Vocabulary.{HalfTold, part_at, run_of, StandsAt}
 use Rattle.prl_seats.proofs.board.Board.load_half.Given as goal
 
 abbrev pub ghosts-load : goal.ghosts-load

@@ -1,8 +1,5 @@
 use Rattle.std.proofs.Common.{arith}
-use Rattle.prl_rule.specs.Agreement.{now_word}
-use Rattle.prl_rule.specs.Told.{NowTold, part_of}
-use Rattle.prl_rule.specs.Known.{run_of}
-use Rattle.prl_rule.specs.Steps.{now_loaded, with_part}
+use Rattle.prl_rule.specs.Vocabulary.{now_word, NowTold, part_of, run_of, now_loaded, with_part}
 use Rattle.prl_rule.proofs.Allowed.{load_allowed}
 use Rattle.prl_rule.proofs.Granted.{grants_now}
 use Rattle.prl_seats.proofs.board.Board.load_now.Goals as goal

@@ -1,10 +1,6 @@
 use Rattle.std.proofs.Common.{arith, ◌≡◌, ℕ, sym, subst}
 use Rattle.atomic_table.specs.Table.{Allows}
-use Rattle.prl_rule.specs.Agreement.{stop_word}
-use Rattle.prl_rule.specs.Told.{StopTold, part_at}
-use Rattle.prl_rule.specs.Known.{run_of}
-use Rattle.prl_rule.specs.Rule.{Agreed}
-use Rattle.prl_rule.specs.Steps.{stop_loaded, with_part}
+use Rattle.prl_rule.specs.Vocabulary.{stop_word, StopTold, part_at, run_of, Agreed, stop_loaded, with_part}
 use Rattle.prl_rule.proofs.Allowed.{load_allowed}
 use Rattle.prl_rule.proofs.Granted.{grants_stop}
 use Rattle.prl_seats.proofs.board.Board.load_stop.Goals as goal

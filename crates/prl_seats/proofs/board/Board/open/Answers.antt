@@ -1,7 +1,6 @@
 use Rattle.std.proofs.Common.{arith, ◌≡◌, ◌+◌, ◌*◌, ℕ, length, replicate, ap, ◌∙◌}
 use Rattle.prl_plan.specs.declared.graphs.TaskGraph.{TaskGraph}
-use Rattle.prl_rule.specs.Agreement.{word_count}
-use Rattle.prl_rule.specs.Known.{known, run_of}
+use Rattle.prl_rule.specs.Vocabulary.{word_count, known, run_of}
 use Rattle.prl_seats.proofs.board.Board.open.Goals as goal
 
 pub of_words-requires : goal.of_words-requires

@@ -1,10 +1,6 @@
 use Rattle.std.proofs.Common.{arith, ◌≡◌, ◌+◌, ℕ, sym, subst}
 use Rattle.atomic_table.specs.Table.{Allows}
-use Rattle.prl_rule.specs.Agreement.{stop_word}
-use Rattle.prl_rule.specs.Told.{RaiseTold, part_at}
-use Rattle.prl_rule.specs.Known.{run_of}
-use Rattle.prl_rule.specs.Rule.{Agreed}
-use Rattle.prl_rule.specs.Steps.{part_raised, with_part}
+use Rattle.prl_rule.specs.Vocabulary.{stop_word, RaiseTold, part_at, run_of, Agreed, part_raised, with_part}
 use Rattle.prl_rule.proofs.Allowed.{allowed}
 use Rattle.prl_rule.proofs.Granted.{grants_raise}
 use Rattle.prl_seats.proofs.board.Board.raise.Goals as goal

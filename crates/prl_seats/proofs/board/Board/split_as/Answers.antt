@@ -1,9 +1,7 @@
 use Rattle.std.proofs.Common.{arith, ℕ, sym, ap, subst, ◌∙◌}
 use Rattle.atomic_table.specs.Table.{Splits}
 use Rattle.prl_seats.specs.Boards.{BoardView}
-use Rattle.prl_rule.specs.Known.{known}
-use Rattle.prl_rule.specs.Rule.{Agreed}
-use Rattle.prl_rule.specs.Steps.{only_part, without_part}
+use Rattle.prl_rule.specs.Vocabulary.{known, Agreed, only_part, without_part}
 use Rattle.prl_rule.proofs.Allowed.{split_allowed}
 use Rattle.prl_seats.proofs.board.Board.split_as.Goals as goal
 

@@ -1,10 +1,8 @@
 use Rattle.std.proofs.Common.{arith, ◌≡◌, sym, ap, subst, ◌∙◌}
 use Rattle.atomic_table.specs.Table.{Allows}
+use Rattle.prl_rule.specs.Vocabulary.{word_count, known, run_of, Agreed}
 use Rattle.prl_rule.specs.declared.views.Constants.{Constants}
-use Rattle.prl_rule.specs.Agreement.{word_count}
 use Rattle.prl_seats.specs.Boards.{BoardView}
-use Rattle.prl_rule.specs.Known.{known, run_of}
-use Rattle.prl_rule.specs.Rule.{Agreed}
 use Rattle.prl_seats.proofs.board.Board.store.Goals as goal
 
 pub store-requires : goal.store-requires

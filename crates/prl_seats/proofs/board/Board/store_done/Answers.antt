@@ -1,10 +1,6 @@
 use Rattle.std.proofs.Common.{arith, ◌≡◌, ◌+◌, ℕ, sym, subst}
 use Rattle.atomic_table.specs.Table.{Allows}
-use Rattle.prl_rule.specs.Agreement.{done_word}
-use Rattle.prl_rule.specs.Told.{EndTold, part_at, part_of}
-use Rattle.prl_rule.specs.Known.{values_of}
-use Rattle.prl_rule.specs.Rule.{Agreed}
-use Rattle.prl_rule.specs.Steps.{done_counted, with_part}
+use Rattle.prl_rule.specs.Vocabulary.{done_word, EndTold, part_at, part_of, values_of, Agreed, done_counted, with_part}
 use Rattle.prl_rule.proofs.Allowed.{allowed}
 use Rattle.prl_rule.proofs.Granted.{grants_end}
 use Rattle.prl_seats.proofs.board.Board.store_done.Goals as goal

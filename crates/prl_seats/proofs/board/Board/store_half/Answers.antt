@@ -1,16 +1,9 @@
 use Rattle.std.proofs.Common.{arith, ◌≡◌, ◌+◌, ◌<◌, ℕ, sym, ap, subst}
 use Rattle.atomic_table.specs.Table.{Allows}
-use Rattle.prl_plan.specs.Facts.{HasPlanFacts}
-use Rattle.prl_plan.specs.Horizons.{IsHorizon}
-use Rattle.prl_plan.specs.Plans.{IsPlan}
+use Rattle.prl_plan.specs.Vocabulary.{HasPlanFacts, IsHorizon, IsPlan}
+use Rattle.prl_rule.specs.Vocabulary.{slot_word, word_of, WriteTold, part_at, known, run_of, values_of, Agreed, half_stored, with_part}
 use Rattle.prl_rule.specs.declared.views.Constants.{Constants}
-use Rattle.prl_rule.specs.Agreement.{slot_word}
-use Rattle.prl_rule.specs.RunValues.{word_of}
 use Rattle.prl_seats.specs.Boards.{BoardView}
-use Rattle.prl_rule.specs.Told.{WriteTold, part_at}
-use Rattle.prl_rule.specs.Known.{known, run_of, values_of}
-use Rattle.prl_rule.specs.Rule.{Agreed}
-use Rattle.prl_rule.specs.Steps.{half_stored, with_part}
 use Rattle.prl_rule.proofs.Allowed.{allowed}
 use Rattle.prl_rule.proofs.Granted.{grants_write}
 use Rattle.prl_seats.proofs.board.Board.store_half.Goals as goal

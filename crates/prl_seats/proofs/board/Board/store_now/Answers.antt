@@ -1,10 +1,7 @@
 use Rattle.std.proofs.Common.{arith, ◌≡◌, ◌+◌, ℕ, sym, subst, Some}
 use Rattle.atomic_table.specs.Table.{Allows}
+use Rattle.prl_rule.specs.Vocabulary.{now_word, TickTold, Agreed, ticked, with_clock}
 use Rattle.prl_rule.specs.declared.views.ClockPart.{ClockPart}
-use Rattle.prl_rule.specs.Agreement.{now_word}
-use Rattle.prl_rule.specs.Told.{TickTold}
-use Rattle.prl_rule.specs.Rule.{Agreed}
-use Rattle.prl_rule.specs.Steps.{ticked, with_clock}
 use Rattle.prl_rule.proofs.Allowed.{allowed}
 use Rattle.prl_rule.proofs.Granted.{grants_any_tick}
 use Rattle.prl_seats.proofs.board.Board.store_now.Goals as goal

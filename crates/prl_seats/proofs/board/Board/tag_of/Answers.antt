@@ -1,8 +1,8 @@
 use Rattle.std.proofs.Common.{arith, ◌≡◌, ap, subst}
 use Rattle.prl_plan.specs.Horizons.{IsHorizon}
+use Rattle.prl_rule.specs.Known.{known}
 use Rattle.prl_rule.specs.declared.views.Constants.{Constants}
 use Rattle.prl_seats.specs.Boards.{BoardView}
-use Rattle.prl_rule.specs.Known.{known}
 use Rattle.prl_seats.proofs.board.Board.tag_of.Goals as goal
 
 pub overflow_add-result : goal.overflow_add-result

@@ -1,9 +1,9 @@
 use Rattle.std.proofs.Common.{◌≡◌, List, get_or, ap, subst, ◌∙◌}
 use Rattle.std.proofs.lemmas.List.{get_or_default}
 use Rattle.prl_plan.specs.declared.events.Action.TheVariants as actions
+use Rattle.prl_plan.specs.Plans.{IsActionOf, PlanView, no_edge}
 use Rattle.prl_plan.specs.declared.graphs.Edge.{Edge}
 use Rattle.prl_plan.specs.declared.graphs.TaskGraph.{TaskGraph}
-use Rattle.prl_plan.specs.Plans.{IsActionOf, PlanView, no_edge}
 use Rattle.prl_seats.specs.Boards.{BoardView}
 use Rattle.prl_rule.specs.Known.{values_of}
 use Rattle.prl_seats.proofs.board.Board.type_of.Goals as goal

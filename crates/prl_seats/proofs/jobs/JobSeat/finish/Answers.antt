@@ -1,8 +1,8 @@
 use Rattle.std.proofs.Common.{◌≡◌, ◌+◌, ℕ, refl, sym, ap, subst, ◌∙◌, false}
 use Rattle.prl_plan.specs.declared.events.Action.TheVariants as actions
+use Rattle.prl_rule.specs.Known.{run_of}
 use Rattle.prl_rule.specs.declared.views.View.{View}
 use Rattle.prl_seats.specs.JobSeats.{Follows, IsStage}
-use Rattle.prl_rule.specs.Known.{run_of}
 use Rattle.prl_seats.proofs.Following.{end_follows, ended_is, follows_on, seat_after, stands_so}
 use Rattle.prl_seats.proofs.jobs.JobSeat.finish.Goals as goal
 

@@ -1,11 +1,10 @@
 use Rattle.std.proofs.Common.{◌≡◌, ◌+◌, refl, sym, ap, subst, ◌∙◌}
-use Rattle.prl_plan.specs.declared.events.Action.{Action}
 use Rattle.prl_plan.specs.Runs.{action_at}
-use Rattle.prl_seats.specs.declared.jobs.Stage.{Stage}
+use Rattle.prl_plan.specs.declared.events.Action.{Action}
+use Rattle.prl_seats.specs.Vocabulary.{Stage, Follows, JobSeatView, LoadsHalf}
 use Rattle.prl_seats.specs.declared.jobs.Stage.TheVariants as stages
-use Rattle.prl_rule.specs.declared.views.View.{View}
-use Rattle.prl_seats.specs.JobSeats.{Follows, JobSeatView, LoadsHalf}
 use Rattle.prl_rule.specs.Known.{run_of}
+use Rattle.prl_rule.specs.declared.views.View.{View}
 use Rattle.prl_seats.proofs.Following.{follows_on, found_follows, missed_follows, next_follows, seat_after, stands_in, stands_so}
 use Rattle.prl_rule.proofs.Reading.{read_no_end}
 use Rattle.prl_seats.proofs.jobs.JobSeat.load.Goals as goal

@@ -1,12 +1,10 @@
 use Rattle.std.proofs.Common.{arith, ◌≡◌, ◌<◌, ◌≤◌, ℕ, refl, sym, ap, subst, ◌∙◌}
-use Rattle.prl_plan.specs.declared.events.Action.{Action}
 use Rattle.prl_plan.specs.Runs.{action_at}
-use Rattle.prl_seats.specs.declared.jobs.Stage.{Stage}
+use Rattle.prl_plan.specs.declared.events.Action.{Action}
+use Rattle.prl_seats.specs.Vocabulary.{Stage, Follows, JobSeatView}
 use Rattle.prl_seats.specs.declared.jobs.Stage.TheVariants as stages
+use Rattle.prl_rule.specs.Vocabulary.{NowTold, run_of}
 use Rattle.prl_rule.specs.declared.views.View.{View}
-use Rattle.prl_rule.specs.Told.{NowTold}
-use Rattle.prl_seats.specs.JobSeats.{Follows, JobSeatView}
-use Rattle.prl_rule.specs.Known.{run_of}
 use Rattle.prl_seats.proofs.Following.{early_follows, follows_on, open_follows, open_is, seat_after, stands_so}
 use Rattle.prl_seats.proofs.jobs.JobSeat.open.Goals as goal
 

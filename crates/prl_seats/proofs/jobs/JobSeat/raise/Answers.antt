@@ -1,7 +1,6 @@
 use Rattle.std.proofs.Common.{refl, ap, ◌∙◌}
+use Rattle.prl_rule.specs.Vocabulary.{part_at, part_raised}
 use Rattle.prl_rule.specs.declared.views.View.{View}
-use Rattle.prl_rule.specs.Told.{part_at}
-use Rattle.prl_rule.specs.Steps.{part_raised}
 use Rattle.prl_seats.proofs.Following.{follows_on, seat_after, stands_here, stays_follows}
 use Rattle.prl_seats.proofs.jobs.JobSeat.raise.Goals as goal
 

@@ -1,8 +1,6 @@
 use Rattle.std.proofs.Common.{arith, ◌≡◌, ◌+◌, suc, refl, sym, ap, ◌∙◌}
+use Rattle.prl_rule.specs.Vocabulary.{tagged, values_of, word_of}
 use Rattle.prl_rule.specs.declared.views.View.{View}
-use Rattle.prl_rule.specs.Halves.{tagged}
-use Rattle.prl_rule.specs.Known.{values_of}
-use Rattle.prl_rule.specs.RunValues.{word_of}
 use Rattle.prl_seats.proofs.Following.{follows_on, next_follows, seat_after, stands_in, stands_so, write_follows}
 use Rattle.prl_seats.proofs.jobs.JobSeat.store.Goals as goal
 

@@ -1,14 +1,10 @@
 use Rattle.std.proofs.Common.{◌≡◌, List, map, Ok, refl, sym, ap, ◌∙◌, subst, arith}
 use Rattle.std.proofs.lemmas.List.{map_push}
 use Rattle.std.proofs.lemmas.Result.{err_from_is_err_and}
-use Rattle.prl_ast.specs.declared.expressions.PlacedOp.{PlacedOp}
 use Rattle.prl_ast.specs.Trees.{tree_of}
-use Rattle.prl_grammar.specs.code.Languages.{read_nested}
-use Rattle.prl_grammar.specs.Lexemes.{Lexeme}
-use Rattle.prl_grammar.specs.code.Readers.{Read}
-use Rattle.prl_syntax.specs.declared.expressions.Link.{Link}
-use Rattle.prl_syntax.specs.Grammar.{programs}
-use Rattle.prl_syntax.specs.code.Links.{Step, link_view, with_prefixes}
+use Rattle.prl_ast.specs.declared.expressions.PlacedOp.{PlacedOp}
+use Rattle.prl_grammar.specs.Vocabulary.{read_nested, Lexeme, Read}
+use Rattle.prl_syntax.specs.Vocabulary.{Link, programs, Step, link_view, with_prefixes}
 use Rattle.prl_grammar.proofs.Loops.{step_goes_on}
 use Rattle.prl_syntax.proofs.Links.{stem_goes_on, stem_ends, stem_fails}
 use Rattle.prl_syntax.proofs.Right.{link_fewer, comma_expr_steps, expr_fewer}

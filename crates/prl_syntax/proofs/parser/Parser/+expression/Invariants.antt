@@ -1,12 +1,8 @@
 use Rattle.std.proofs.Common.{◌≡◌, ◌≤◌, ◌+◌, ◌*◌, length, map}
 use Rattle.prl_ast.specs.Trees.{tree_of}
-use Rattle.prl_grammar.specs.code.Languages.{read_at, read_nested}
-use Rattle.prl_grammar.specs.Productions.{many}
-use Rattle.prl_grammar.specs.Combinators.{◌⊳◌}
+use Rattle.prl_grammar.specs.Vocabulary.{read_at, read_nested, many, ◌⊳◌, with_front}
 use Rattle.prl_syntax.specs.declared.words.Fixed.TheVariants as fixed
-use Rattle.prl_syntax.specs.code.Links.{with_prefixes}
-use Rattle.prl_grammar.specs.code.Loops.{with_front}
-use Rattle.prl_syntax.specs.Grammar.{the, Expr, programs}
+use Rattle.prl_syntax.specs.Vocabulary.{with_prefixes, the, Expr, programs}
 use Rattle.prl_syntax.proofs.parser.Parser.+expression.Given as goal
 
 abbrev pub decreases-base : goal.decreases-base

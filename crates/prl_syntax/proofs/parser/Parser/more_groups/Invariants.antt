@@ -1,8 +1,6 @@
 use Rattle.std.proofs.Common.{◌≡◌, length}
-use Rattle.prl_grammar.specs.code.Languages.{read_at}
-use Rattle.prl_grammar.specs.Productions.{many}
-use Rattle.prl_syntax.specs.Grammar.{NextGroup, programs}
-use Rattle.prl_syntax.specs.code.Loops.{with_joined}
+use Rattle.prl_grammar.specs.Vocabulary.{read_at, many}
+use Rattle.prl_syntax.specs.Vocabulary.{NextGroup, programs, with_joined}
 use Rattle.prl_syntax.proofs.parser.Parser.more_groups.Given as goal
 
 abbrev pub invariant-more : goal.invariant-more

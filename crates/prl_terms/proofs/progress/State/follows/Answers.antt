@@ -1,6 +1,5 @@
 use Rattle.std.proofs.Common.{◌++◌, [], ◌∷◌, sym, subst}
-use Rattle.prl_terms.specs.code.States.{HasState}
-use Rattle.prl_terms.specs.declared.progress.State.{State}
+use Rattle.prl_terms.specs.Vocabulary.{HasState, State}
 use Rattle.prl_terms.proofs.RuleStates.{says_nothing, agrees}
 use Rattle.prl_terms.proofs.progress.State.follows.Goals as goal
 

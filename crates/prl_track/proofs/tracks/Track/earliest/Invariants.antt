@@ -1,5 +1,4 @@
-use Rattle.prl_track.specs.Tracks.{run_of}
-use Rattle.prl_track.specs.code.Nexts.{IsChoice}
+use Rattle.prl_track.specs.Vocabulary.{run_of, IsChoice}
 use Rattle.prl_track.proofs.tracks.Track.earliest.Given as goal
 
 -- the choice among the tasks so far

@@ -1,6 +1,5 @@
 use Rattle.std.proofs.Common.{◌<◌, ℕ}
-use Rattle.prl_track.specs.Tracks.{run_of}
-use Rattle.prl_track.specs.code.Tests.{IsInTime}
+use Rattle.prl_track.specs.Vocabulary.{run_of, IsInTime}
 use Rattle.prl_track.proofs.tracks.Track.has_due.Given as goal
 
 -- the tasks so far are in time

@@ -1,6 +1,5 @@
 use Rattle.std.proofs.Common.{◌<◌, ℕ}
-use Rattle.prl_track.specs.Tracks.{run_of}
-use Rattle.prl_track.specs.code.Tests.{IsNotEarlier}
+use Rattle.prl_track.specs.Vocabulary.{run_of, IsNotEarlier}
 use Rattle.prl_track.proofs.tracks.Track.is_overtaken.Given as goal
 
 -- the tasks so far stay after

@@ -1,7 +1,6 @@
 use Rattle.std.proofs.Common.{◌≡◌, arith, ap}
 use Rattle.prl_plan.specs.Rules.{first_unfinished}
-use Rattle.prl_track.specs.Tracks.{TrackView, run_of}
-use Rattle.prl_track.specs.code.Firsts.{IsFirst}
+use Rattle.prl_track.specs.Vocabulary.{TrackView, run_of, IsFirst}
 use Rattle.prl_track.proofs.tracks.Track.may_act.Goals as goal
 
 pub returns-then-is_overtaken : goal.returns-then-is_overtaken

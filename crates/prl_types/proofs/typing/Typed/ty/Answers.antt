@@ -2,8 +2,7 @@ use Rattle.std.proofs.Common.{arith, ◌≡◌, ◌+◌, ℕ, vec_len, subst, So
 use Rattle.std.proofs.lemmas.Option.{slice_get_read}
 use Rattle.std.specs.List.{slice_get}
 use Rattle.prl_ast.specs.Trees.{program_tree}
-use Rattle.prl_types.specs.Parameters.{count_of}
-use Rattle.prl_types.specs.Typing.{HasParameter}
+use Rattle.prl_types.specs.Vocabulary.{count_of, HasParameter}
 use Rattle.prl_types.proofs.Declared.{IsPlaced, placed_type}
 use Rattle.prl_types.proofs.typing.Typed.ty.Goals as goal
 

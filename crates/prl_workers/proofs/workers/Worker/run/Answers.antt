@@ -1,9 +1,8 @@
 use Rattle.std.proofs.Common.{length, refl, sym, ◌∙◌, ap, subst}
 use Rattle.std.specs.Vec.{with_item}
 use Rattle.std.proofs.lemmas.Option.{slice_get_read}
-use Rattle.prl_workers.specs.declared.workers.Work.{Work}
+use Rattle.prl_workers.specs.Vocabulary.{Work, outs_of, CanRun, RunsTo}
 use Rattle.prl_workers.specs.declared.workers.Work.TheVariants as works
-use Rattle.prl_workers.specs.Workers.{outs_of, CanRun, RunsTo}
 use Rattle.prl_workers.proofs.workers.Worker.run.Goals as goal
 
 pub returns-in-Actuator : goal.returns-in-Actuator

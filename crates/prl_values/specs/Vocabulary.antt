@@ -1,0 +1,7 @@
+-- The words of this crate that clauses and proofs use, from one place.
+pub use Rattle.prl_values.specs.BodyRuns.{place_of_run}
+pub use Rattle.prl_values.specs.Fitting.{FitsTask, HasOutput, HaveTaskBodies, HaveTypedRows}
+pub use Rattle.prl_values.specs.Fitting.{IsTypedFrom, port_types}
+pub use Rattle.prl_values.specs.JobValues.{AreJobValues, JobValues, at_most_one, body_of_task}
+pub use Rattle.prl_values.specs.JobValues.{gives, job_values, read_on, reads_of_job, reads_over}
+pub use Rattle.prl_values.specs.JobValues.{step_outputs, value_from, value_on, word_of}
