@@ -5,13 +5,14 @@ use Rattle.prl_base.specs.Vocabulary.{◌>>=◌, type_of}
 use Rattle.prl_base.specs.declared.values.Ty.{Ty}
 use Rattle.prl_ast.specs.declared.declarations.Import.{Import}
 use Rattle.prl_ast.specs.declared.declarations.Port.{Port}
-use Rattle.prl_body.specs.Vocabulary.{CheckedBody, Register, BodyFault, RegisterText, HaveTypes, IsWellTyped, RegisterTree, BodyTree, register_tree, body_tree, typed_as, typed_statements}
-use Rattle.prl_body.specs.Vocabulary.{statement_named, output_value, output_values, next_value, resolved_registers, without_fault, checked_body, expression_of, Expression, name, name_fault}
+use Rattle.prl_body.specs.Vocabulary.{CheckedBody, Register, BodyFault, RegisterText, HaveTypes, IsWellTyped, RegisterTree, BodyTree, register_tree, body_tree, typed_as}
+use Rattle.prl_body.specs.Vocabulary.{statement_named, output_value, output_values, next_value, resolved_registers, checked_body, expression_of, Expression, name}
 use Rattle.prl_body.specs.Vocabulary.{StatementTree, TextTree, typed, HasType}
 use Rattle.prl_body.specs.declared.codes.Variable.TheVariants as variables
 use Rattle.prl_body.specs.declared.faults.BodyFault.TheVariants as faults
 use Rattle.prl_bodyops.specs.Types.{is_same_type}
 use Rattle.prl_body.proofs.Inversion.{both_ok, passed_ok}
+use Rattle.prl_body.proofs.UsedBodies.{made_of}
 use Rattle.prl_body.proofs.TypedSound.{port_types, text_types, same_type, typed_sound}
 
 abbrev pub tree_types : List RegisterTree → List Ty
@@ -91,20 +92,10 @@ record IsTypedTree (t : BodyTree) : Type 0 where
 
 checked_sound : (import : Import) (body : TextTree) (t : BodyTree) → checked_body import body ≡ Ok t → IsTypedTree t
 checked_sound import body t is =
-    let ins = import.ins in
-    let finish : List Expression → List RegisterTree → BodyTree = λ values registers. record { name = body.name; ins = ins; outs = import.outs; registers = registers; values = values } in
-    let from_values : List Expression → Result BodyTree BodyFault = λ values. (resolved_registers ins body.registers body.statements 0 body.registers >>= λ registers. Ok (finish values registers)) in
-    let from_types : Unit {0} → Result BodyTree BodyFault = λ u. (output_values ins body.registers body.at.at body.statements import.outs >>= from_values) in
-    let from_names : Unit {0} → Result BodyTree BodyFault = λ u. (typed_statements ins import.outs body.registers body.statements >>= from_types) in
-    let names = both_ok (without_fault (name_fault ins import.outs body)) from_names t is in
-    let types = both_ok (typed_statements ins import.outs body.registers body.statements) from_types t names.rest in
-    let values = both_ok (output_values ins body.registers body.at.at body.statements import.outs) from_values t types.rest in
-    let last : List RegisterTree → Result BodyTree BodyFault = λ registers. Ok (finish values.first registers) in
-    let registers = both_ok (resolved_registers ins body.registers body.statements 0 body.registers) last t values.rest in
-    let same : finish values.first registers.first ≡ t = cc (registers.rest) in
-    let outputs = output_values_sound ins body.registers body.at.at body.statements import.outs values.first values.is in
-    let resolved = resolved_sound ins body.registers body.statements 0 body.registers registers.first (λ j. ap (slice_get (text_types body.registers)) (omega arith)) registers.is in
-    subst IsTypedTree same (record { outputs = rw resolved.types outputs; registers = rw resolved.types resolved.nexts })
+    let made = made_of import body t is in
+    let outputs = output_values_sound import.ins body.registers body.at.at body.statements import.outs made.values made.values_are in
+    let resolved = resolved_sound import.ins body.registers body.statements 0 body.registers made.registers (λ j. ap (slice_get (text_types body.registers)) (omega arith)) made.registers_are in
+    subst IsTypedTree made.same (record { outputs = rw resolved.types outputs; registers = rw resolved.types resolved.nexts })
 
 types_tree : (rs : List Register) → tree_types (map register_tree rs) ≡ map type_of (map (λ (r : Register). r.first) rs)
 types_tree [] = refl

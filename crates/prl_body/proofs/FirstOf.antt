@@ -9,7 +9,7 @@ use Rattle.std.proofs.lemmas.Bool.{lt-ltb, le-ltb, ltb-true, ltb-false}
 use Rattle.std.proofs.lemmas.Option.{slice_get_past, slice_get_read}
 use denote.Ref.{Bor}
 use Rattle.prl_names.specs.Vocabulary.{index_from, index_of, AreIndices, found}
-use Rattle.prl_body.specs.Scopes.{is_before}
+use Rattle.prl_body.specs.Scopes.{first_named, is_before}
 
 -- the search gives what `here` makes of the first element of the name and its index
 pub record Searches {A B : Type 0} (name : A → List ℕ) (n : List ℕ) (here : ℕ → A → B) (search_from : ℕ → List A → Option B) : Type 0 where
@@ -52,44 +52,36 @@ found_from {name = name} {n = n} {here = here} {search_from = search_from} s k m
     subst (FoundAt here k m (x ∷ xs)) (sym (s.step k x xs))
     (found_step here (bytes_eq (name x) n) k m x xs (index_from (k + 1) (map name xs) n) (search_from (k + 1) xs) (found_from s (k + 1) m xs) is)
 
--- what the search finds, by the first index of the name
+-- what the search makes of the first element of the name
 pub looked_up : {A B : Type 0} {name : A → List ℕ} {n : List ℕ} {here : ℕ → A → B} {search_from : ℕ → List A → Option B} → Searches name n here search_from →
-    (xs : List A) → search_from 0 xs ≡ option_and_then (λ k. option_map (here k) (slice_get xs k)) (index_of (map name xs) n)
-looked_up {name = name} {n = n} {here = here} {search_from = search_from} s xs =
-    elim (index_of (map name xs) n) as (λ o. index_of (map name xs) n ≡ o → search_from 0 xs ≡ option_and_then (λ k. option_map (here k) (slice_get xs k)) o) [
+    (xs : List A) → search_from 0 xs ≡ option_map (λ (x : ℕ × A). here x.0 x.1) (first_named name n xs)
+looked_up {A = A} {name = name} {n = n} {here = here} {search_from = search_from} s xs =
+    elim (index_of (map name xs) n) as (λ o. index_of (map name xs) n ≡ o →
+    search_from 0 xs ≡ option_map (λ (x : ℕ × A). here x.0 x.1) (option_and_then (λ (k : ℕ). option_map (λ (x : A). (k, x)) (slice_get xs k)) o)) [
       | None ↦ λ is. absent_from s 0 xs is
       | Some m ↦ λ is.
           (let at = found_from s 0 m xs is in
           let same : m ≡ at.number = omega (arith, at.at) in
-          at.found ∙ sym (ap (option_map (here m)) (ap (slice_get xs) same ∙ at.there)))
+          at.found ∙ sym (ap (λ (o : Option A). option_map (λ (x : ℕ × A). here x.0 x.1) (option_map (λ (x : A). (m, x)) o)) (ap (slice_get xs) same ∙ at.there)))
     ] refl
 
-read_none : {A : Type 0} (xs : List A) (k : ℕ) → false ≡ nat_lt k (length xs) → slice_get xs k ≡ None
-read_none xs k past = slice_get_past xs k (ltb-false k (length xs) (sym past))
+-- what a table has for the bytes of the name
+pub at_name : (n : List ℕ) (table : BTreeMap (Bor (List ℕ)) ℕ) (bytes : List ℕ) (r : Option ℕ) → bytes ≡ n → r ≡ found table bytes → found table n ≡ r
+at_name n table bytes r same is = ap (found table) (sym same) ∙ sym is
 
-read_some : {A : Type 0} (xs : List A) (k : ℕ) (x : A) → true ≡ nat_lt k (length xs) → x ≡ slice_index_or xs k x → slice_get xs k ≡ Some x
-read_some xs k x within is = slice_get_read xs (length xs) k x refl (ltb-true k (length xs) (sym within)) is
+-- by a table of the first indices: nothing where the name has no index, or the list ends before it, and else what is read there
+module _ {A : Type 0} (name : A → List ℕ) (n : List ℕ) (xs : List A) (table : BTreeMap (Bor (List ℕ)) ℕ) (are : AreIndices table (map name xs)) where
+  at_index : (o : Option ℕ) → found table n ≡ o → first_named name n xs ≡ option_and_then (λ k. option_map (λ x. (k, x)) (slice_get xs k)) o
+  at_index o is = ap (option_and_then (λ k. option_map (λ x. (k, x)) (slice_get xs k))) (sym (are n) ∙ is)
 
--- What the code finds: `r` is what a table of the first indices has for the bytes of the name.
-pub record Found {A : Type 0} (name : A → List ℕ) (n : List ℕ) (xs : List A) (r : Option ℕ) : Type 0 where
-  pub is : index_of (map name xs) n ≡ r
+  pub nothing : found table n ≡ None → first_named name n xs ≡ None
+  nothing is = at_index None is
 
-pub in_table : {A : Type 0} (name : A → List ℕ) (n : List ℕ) (xs : List A) (table : BTreeMap (Bor (List ℕ)) ℕ) (bytes : List ℕ) (r : Option ℕ) →
-    AreIndices table (map name xs) → bytes ≡ n → r ≡ found table bytes → Found name n xs r
-in_table name n xs table bytes r are same is = record { is = sym (are n) ∙ ap (found table) (sym same) ∙ sym is }
+  pub nothing_there : (k : ℕ) → found table n ≡ Some k → false ≡ nat_lt k (length xs) → first_named name n xs ≡ None
+  nothing_there k is past = at_index (Some k) is ∙ ap (option_map (λ x. (k, x))) (slice_get_past xs k (ltb-false k (length xs) (sym past)))
 
-module _ {A B : Type 0} {name : A → List ℕ} {n : List ℕ} {here : ℕ → A → B} {search_from : ℕ → List A → Option B} (s : Searches name n here search_from) (xs : List A) (r : Option ℕ) (in_it : Found name n xs r) where
-  with_index : (o : Option ℕ) → r ≡ o → search_from 0 xs ≡ option_and_then (λ k. option_map (here k) (slice_get xs k)) o
-  with_index o is = looked_up s xs ∙ ap (option_and_then (λ k. option_map (here k) (slice_get xs k))) (in_it.is ∙ is)
-
-  pub nothing : r ≡ None → search_from 0 xs ≡ None
-  nothing none = with_index None none
-
-  pub nothing_there : (k : ℕ) → r ≡ Some k → false ≡ nat_lt k (length xs) → search_from 0 xs ≡ None
-  nothing_there k some past = with_index (Some k) some ∙ ap (option_map (here k)) (read_none xs k past)
-
-  pub one : (k : ℕ) (x : A) → r ≡ Some k → true ≡ nat_lt k (length xs) → x ≡ slice_index_or xs k x → search_from 0 xs ≡ Some (here k x)
-  one k x some within is = with_index (Some k) some ∙ ap (option_map (here k)) (read_some xs k x within is)
+  pub one : (k : ℕ) (x : A) → found table n ≡ Some k → true ≡ nat_lt k (length xs) → x ≡ slice_index_or xs k x → first_named name n xs ≡ Some (k, x)
+  one k x is within read = at_index (Some k) is ∙ ap (option_map (λ y. (k, y))) (slice_get_read xs (length xs) k x refl (ltb-true k (length xs) (sym within)) read)
 
 -- an element has the name exactly where the name has an index
 any_from : {A : Type 0} (name : A → List ℕ) (n : List ℕ) (k : ℕ) (xs : List A) → list_any (λ x. bytes_eq (name x) n) xs ≡ is_some (index_from k (map name xs) n)

@@ -1,8 +1,8 @@
 -- The searches of a body's names, each through one list.
-use Rattle.std.proofs.Common.{◌≡◌, ℕ, Bool, List, [], ◌∷◌, map, take, refl, sym, ap, ◌∙◌, ◌||◌}
+use Rattle.std.proofs.Common.{◌≡◌, ℕ, Bool, List, Option, [], ◌∷◌, map, take, refl, sym, ap, ◌∙◌, ◌||◌}
 use Rattle.std.specs.BTreeMap.{BTreeMap}
 use Rattle.std.specs.List.{list_any}
-use Rattle.std.specs.Option.{is_some}
+use Rattle.std.specs.Option.{is_some, option_map}
 use Rattle.std.specs.Str.{bytes_eq}
 use denote.Ref.{Bor}
 use Rattle.prl_base.specs.Values.{type_of}
@@ -13,7 +13,8 @@ use Rattle.prl_body.specs.Vocabulary.{Variable, BodyText, RegisterText, Statemen
 use Rattle.prl_body.specs.Vocabulary.{statement_named, import_named, has_text, text_names, statement_tree, text_tree, input_named, register_named}
 use Rattle.prl_body.specs.declared.codes.Variable.TheVariants as variables
 use Rattle.prl_names.specs.Tables.{AreIndices, found}
-use Rattle.prl_body.proofs.FirstOf.{Searches, any_is, earlier_is}
+use Rattle.prl_body.specs.Scopes.{first_named}
+use Rattle.prl_body.proofs.FirstOf.{looked_up, any_is, earlier_is}
 
 abbrev Table : Type 0
 Table = BTreeMap (Bor (List ℕ)) ℕ
@@ -39,23 +40,40 @@ as_input k p = (variables.Input k, p.ty)
 abbrev pub as_register : ℕ → RegisterText → Variable × Ty
 as_register k r = (variables.Register k, type_of r.first)
 
-pub inputs_searched : (n : List ℕ) → Searches port_name n as_input (λ k ps. input_named k ps n)
-inputs_searched n = record { end = λ k. refl; step = λ k x xs. refl }
+-- what each search makes of the first element of the name
+pub input_found : (ports : List Port) (n : List ℕ) (o : Option (ℕ × Port)) → o ≡ first_named port_name n ports →
+    option_map (λ (x : ℕ × Port). as_input x.0 x.1) o ≡ input_named 0 ports n
+input_found ports n o is =
+    ap (option_map (λ (x : ℕ × Port). as_input x.0 x.1)) is
+    ∙ sym (looked_up {name = port_name} {n = n} {here = as_input} {search_from = λ k ps. input_named k ps n} (record { end = λ k. refl; step = λ k x xs. refl }) ports)
 
-pub registers_searched : (n : List ℕ) → Searches register_name n as_register (λ k rs. register_named k rs n)
-registers_searched n = record { end = λ k. refl; step = λ k x xs. refl }
+pub register_found : (registers : List RegisterText) (n : List ℕ) (o : Option (ℕ × RegisterText)) → o ≡ first_named register_name n registers →
+    option_map (λ (x : ℕ × RegisterText). as_register x.0 x.1) o ≡ register_named 0 registers n
+register_found registers n o is =
+    ap (option_map (λ (x : ℕ × RegisterText). as_register x.0 x.1)) is
+    ∙ sym (looked_up {name = register_name} {n = n} {here = as_register} {search_from = λ k rs. register_named k rs n} (record { end = λ k. refl; step = λ k x xs. refl }) registers)
 
-pub port_types_searched : (n : List ℕ) → Searches port_name n (λ k p. p.ty) (λ k ps. port_type ps n)
-port_types_searched n = record { end = λ k. refl; step = λ k x xs. refl }
+pub port_type_found : (ports : List Port) (n : List ℕ) (o : Option (ℕ × Port)) → o ≡ first_named port_name n ports →
+    option_map (λ (x : ℕ × Port). x.1.ty) o ≡ port_type ports n
+port_type_found ports n o is =
+    ap (option_map (λ (x : ℕ × Port). x.1.ty)) is
+    ∙ sym (looked_up {name = port_name} {n = n} {here = λ k p. p.ty} {search_from = λ k ps. port_type ps n} (record { end = λ k. refl; step = λ k x xs. refl }) ports)
 
-pub register_types_searched : (n : List ℕ) → Searches register_name n (λ k r. type_of r.first) (λ k rs. register_type rs n)
-register_types_searched n = record { end = λ k. refl; step = λ k x xs. refl }
+pub register_type_found : (registers : List RegisterText) (n : List ℕ) (o : Option (ℕ × RegisterText)) → o ≡ first_named register_name n registers →
+    option_map (λ (x : ℕ × RegisterText). type_of x.1.first) o ≡ register_type registers n
+register_type_found registers n o is =
+    ap (option_map (λ (x : ℕ × RegisterText). type_of x.1.first)) is
+    ∙ sym (looked_up {name = register_name} {n = n} {here = λ k r. type_of r.first} {search_from = λ k rs. register_type rs n} (record { end = λ k. refl; step = λ k x xs. refl }) registers)
 
-pub statements_searched : (n : List ℕ) → Searches left_name n (λ k s. statement_tree s) (λ k ss. statement_named (map statement_tree ss) n)
-statements_searched n = record { end = λ k. refl; step = λ k x xs. refl }
+pub statement_found : (statements : List Statement) (n : List ℕ) → statement_named (map statement_tree statements) n ≡ option_map (λ x. statement_tree x.1) (first_named left_name n statements)
+statement_found statements n =
+    looked_up {name = left_name} {n = n} {here = λ k s. statement_tree s} {search_from = λ k ss. statement_named (map statement_tree ss) n} (record { end = λ k. refl; step = λ k x xs. refl }) statements
 
-pub imports_searched : (n : List ℕ) → Searches import_name n (λ k i. i) (λ k is. import_named is n)
-imports_searched n = record { end = λ k. refl; step = λ k x xs. refl }
+pub import_found : (imports : List Import) (n : List ℕ) (o : Option (ℕ × Import)) → o ≡ first_named import_name n imports →
+    option_map (λ (x : ℕ × Import). x.1) o ≡ import_named imports n
+import_found imports n o is =
+    ap (option_map (λ (x : ℕ × Import). x.1)) is
+    ∙ sym (looked_up {name = import_name} {n = n} {here = λ k i. i} {search_from = λ k is. import_named is n} (record { end = λ k. refl; step = λ k x xs. refl }) imports)
 
 -- whether a name is there, and before an index, by the tables
 pub port_is_there : (table : Table) (ports : List Port) (n : List ℕ) → AreIndices table (port_names ports) → has_port ports n ≡ is_some (found table n)

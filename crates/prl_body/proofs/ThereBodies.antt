@@ -5,10 +5,8 @@ use Rattle.std.specs.Str.{bytes_eq}
 use Rattle.std.proofs.lemmas.Slice.Eq.{bytes_eq-Decides}
 use Rattle.prl_base.specs.Reading.{◌>>=◌}
 use Rattle.prl_ast.specs.declared.declarations.Import.{Import}
-use Rattle.prl_body.specs.Vocabulary.{BodyFault, BodyTree, checked_body, checked_one, checked_bodies, has_text, has_body, import_named, TextTree}
-use Rattle.prl_body.specs.declared.faults.BodyFault.TheVariants as faults
-use Rattle.prl_body.proofs.Inversion.{both_ok}
-use Rattle.prl_body.proofs.UsedBodies.{checked_ports, refused_ok}
+use Rattle.prl_body.specs.Vocabulary.{BodyFault, BodyTree, checked_one, checked_bodies, has_text, has_body, import_named, TextTree}
+use Rattle.prl_body.proofs.UsedBodies.{first_checked}
 
 -- one body more, which no import has the name of
 passed_over : (imports : List Import) (name n : List ℕ) (has : Bool) → import_named imports name ≡ None →
@@ -37,15 +35,9 @@ there_next : (imports : List Import) (earlier bs : List TextTree) (b : TextTree)
     checked_one earlier o b (λ x. (rest >>= λ xs. Ok (x ∷ xs))) rest ≡ Ok ts → has_body ts n ≡ (has_text (b ∷ bs) n && is_some (import_named imports n))
 there_next imports earlier bs b rest ts n None declared others is = others ts is ∙ passed_over imports b.name n (has_text bs n) declared
 there_next imports earlier bs b rest ts n (Some of) declared others is =
-    let next : BodyTree → Result (List BodyTree) BodyFault = λ x. (rest >>= λ xs. Ok (x ∷ xs)) in
-    let passed = refused_ok (has_text earlier b.name) (checked_body of b >>= next) ts (faults.BodyName b.at.at) is in
-    let one = both_ok (checked_body of b) next ts passed in
-    let last : List BodyTree → Result (List BodyTree) BodyFault = λ xs. Ok (one.first ∷ xs) in
-    let two = both_ok rest last ts one.rest in
-    let same : one.first ∷ two.first ≡ ts = cc (two.rest) in
-    let ports = checked_ports of b one.first one.is in
-    ap (λ xs. has_body xs n) (sym same) ∙ ap (λ m. (bytes_eq m n || has_body two.first n)) ports.name_is
-    ∙ ap (λ h. (bytes_eq b.name n || h)) (others two.first two.is) ∙ taken_in imports b.name n of (has_text bs n) declared
+    let made = first_checked earlier of b rest ts is in
+    ap (λ xs. has_body xs n) (sym made.same) ∙ ap (λ m. (bytes_eq m n || has_body made.others n)) made.ports.name_is
+    ∙ ap (λ h. (bytes_eq b.name n || h)) (others made.others made.others_are) ∙ taken_in imports b.name n of (has_text bs n) declared
 
 there_from : (imports : List Import) (earlier texts : List TextTree) (ts : List BodyTree) (n : List ℕ) → checked_bodies imports earlier texts ≡ Ok ts →
     has_body ts n ≡ (has_text texts n && is_some (import_named imports n))

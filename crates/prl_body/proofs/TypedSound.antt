@@ -29,56 +29,38 @@ same_type types.Int types.Bool same = cc
 same_type types.Bool types.Int same = cc
 same_type types.Bool types.Bool same = refl
 
--- x.0 is the input of this number after the first k, and x.1 is its type
-record AtInput (k : ℕ) (ports : List Port) (x : Variable × Ty) : Type 0 where
+-- x.0 is the input, or the register, of this number after the first k, and x.1 is its type
+record IsAt (variable : ℕ → Variable) (ts : List Ty) (k : ℕ) (x : Variable × Ty) : Type 0 where
   number : ℕ
-  variable : x.0 ≡ variables.Input (k + number)
-  type : slice_get (port_types ports) number ≡ Some x.1
+  is : x.0 ≡ variable (k + number)
+  type : slice_get ts number ≡ Some x.1
 
-input_step : (b : Bool) (k : ℕ) (p : Port) (ps : List Port) (x : Variable × Ty) (rest : Option (Variable × Ty)) → (rest ≡ Some x → AtInput (k + 1) ps x) →
-    (if b then Some (variables.Input k, p.ty) else rest) ≡ Some x → AtInput k (p ∷ ps) x
-input_step true k p ps x rest later is =
-    let same : (variables.Input k, p.ty) ≡ x = cc in
+at_step : (variable : ℕ → Variable) (ty : Ty) (ts : List Ty) (b : Bool) (k : ℕ) (x : Variable × Ty) (rest : Option (Variable × Ty)) →
+    (rest ≡ Some x → IsAt variable ts (k + 1) x) → (if b then Some (variable k, ty) else rest) ≡ Some x → IsAt variable (ty ∷ ts) k x
+at_step variable ty ts true k x rest later is =
+    let same : (variable k, ty) ≡ x = cc in
     let sum : k ≡ k + 0 = omega arith in
-    record { number = 0; variable = sym (ap (λ (y : Variable × Ty). y.0) same) ∙ ap (λ (n : ℕ). variables.Input n) sum; type = ap (λ (y : Variable × Ty). Some y.1) same }
-input_step false k p ps x rest later is =
+    record { number = 0; is = sym (ap (λ (y : Variable × Ty). y.0) same) ∙ ap variable sum; type = ap (λ (y : Variable × Ty). Some y.1) same }
+at_step variable ty ts false k x rest later is =
     let tail = later is in
     let sum : k + 1 + tail.number ≡ k + suc tail.number = omega arith in
-    record { number = suc tail.number; variable = tail.variable ∙ ap (λ (n : ℕ). variables.Input n) sum; type = tail.type }
+    record { number = suc tail.number; is = tail.is ∙ ap variable sum; type = tail.type }
 
-input_found : (k : ℕ) (ports : List Port) (n : List ℕ) (x : Variable × Ty) → input_named k ports n ≡ Some x → AtInput k ports x
+input_found : (k : ℕ) (ports : List Port) (n : List ℕ) (x : Variable × Ty) → input_named k ports n ≡ Some x → IsAt variables.Input (port_types ports) k x
 input_found k [] n x found = absurd (cc)
-input_found k (p ∷ ps) n x found = input_step (bytes_eq p.name n) k p ps x (input_named (k + 1) ps n) (input_found (k + 1) ps n x) found
+input_found k (p ∷ ps) n x found = at_step variables.Input p.ty (port_types ps) (bytes_eq p.name n) k x (input_named (k + 1) ps n) (input_found (k + 1) ps n x) found
 
-record AtRegister (k : ℕ) (registers : List RegisterText) (x : Variable × Ty) : Type 0 where
-  number : ℕ
-  variable : x.0 ≡ variables.Register (k + number)
-  type : slice_get (text_types registers) number ≡ Some x.1
-
-register_step : (b : Bool) (k : ℕ) (r : RegisterText) (rs : List RegisterText) (x : Variable × Ty) (rest : Option (Variable × Ty)) → (rest ≡ Some x → AtRegister (k + 1) rs x) →
-    (if b then Some (variables.Register k, type_of r.first) else rest) ≡ Some x → AtRegister k (r ∷ rs) x
-register_step true k r rs x rest later is =
-    let same : (variables.Register k, type_of r.first) ≡ x = cc in
-    let sum : k ≡ k + 0 = omega arith in
-    record { number = 0; variable = sym (ap (λ (y : Variable × Ty). y.0) same) ∙ ap (λ (n : ℕ). variables.Register n) sum; type = ap (λ (y : Variable × Ty). Some y.1) same }
-register_step false k r rs x rest later is =
-    let tail = later is in
-    let sum : k + 1 + tail.number ≡ k + suc tail.number = omega arith in
-    record { number = suc tail.number; variable = tail.variable ∙ ap (λ (n : ℕ). variables.Register n) sum; type = tail.type }
-
-register_found : (k : ℕ) (registers : List RegisterText) (n : List ℕ) (x : Variable × Ty) → register_named k registers n ≡ Some x → AtRegister k registers x
+register_found : (k : ℕ) (registers : List RegisterText) (n : List ℕ) (x : Variable × Ty) → register_named k registers n ≡ Some x →
+    IsAt variables.Register (text_types registers) k x
 register_found k [] n x found = absurd (cc)
-register_found k (r ∷ rs) n x found = register_step (bytes_eq r.name n) k r rs x (register_named (k + 1) rs n) (register_found (k + 1) rs n x) found
+register_found k (r ∷ rs) n x found =
+    at_step variables.Register (type_of r.first) (text_types rs) (bytes_eq r.name n) k x (register_named (k + 1) rs n) (register_found (k + 1) rs n x) found
 
-type_of_input : (ins : List Port) (registers : List RegisterText) (x : Variable × Ty) → AtInput 0 ins x → variable_type (port_types ins) (text_types registers) x.0 ≡ Some x.1
-type_of_input ins registers x found =
-    let variable : x.0 ≡ variables.Input found.number = found.variable ∙ ap (λ (n : ℕ). variables.Input n) (omega arith) in
-    ap (variable_type (port_types ins) (text_types registers)) variable ∙ found.type
-
-type_of_register : (ins : List Port) (registers : List RegisterText) (x : Variable × Ty) → AtRegister 0 registers x → variable_type (port_types ins) (text_types registers) x.0 ≡ Some x.1
-type_of_register ins registers x found =
-    let variable : x.0 ≡ variables.Register found.number = found.variable ∙ ap (λ (n : ℕ). variables.Register n) (omega arith) in
-    ap (variable_type (port_types ins) (text_types registers)) variable ∙ found.type
+type_at : (ins : List Port) (registers : List RegisterText) (variable : ℕ → Variable) (ts : List Ty) (x : Variable × Ty) →
+    ((m : ℕ) → variable_type (port_types ins) (text_types registers) (variable m) ≡ slice_get ts m) → IsAt variable ts 0 x →
+    variable_type (port_types ins) (text_types registers) x.0 ≡ Some x.1
+type_at ins registers variable ts x each found =
+    ap (variable_type (port_types ins) (text_types registers)) (found.is ∙ ap variable (omega arith)) ∙ each found.number ∙ found.type
 
 either_found : {P : Type 0} (a b : Option (Variable × Ty)) (x : Variable × Ty) → (a ≡ Some x → P) → (b ≡ Some x → P) → either_variable a b ≡ Some x → P
 either_found None b x left right found = right found
@@ -88,7 +70,8 @@ named_found : (ins : List Port) (registers : List RegisterText) (n : List ℕ) (
     variable_type (port_types ins) (text_types registers) x.0 ≡ Some x.1
 named_found ins registers n x found =
     either_found (input_named 0 ins n) (register_named 0 registers n) x
-    (λ is. type_of_input ins registers x (input_found 0 ins n x is)) (λ is. type_of_register ins registers x (register_found 0 registers n x is)) found
+    (λ is. type_at ins registers variables.Input (port_types ins) x (λ m. refl) (input_found 0 ins n x is))
+    (λ is. type_at ins registers variables.Register (text_types registers) x (λ m. refl) (register_found 0 registers n x is)) found
 
 name_sound : (ins : List Port) (registers : List RegisterText) (at : Span) (o : Option (Variable × Ty)) (x : Expression × Ty) →
     ((y : Variable × Ty) → o ≡ Some y → variable_type (port_types ins) (text_types registers) y.0 ≡ Some y.1) →

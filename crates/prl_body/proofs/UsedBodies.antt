@@ -34,8 +34,16 @@ pub record HasPorts (of : Import) (name : List ℕ) (t : BodyTree) : Type 0 wher
   pub ins : t.ins ≡ of.ins
   pub outs : t.outs ≡ of.outs
 
-pub checked_ports : (of : Import) (body : TextTree) (t : BodyTree) → checked_body of body ≡ Ok t → HasPorts of body.name t
-checked_ports of body t is =
+-- what a checked body is made of
+pub record IsMadeOf (of : Import) (body : TextTree) (t : BodyTree) : Type 0 where
+  pub values : List Expression
+  pub registers : List RegisterTree
+  pub values_are : output_values of.ins body.registers body.at.at body.statements of.outs ≡ Ok values
+  pub registers_are : resolved_registers of.ins body.registers body.statements 0 body.registers ≡ Ok registers
+  pub same : ◌≡◌ {A = BodyTree} (record { name = body.name; ins = of.ins; outs = of.outs; registers = registers; values = values }) t
+
+pub made_of : (of : Import) (body : TextTree) (t : BodyTree) → checked_body of body ≡ Ok t → IsMadeOf of body t
+made_of of body t is =
     let ins = of.ins in
     let finish : List Expression → List RegisterTree → BodyTree = λ values registers. record { name = body.name; ins = ins; outs = of.outs; registers = registers; values = values } in
     let from_values : List Expression → Result BodyTree BodyFault = λ values. (resolved_registers ins body.registers body.statements 0 body.registers >>= λ registers. Ok (finish values registers)) in
@@ -46,12 +54,32 @@ checked_ports of body t is =
     let values = both_ok (output_values ins body.registers body.at.at body.statements of.outs) from_values t types.rest in
     let last : List RegisterTree → Result BodyTree BodyFault = λ registers. Ok (finish values.first registers) in
     let registers = both_ok (resolved_registers ins body.registers body.statements 0 body.registers) last t values.rest in
-    let same : finish values.first registers.first ≡ t = cc (registers.rest) in
-    subst (HasPorts of body.name) same (record { name_is = refl; ins = refl; outs = refl })
+    record { values = values.first; registers = registers.first; values_are = values.is; registers_are = registers.is; same = cc (registers.rest) }
+
+pub checked_ports : (of : Import) (body : TextTree) (t : BodyTree) → checked_body of body ≡ Ok t → HasPorts of body.name t
+checked_ports of body t is = subst (HasPorts of body.name) (made_of of body t is).same (record { name_is = refl; ins = refl; outs = refl })
 
 pub refused_ok : {A F : Type 0} (b : Bool) (r : Result A F) (y : A) (e : F) → (if b then Err e else r) ≡ Ok y → r ≡ Ok y
 refused_ok true r y e is = absurd (cc)
 refused_ok false r y e is = is
+
+-- a body is the first of a text, and there are others after it
+pub record IsFirst (of : Import) (b : TextTree) (rest : Result (List BodyTree) BodyFault) (ts : List BodyTree) : Type 0 where
+  pub first : BodyTree
+  pub others : List BodyTree
+  pub ports : HasPorts of b.name first
+  pub others_are : rest ≡ Ok others
+  pub same : first ∷ others ≡ ts
+
+pub first_checked : (earlier : List TextTree) (of : Import) (b : TextTree) (rest : Result (List BodyTree) BodyFault) (ts : List BodyTree) →
+    checked_one earlier (Some of) b (λ x. (rest >>= λ xs. Ok (x ∷ xs))) rest ≡ Ok ts → IsFirst of b rest ts
+first_checked earlier of b rest ts is =
+    let found : BodyTree → Result (List BodyTree) BodyFault = λ x. (rest >>= λ xs. Ok (x ∷ xs)) in
+    let passed = refused_ok (has_text earlier b.name) (checked_body of b >>= found) ts (faults.BodyName b.at.at) is in
+    let one = both_ok (checked_body of b) found ts passed in
+    let last : List BodyTree → Result (List BodyTree) BodyFault = λ xs. Ok (one.first ∷ xs) in
+    let two = both_ok rest last ts one.rest in
+    record { first = one.first; others = two.first; ports = checked_ports of b one.first one.is; others_are = two.is; same = cc (two.rest) }
 
 -- the body of a text, and those after it
 checked_next : (imports : List Import) (earlier : List TextTree) (b : TextTree) (rest : Result (List BodyTree) BodyFault) (ts : List BodyTree) (o : Option Import) →
@@ -59,15 +87,10 @@ checked_next : (imports : List Import) (earlier : List TextTree) (b : TextTree) 
     checked_one earlier o b (λ x. (rest >>= λ xs. Ok (x ∷ xs))) rest ≡ Ok ts → AreTreesOf imports ts
 checked_next imports earlier b rest ts None declared others is = others ts is
 checked_next imports earlier b rest ts (Some of) declared others is =
-    let found : BodyTree → Result (List BodyTree) BodyFault = λ x. (rest >>= λ xs. Ok (x ∷ xs)) in
-    let passed = refused_ok (has_text earlier b.name) (checked_body of b >>= found) ts (faults.BodyName b.at.at) is in
-    let one = both_ok (checked_body of b) found ts passed in
-    let last : List BodyTree → Result (List BodyTree) BodyFault = λ xs. Ok (one.first ∷ xs) in
-    let two = both_ok rest last ts one.rest in
-    let same : one.first ∷ two.first ≡ ts = cc (two.rest) in
-    let ports = checked_ports of b one.first one.is in
-    let here : IsTreeOf imports one.first = record { of = of; declared = ap (import_named imports) ports.name_is ∙ declared; ins = ports.ins; outs = ports.outs } in
-    subst (AreTreesOf imports) same (one_more imports one.first two.first here (others two.first two.is))
+    let made = first_checked earlier of b rest ts is in
+    let ports = made.ports in
+    let here : IsTreeOf imports made.first = record { of = of; declared = ap (import_named imports) ports.name_is ∙ declared; ins = ports.ins; outs = ports.outs } in
+    subst (AreTreesOf imports) made.same (one_more imports made.first made.others here (others made.others made.others_are))
 
 checked_trees : (imports : List Import) (earlier texts : List TextTree) (ts : List BodyTree) → checked_bodies imports earlier texts ≡ Ok ts → AreTreesOf imports ts
 checked_trees imports earlier [] ts is =

@@ -5,7 +5,7 @@ ghost use Rattle.std.specs.Option.{option_copied};
 ghost use Rattle.prl_body.specs.Checks.{import_named, has_text};
 ghost use Rattle.prl_body.specs.Texts.{text_tree};
 
-use crate::scopes::is_before;
+use crate::scopes::{first_named, is_before};
 use crate::texts::BodyText;
 use prl_ast::Import;
 use prl_base::Name;
@@ -78,9 +78,10 @@ impl<'a> Directory<'a> {
     pub fn import(&self, name: &Name) -> Option<&'a Import>
         ensures { option_copied result ≡ import_named self.now.imports name.now }
     {
-        let k = found(&self.of_imports, name.bytes())?;
-        let import = self.imports.get(k)?;
-        Some(import)
+        match first_named(&self.of_imports, self.imports, name) {
+            Some((_, import)) => Some(import),
+            None => None,
+        }
     }
 
     /// Whether a body of the text has the name.

@@ -23,5 +23,5 @@ pub use faults::BodyFault;
 pub use laws::{each_list_of_bodies_has_an_outcome, used_imports_have_bodies};
 pub use machines::Machine;
 pub use prl_bodyops::{Operator, Prefix};
-pub use program_bodies::{Bodies, check_bodies, import_named};
+pub use program_bodies::{Bodies, check_bodies};
 pub use texts::{BodyText, BodyTexts, Expr, ExprRight, RegisterText, Statement};

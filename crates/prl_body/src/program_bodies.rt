@@ -4,7 +4,7 @@ ghost use Rattle.std.specs.Prelude.{◌≡◌, [], map, Ok};
 ghost use Rattle.std.specs.Option.{option_copied};
 ghost use Rattle.prl_base.specs.Reading.{GivesBut};
 ghost use Rattle.prl_body.specs.Bodies.{body_named};
-ghost use Rattle.prl_body.specs.Checks.{body_tree, import_named, has_body, checked_bodies, all_there, checked};
+ghost use Rattle.prl_body.specs.Checks.{body_tree, has_body, checked_bodies, all_there, checked};
 ghost use Rattle.prl_body.specs.Texts.{text_tree, text_trees};
 
 use crate::bodies::Body;
@@ -61,18 +61,6 @@ fn body_named<'a>(bodies: &'a [Body], name: &Name) -> Option<&'a Body>
     for body in bodies {
         if body.parts().name.bytes() == name.bytes() {
             return Some(body);
-        }
-    }
-    None
-}
-
-/// The import of this name.
-pub fn import_named<'a>(imports: &'a [Import], name: &Name) -> Option<&'a Import>
-    ensures { option_copied result ≡ import_named imports.now name.now }
-{
-    for import in imports {
-        if import.name.bytes() == name.bytes() {
-            return Some(import);
         }
     }
     None

@@ -5,7 +5,7 @@ ghost use Rattle.std.specs.Option.{option_map};
 ghost use Rattle.prl_names.specs.Tables.{AreIndices, found};
 ghost use Rattle.prl_body.specs.Checks.{left_type, port_type, register_type, statement_named};
 ghost use Rattle.prl_body.specs.NameChecks.{has_port, has_register, has_statement};
-ghost use Rattle.prl_body.specs.Scopes.{is_before, left_names};
+ghost use Rattle.prl_body.specs.Scopes.{first_named, is_before, left_names};
 ghost use Rattle.prl_body.specs.Texts.{statement_tree};
 ghost use Rattle.prl_body.specs.TypeChecks.{input_named, named, register_named};
 
@@ -91,7 +91,22 @@ pub fn has_statement(statements: &[Statement], lefts: &Indices<'_>, name: &Name,
     is_before(lefts, name, k)
 }
 
+/// The first of these with the name, and its index.
+pub fn first_named<'a, T: Mentioned>(
+    table: &Indices<'_>,
+    all: &'a [T],
+    name: &Name,
+) -> Option<(usize, &'a T)>
+    requires { AreIndices table.now (map (λ x. (T.placed x).name) all.now) }
+    ensures { option_map (λ x. (x.0, x.1.now)) result ≡ first_named (λ x. (T.placed x).name) name.now all.now }
+{
+    let k = found(table, name.bytes())?;
+    let one = all.get(k)?;
+    Some((k, one))
+}
+
 /// The first statement with this left name.
+#[tactic(auto, using(crate::proofs::Lookups::statement_found))]
 pub fn statement_named<'a>(
     statements: &'a [Statement],
     lefts: &Indices<'_>,
@@ -100,9 +115,10 @@ pub fn statement_named<'a>(
     requires { AreIndices lefts.now (left_names statements.now) }
     ensures { option_map (λ s. statement_tree s.now) result ≡ statement_named (map statement_tree statements.now) name.now }
 {
-    let k = found(lefts, name.bytes())?;
-    let statement = statements.get(k)?;
-    Some(statement)
+    match first_named(lefts, statements, name) {
+        Some((_, statement)) => Some(statement),
+        None => None,
+    }
 }
 
 impl<'a> Scope<'a> {
@@ -139,18 +155,20 @@ impl<'a> Scope<'a> {
     fn input(&self, name: &Name) -> Option<(Variable, Ty)>
         ensures { result ≡ input_named 0 self.now.ins name.now }
     {
-        let k = found(&self.of_inputs, name.bytes())?;
-        let port = self.ins.get(k)?;
-        Some((Variable::Input(k), port.ty))
+        match first_named(&self.of_inputs, self.ins, name) {
+            Some((k, port)) => Some((Variable::Input(k), port.ty)),
+            None => None,
+        }
     }
 
     /// The register of this name, and its type.
     fn register(&self, name: &Name) -> Option<(Variable, Ty)>
         ensures { result ≡ register_named 0 self.now.registers name.now }
     {
-        let k = found(&self.of_registers, name.bytes())?;
-        let register = self.registers.get(k)?;
-        Some((Variable::Register(k), register.first.ty()))
+        match first_named(&self.of_registers, self.registers, name) {
+            Some((k, register)) => Some((Variable::Register(k), register.first.ty())),
+            None => None,
+        }
     }
 
     /// What a name of an expression stands for.
@@ -167,18 +185,20 @@ impl<'a> Scope<'a> {
     fn output_type(&self, name: &Name) -> Option<Ty>
         ensures { result ≡ port_type self.now.outs name.now }
     {
-        let k = found(&self.of_outputs, name.bytes())?;
-        let port = self.outs.get(k)?;
-        Some(port.ty)
+        match first_named(&self.of_outputs, self.outs, name) {
+            Some((_, port)) => Some(port.ty),
+            None => None,
+        }
     }
 
     /// The type of the register of this name.
     fn register_type(&self, name: &Name) -> Option<Ty>
         ensures { result ≡ register_type self.now.registers name.now }
     {
-        let k = found(&self.of_registers, name.bytes())?;
-        let register = self.registers.get(k)?;
-        Some(register.first.ty())
+        match first_named(&self.of_registers, self.registers, name) {
+            Some((_, register)) => Some(register.first.ty()),
+            None => None,
+        }
     }
 
     /// The type of the output or the register of this name.

@@ -2,7 +2,7 @@
 
 ghost use Rattle.std.specs.Prelude.{◌≡◌, ◌≤◌, [], IfOk, None, vec_len};
 
-use super::failed_reads::FailedReads;
+use super::failures::Failures;
 use super::reading::{FileFault, Files};
 use prl_base::Label;
 use std::alloc::Global;
@@ -16,7 +16,7 @@ use std::rt::Runtime;
 #[derive(Drop)]
 pub struct HostFiles<'a, R: Runtime> {
     rt: &'a R,
-    failed: FailedReads,
+    failed: Failures,
 }
 
 impl<'a, R: Runtime> HostFiles<'a, R> {
@@ -26,7 +26,7 @@ impl<'a, R: Runtime> HostFiles<'a, R> {
     {
         HostFiles {
             rt,
-            failed: FailedReads::new(),
+            failed: Failures::new(),
         }
     }
 }
@@ -59,12 +59,12 @@ fn read_at<R: Runtime>(alloc: Global, rt: &R, name: &Label, most: u64) -> Result
 }
 
 impl<R: Runtime> Files for HostFiles<'_, R> {
-    ghost seen = { λ f. record { folder = None; failed = f.failed.names } };
+    ghost seen = { λ f. record { folder = None; failed = f.failed.all } };
 
     fn read(&mut self, alloc: Global, name: &Label, most: u64) -> Result<Vec<u8>, FileFault> {
         let answer = read_at(alloc, self.rt, name, most);
         if answer == Err(FileFault::Failed) {
-            self.failed = FailedReads::one_more(&self.failed, name);
+            self.failed = Failures::one_more(&self.failed, name.bytes());
         }
         answer
     }

@@ -1,8 +1,8 @@
 //! Standard output or error, or any other writer.
 
-ghost use Rattle.std.specs.Prelude.{None, ◌≡◌, ◌+◌};
+ghost use Rattle.std.specs.Prelude.{None, ◌≡◌, ◌+◌, length};
 
-use super::fault_count::FaultCount;
+use super::failures::Failures;
 use super::writing::{Failed, Sink};
 use std::io::Write;
 
@@ -11,7 +11,7 @@ use std::io::Write;
 #[derive(Drop)]
 pub struct HostSink<W: Write + Drop> {
     writer: W,
-    count: FaultCount,
+    failed: Failures,
 }
 
 impl<W: Write + Drop> HostSink<W> {
@@ -21,32 +21,32 @@ impl<W: Write + Drop> HostSink<W> {
     {
         HostSink {
             writer,
-            count: FaultCount::new(),
+            failed: Failures::new(),
         }
     }
 
-    fn fault(&mut self) -> Failed
-        ensures { self.new.count.total ≡ self.old.count.total + 1 }
+    fn fault(&mut self, piece: &[u8]) -> Failed
+        ensures { length self.new.failed.all ≡ length self.old.failed.all + 1 }
     {
-        self.count = FaultCount::one_more(&self.count);
+        self.failed = Failures::one_more(&self.failed, piece);
         Failed
     }
 }
 
 impl<W: Write + Drop> Sink for HostSink<W> {
-    ghost seen = { λ s. record { written = None; faults = s.count.total } };
+    ghost seen = { λ s. record { written = None; faults = length s.failed.all } };
 
     fn write(&mut self, piece: &[u8]) -> Result<usize, Failed> {
         let count = match self.writer.write(piece) {
             Ok(count) => count,
-            Err(_) => return Err(self.fault()),
+            Err(_) => return Err(self.fault(piece)),
         };
         if count == 0 && !piece.is_empty() {
-            return Err(self.fault());
+            return Err(self.fault(piece));
         }
         match self.writer.flush() {
             Ok(()) => Ok(count),
-            Err(_) => Err(self.fault()),
+            Err(_) => Err(self.fault(piece)),
         }
     }
 }

@@ -4,8 +4,7 @@
 //! process. It stands on `prl_base`.
 #![tactic(auto)]
 
-mod failed_reads;
-mod fault_count;
+mod failures;
 mod host_files;
 mod host_sink;
 mod host_words;

@@ -6,7 +6,7 @@ ghost use Rattle.prl_io.specs.Folders.{file_fault};
 ghost use Rattle.std.specs.Option.{option_copied};
 ghost use Rattle.prl_io.specs.MemFolders.{held};
 
-use super::failed_reads::FailedReads;
+use super::failures::Failures;
 use super::numbering::Calls;
 use super::reading::{FileFault, Files};
 use prl_base::Label;
@@ -20,7 +20,7 @@ use std::marker::Model;
 pub struct MemFiles {
     entries: Vec<(Label, Vec<u8>)>,
     calls: Calls,
-    failed: FailedReads,
+    failed: Failures,
 }
 
 impl Model for MemFiles {
@@ -33,7 +33,7 @@ impl Model for MemFiles {
       entries = map (λ entry. (entry.0, entry.1.items)) m.entries.items;
       fails = m.calls.fails.items;
       next = m.calls.next;
-      failed = m.failed.names;
+      failed = m.failed.all;
     } };
 }
 
@@ -47,7 +47,7 @@ impl MemFiles {
         MemFiles {
             entries,
             calls: Calls::new(fails),
-            failed: FailedReads::new(),
+            failed: Failures::new(),
         }
     }
 }
@@ -64,7 +64,7 @@ impl Files for MemFiles {
         ensures others { result ≢ Err FileFault.Failed → self.new.failed ≡ self.old.failed }
     {
         if self.calls.fails_now() {
-            self.failed = FailedReads::one_more(&self.failed, name);
+            self.failed = Failures::one_more(&self.failed, name.bytes());
             return Err(FileFault::Failed);
         }
         match find(&self.entries, name) {

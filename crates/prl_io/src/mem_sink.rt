@@ -2,7 +2,7 @@
 
 ghost use Rattle.std.specs.Prelude.{◌≡◌, ◌<◌, ◌≤◌, Some, Ok, IfOk, length};
 
-use super::fault_count::FaultCount;
+use super::failures::Failures;
 use super::numbering::Calls;
 use super::writing::{Failed, Sink};
 use std::alloc::{AllocError, Global};
@@ -17,11 +17,11 @@ pub struct MemSink {
     room: u64,
     most: u64,
     calls: Calls,
-    count: FaultCount,
+    failed: Failures,
 }
 
 impl Model for MemSink {
-    ghost use Rattle.std.specs.Prelude.{◌≤◌, vec_capacity, vec_len};
+    ghost use Rattle.std.specs.Prelude.{◌≤◌, length, vec_capacity, vec_len};
     ghost use Rattle.prl_io.specs.MemStores.{MemStore};
 
     ghost Value = { MemStore };
@@ -32,7 +32,7 @@ impl Model for MemSink {
       most = m.most;
       fails = m.calls.fails.items;
       next = m.calls.next;
-      faults = m.count.total;
+      faults = length m.failed.all;
     } };
 
     ghost invariant = { λ m. (m.room ≤ vec_capacity m.bytes) × (vec_len m.bytes ≤ m.room) × (1 ≤ m.most) };
@@ -51,7 +51,7 @@ impl MemSink {
             room,
             most,
             calls: Calls::new(fails),
-            count: FaultCount::new(),
+            failed: Failures::new(),
         })
     }
 
@@ -75,7 +75,7 @@ impl Sink for MemSink {
     {
         let left = self.room - self.bytes.len() as u64;
         if self.calls.fails_now() || left == 0 {
-            self.count = FaultCount::one_more(&self.count);
+            self.failed = Failures::one_more(&self.failed, piece);
             return Err(Failed);
         }
         let count = self.most.min(left).min(piece.len() as u64) as usize;

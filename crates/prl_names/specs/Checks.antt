@@ -6,10 +6,19 @@ use Rattle.prl_ast.specs.declared.declarations.Placed.{Placed}
 use Rattle.prl_ast.specs.Trees.{NodeTree, ProgramTree}
 use Rattle.prl_names.specs.declared.checks.NameFault.{NameFault}
 use Rattle.prl_names.specs.declared.checks.NameFault.TheVariants as faults
+use Rattle.prl_names.specs.declared.checks.Wrong.{Wrong}
+use Rattle.prl_names.specs.declared.checks.Wrong.TheVariants as wrongs
 use Rattle.prl_names.specs.Applications.{recursive_of}
 use Rattle.prl_names.specs.Lookups.{index_of, node_names}
 use Rattle.prl_names.specs.Repeats.{repeat_of}
 use Rattle.prl_names.specs.Unknowns.{either_name, unknown_of, undefined_of, absent_from}
+
+-- the fault of a name with which this is wrong
+abbrev pub fault_of : Wrong → List ℕ → NameFault
+fault_of wrongs.Twice name = faults.Twice name
+fault_of wrongs.Unknown name = faults.Unknown name
+fault_of wrongs.Undefined name = faults.Undefined name
+fault_of wrongs.Recursive name = faults.Recursive name
 
 abbrev pub refused : (List ℕ → NameFault) → Option (List ℕ) → Result (Unit {0}) NameFault
 refused fault None = Ok tt

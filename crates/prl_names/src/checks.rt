@@ -1,11 +1,11 @@
 //! The checks of the names of a program.
 
-ghost use Rattle.std.specs.Prelude.{◌≡◌, ◌<◌, IfOk, IfSome, length};
+ghost use Rattle.std.specs.Prelude.{◌≡◌, ◌≢◌, ◌<◌, IfOk, IfSome, length};
 ghost use Rattle.std.specs.Option.{option_copied};
 ghost use Rattle.prl_base.specs.Reading.{GivesBut};
 ghost use Rattle.prl_ast.specs.Trees.{program_tree};
 ghost use Rattle.prl_names.specs.Named.{IsNamed};
-ghost use Rattle.prl_names.specs.Checks.{main_of, names_of};
+ghost use Rattle.prl_names.specs.Checks.{fault_of, main_of, names_of};
 
 use crate::absences::{undefined, without_device};
 use crate::applications::recursive;
@@ -67,6 +67,30 @@ fn main_of(names: &Names<'_>, main: Option<&Label>) -> Option<usize>
     }
 }
 
+/// What is wrong with a name.
+#[derive(Clone, Copy)]
+enum Wrong {
+    Twice,
+    Unknown,
+    Undefined,
+    Recursive,
+}
+
+/// That this is wrong with the name, or want of memory.
+fn wrong_name(alloc: Global, wrong: Wrong, name: &Name) -> NameFault
+    ensures { result ≢ NameFault.Memory → result ≡ fault_of wrong name.now }
+{
+    match name.copy(alloc) {
+        Ok(name) => match wrong {
+            Wrong::Twice => NameFault::Twice(name),
+            Wrong::Unknown => NameFault::Unknown(name),
+            Wrong::Undefined => NameFault::Undefined(name),
+            Wrong::Recursive => NameFault::Recursive(name),
+        },
+        Err(_) => NameFault::Memory,
+    }
+}
+
 /// The index of the main node, or the first fault.
 #[tactic(auto, unfolding(crate::specs::Checks::names_of))]
 fn checked(alloc: Global, names: &Names<'_>, main: Option<&Label>) -> Result<usize, NameFault>
@@ -74,20 +98,20 @@ fn checked(alloc: Global, names: &Names<'_>, main: Option<&Label>) -> Result<usi
 {
     let program = names.program();
     if let Some(mention) = repeat(alloc, names)? {
-        return Err(NameFault::Twice(mention.name.copy(alloc)?));
+        return Err(wrong_name(alloc, Wrong::Twice, mention.name));
     }
     if let Some(name) = unknown(names) {
-        return Err(NameFault::Unknown(name.copy(alloc)?));
+        return Err(wrong_name(alloc, Wrong::Unknown, name));
     }
     if let Some(name) = undefined(alloc, program)? {
-        return Err(NameFault::Undefined(name.copy(alloc)?));
+        return Err(wrong_name(alloc, Wrong::Undefined, name));
     }
     if let Some(name) = recursive(alloc, names)? {
-        return Err(NameFault::Recursive(name.copy(alloc)?));
+        return Err(wrong_name(alloc, Wrong::Recursive, name));
     }
     let node = main_of(names, main).ok_or(NameFault::NoMain)?;
     if let Some(name) = without_device(alloc, program, node)? {
-        return Err(NameFault::Unknown(name.copy(alloc)?));
+        return Err(wrong_name(alloc, Wrong::Unknown, name));
     }
     Ok(node)
 }

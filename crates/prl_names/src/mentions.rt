@@ -1,10 +1,7 @@
 //! Names where they are declared or defined.
 
 ghost use Rattle.std.specs.Prelude.{◌≡◌, ◌++◌, IfOk, OnOk, map};
-ghost use Rattle.prl_ast.specs.Trees.{node_tree};
-ghost use Rattle.prl_names.specs.Lookups.{params_of};
-ghost use Rattle.prl_names.specs.Mentions.{placed_param, placed_port, placed_device, placed_import, placed_node, all_placed};
-ghost use Rattle.prl_names.specs.Repeats.{flow_space, port_space};
+ghost use Rattle.prl_names.specs.Mentions.{all_placed};
 
 use prl_ast::{Device, Import, Node, Param, Placed, Port};
 use prl_base::{Name, Span};
@@ -129,23 +126,45 @@ pub fn mentions<T: Mentioned>(alloc: Global, all: &[T]) -> Result<Vec<Mention<'_
     Ok(list)
 }
 
-/// The parameters of a node: inputs, then outputs, then locals.
-pub fn flows(alloc: Global, node: &Node) -> Result<Vec<Mention<'_>>, AllocError>
-    ensures { IfOk result (λ list. all_placed list.items ≡ flow_space (node_tree node.now)) }
-{
-    let mut list = Vec::new(alloc);
-    push_all(&mut list, node.ins.as_slice())?;
-    push_all(&mut list, node.outs.as_slice())?;
-    push_all(&mut list, node.locals.as_slice())?;
-    Ok(list)
+/// What has names that share one space.
+pub(crate) trait Spaced {
+    ghost use Rattle.std.specs.Prelude.{◌≡◌, IfOk, List};
+    ghost use Rattle.prl_ast.specs.declared.declarations.Placed.{Placed};
+    ghost use Rattle.prl_names.specs.Mentions.{all_placed};
+
+    ghost space: { Self → List Placed };
+
+    /// The names of the space, in order.
+    fn space(&self, alloc: Global) -> Result<Vec<Mention<'_>>, AllocError>
+        ensures { IfOk result (λ list. all_placed list.items ≡ space self.now) };
 }
 
-/// The ports of an import: inputs, then outputs.
-pub fn ports(alloc: Global, import: &Import) -> Result<Vec<Mention<'_>>, AllocError>
-    ensures { IfOk result (λ list. all_placed list.items ≡ port_space import.now) }
-{
-    let mut list = Vec::new(alloc);
-    push_all(&mut list, import.ins.as_slice())?;
-    push_all(&mut list, import.outs.as_slice())?;
-    Ok(list)
+impl Spaced for Node {
+    ghost use Rattle.prl_ast.specs.Trees.{node_tree};
+    ghost use Rattle.prl_names.specs.Repeats.{flow_space};
+
+    ghost space = { λ n. flow_space (node_tree n) };
+
+    /// The parameters: inputs, then outputs, then locals.
+    fn space(&self, alloc: Global) -> Result<Vec<Mention<'_>>, AllocError> {
+        let mut list = Vec::new(alloc);
+        push_all(&mut list, self.ins.as_slice())?;
+        push_all(&mut list, self.outs.as_slice())?;
+        push_all(&mut list, self.locals.as_slice())?;
+        Ok(list)
+    }
+}
+
+impl Spaced for Import {
+    ghost use Rattle.prl_names.specs.Repeats.{port_space};
+
+    ghost space = { port_space };
+
+    /// The ports: inputs, then outputs.
+    fn space(&self, alloc: Global) -> Result<Vec<Mention<'_>>, AllocError> {
+        let mut list = Vec::new(alloc);
+        push_all(&mut list, self.ins.as_slice())?;
+        push_all(&mut list, self.outs.as_slice())?;
+        Ok(list)
+    }
 }

@@ -6,11 +6,11 @@ ghost use Rattle.prl_ast.specs.Trees.{node_tree, program_tree};
 ghost use Rattle.prl_ast.specs.declared.declarations.Placed.{Placed};
 ghost use Rattle.prl_names.specs.Lookups.{param_at};
 ghost use Rattle.prl_names.specs.Mentions.{placed_of, placed_device, placed_param, all_placed};
-ghost use Rattle.prl_names.specs.Repeats.{repeat_in, front_before, rest_from, merged, first_of, callee_space, earliest_repeat, port_space, flow_space, lefts_of, definition_space, global_spaces, repeat_of};
+ghost use Rattle.prl_names.specs.Repeats.{repeat_in, front_before, rest_from, merged, first_of, callee_space, earliest_repeat, lefts_of, definition_space, global_spaces, repeat_of};
 
 use crate::lookups::Names;
-use crate::mentions::{Mention, flows, mentions, ports};
-use prl_ast::{Device, Import, Node, Placed, Program};
+use crate::mentions::{Mention, Spaced, mentions};
+use prl_ast::{Device, Node, Placed, Program};
 use std::alloc::{AllocError, Global};
 use std::collections::BTreeMap;
 
@@ -75,33 +75,17 @@ fn merged<'a>(
     Ok(list)
 }
 
-/// The first repeat of the ports of imports, and of another that was found before.
-fn repeat_in_ports<'a>(
+/// The first repeat within the space of one of these, and of another that was found before.
+fn repeat_in_each<'a, T: Spaced>(
     alloc: Global,
     before: Option<Mention<'a>>,
-    imports: &'a [Import],
+    all: &'a [T],
 ) -> Result<Option<Mention<'a>>, AllocError>
-    ensures { IfOk result (λ repeat. option_map placed_of repeat ≡ earliest_repeat (option_map placed_of before.entry) (map port_space imports.now)) }
+    ensures { IfOk result (λ repeat. option_map placed_of repeat ≡ earliest_repeat (option_map placed_of before.entry) (map T.space all.now)) }
 {
     let mut first = before;
-    for import in imports {
-        let space = ports(alloc, import)?;
-        first = first_of(first, repeat_in(alloc, space.as_slice())?);
-    }
-    Ok(first)
-}
-
-/// The first repeat of the flows of nodes, and of another that was found before.
-fn repeat_in_flows<'a>(
-    alloc: Global,
-    before: Option<Mention<'a>>,
-    nodes: &'a [Node],
-) -> Result<Option<Mention<'a>>, AllocError>
-    ensures { IfOk result (λ repeat. option_map placed_of repeat ≡ earliest_repeat (option_map placed_of before.entry) (map flow_space (map node_tree nodes.now))) }
-{
-    let mut first = before;
-    for node in nodes {
-        let space = flows(alloc, node)?;
+    for one in all {
+        let space = one.space(alloc)?;
         first = first_of(first, repeat_in(alloc, space.as_slice())?);
     }
     Ok(first)
@@ -214,7 +198,7 @@ pub fn repeat<'a>(alloc: Global, names: &Names<'a>) -> Result<Option<Mention<'a>
 {
     let program = names.program();
     let first = repeat_of_globals(alloc, names)?;
-    let first = repeat_in_ports(alloc, first, program.imports.as_slice())?;
-    let first = repeat_in_flows(alloc, first, program.nodes.as_slice())?;
+    let first = repeat_in_each(alloc, first, program.imports.as_slice())?;
+    let first = repeat_in_each(alloc, first, program.nodes.as_slice())?;
     repeat_in_definitions(alloc, first, names)
 }

@@ -6,7 +6,7 @@ ghost use Rattle.prl_ast.specs.Trees.{node_tree};
 ghost use Rattle.prl_names.specs.Mentions.{names_in};
 ghost use Rattle.prl_names.specs.Tables.{found, AreIndices, AreParams};
 
-use crate::mentions::{Mention, Mentioned, flows, mentions};
+use crate::mentions::{Mention, Mentioned, Spaced, mentions};
 use prl_ast::Node;
 use std::alloc::{AllocError, Global};
 use std::collections::BTreeMap;
@@ -49,7 +49,7 @@ pub fn all_params(alloc: Global, nodes: &[Node]) -> Result<Vec<Indices<'_>>, All
 {
     let mut tables = Vec::new(alloc);
     for node in nodes {
-        let list = flows(alloc, node)?;
+        let list = node.space(alloc)?;
         tables.push(indices(alloc, list.as_slice())?)?;
     }
     Ok(tables)

@@ -1,5 +1,6 @@
 -- Bytes that numbers, values and names do not have.
 use Rattle.std.proofs.Common.{◌≡◌, ◌==◌, ◌++◌, ◌+◌, ◌<◌, ◌/◌, ◌%◌, ◌&&◌, ℕ, zero, suc, ℤ, pos, negsuc, Bool, true, false, not, List, [], ◌∷◌, cond, length, nat_lt, refl, ap, ◌∙◌, arith, decimal}
+use Rattle.std.specs.Char.{is_ascii_digit}
 use Rattle.std.specs.List.{list_all}
 use Rattle.std.specs.Fmt.{digit_glyph, digits, digits_onto, signed_decimal}
 use Rattle.std.proofs.lemmas.Bool.{and_parts}
@@ -24,10 +25,10 @@ lacks_append end xs ys first second =
 
 -- the byte is no digit
 abbrev pub NoDigit : ℕ → Type 0
-NoDigit end = (d : ℕ) → d < 10 → ((48 + d) == end) ≡ false
+NoDigit end = is_ascii_digit end ≡ false
 
 glyph_by : (end d : ℕ) (t : Bool) → nat_lt d 10 ≡ t → d < 10 → NoDigit end → (cond t (48 + d) (cond false (55 + d) (87 + d)) == end) ≡ false
-glyph_by end d true e small none = none d small
+glyph_by end d true e small none = grind (arith, nat_tests, small, none)
 glyph_by end d false e small none = grind (arith, nat_tests)
 
 glyph_is_none : (end n : ℕ) → NoDigit end → (digit_glyph false (n % 10) == end) ≡ false

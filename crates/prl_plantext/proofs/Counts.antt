@@ -2,7 +2,6 @@
 use Rattle.std.proofs.Common.{◌≡◌, ◌+◌, ◌<◌, ℕ, suc, List, [], ◌∷◌, Some, length, take, sum, slice_get, refl, ap, sym, ◌∙◌, subst, arith}
 use Rattle.std.specs.Prelude.{pos, slice_index, slice_index_or, sum_by}
 use Rattle.std.proofs.lemmas.List.{ext_get_or}
-use Rattle.std.proofs.lemmas.List.Sums.{sum_by-cons}
 use Rattle.std.proofs.lemmas.Option.{slice_get-get_or}
 use Rattle.prl_base.specs.declared.operators.Op.{Op}
 use Rattle.prl_plan.specs.Vocabulary.{AreLeastCells, Fits, HasCells, IsOverBy, no_used, used_at, Family, encoded_deadline, encoded_release, IsFirstReader, first_reader, IsWellFormed, edge_at, no_edge}
@@ -17,26 +16,9 @@ use Rattle.prl_plan.specs.declared.graphs.Producer.TheVariants as producers
 use Rattle.prl_plan.proofs.ReaderLaws.{is_first_reader}
 use Rattle.prl_plan.proofs.RepeatLaws.{agree_below}
 use Rattle.prl_words.specs.GraphWords.{constant_reads}
+use Rattle.prl_words.proofs.Listed.{same_sum}
 
 -- words: each has as many constants as jobs come before the first reader
-
-same_sums : (words : List Word) (edges : List Edge) → length words ≡ length edges →
-    ((e : ℕ) (edge : Edge) → slice_get edges e ≡ Some edge → (word : Word) × (slice_get words e ≡ Some word) × (length word.prefix ≡ first_reader edge.ops)) →
-    sum_by (λ (word : Word). length word.prefix) words ≡ sum_by (λ (edge : Edge). first_reader edge.ops) edges
-same_sums [] [] long each = refl
-same_sums [] (edge ∷ edges) long each = absurd (omega (arith, long))
-same_sums (word ∷ words) [] long each = absurd (omega (arith, long))
-same_sums (word ∷ words) (edge ∷ edges) long each =
-    let first = each 0 edge refl in
-    let same : word ≡ first.0 = one_item word first.0 first.1 in
-    let here : length word.prefix ≡ first_reader edge.ops = ap (λ (w : Word). length w.prefix) same ∙ first.2 in
-    let later = same_sums words edges (omega (arith, long)) (λ e other at. each (suc e) other at) in
-    let left = sum_by-cons (λ (w : Word). length w.prefix) word words in
-    let right = sum_by-cons (λ (e : Edge). first_reader e.ops) edge edges in
-    omega (arith, here, later, left, right)
-  where
-    one_item : (a b : Word) → Some a ≡ Some b → a ≡ b
-    one_item a b e = cc
 
 abbrev pub FirstReaders : Type 0
 FirstReaders = (ops : List Op) (w : Word) → IsWordOf ops w → IsFirstReader ops (length w.prefix)
@@ -47,7 +29,7 @@ OneFirstReader = (ops : List Op) (p q : ℕ) → IsFirstReader ops p → IsFirst
 pub constants_are : (graph : TaskGraph) (words : List Word) → FirstReaders → OneFirstReader → IsWellFormed graph → AreWords graph words →
     constants_in words ≡ constant_reads graph
 constants_are graph words first one well are =
-    same_sums words graph.edges are.long
+    same_sum graph.edges words are.long
     (λ e edge at.
     let word = are.each e edge at in (
       word.0,

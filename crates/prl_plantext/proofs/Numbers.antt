@@ -17,7 +17,7 @@ use Rattle.prl_base.specs.declared.values.Value.{Value}
 use Rattle.prl_base.specs.declared.values.Ty.TheVariants as types
 use Rattle.prl_base.specs.declared.values.Value.TheVariants as values
 use Rattle.prl_plantext.specs.code.Graphs.{number_in, or_small, small_in, type_in, value_in}
-use Rattle.prl_plantext.proofs.Bytes.{Lacks, NoDigit, decimal_lacks, decimal_some, signed_lacks}
+use Rattle.prl_plantext.proofs.Bytes.{Lacks, decimal_lacks, decimal_some, signed_lacks}
 use Rattle.prl_plantext.proofs.Cuts.{head_lacks}
 use Rattle.std.proofs.lemmas.Slice.Eq.{bytes_eq-Decides}
 
@@ -52,32 +52,6 @@ or_small_is n small = grind (arith, nat_tests, small)
 pub small_of_decimal : (n : ℕ) → n < 2 ^ 32 → small_in (decimal n) ≡ n
 small_of_decimal n small = ap or_small (number_of_decimal n (omega (arith, small))) ∙ or_small_is n small
 
--- bytes that are no digits: `-`, `.`, `/`, `@`, and those of keywords
-
-pub no_digit_45 : NoDigit 45
-no_digit_45 d small = grind (arith, nat_tests, small)
-
-pub no_digit_46 : NoDigit 46
-no_digit_46 d small = grind (arith, nat_tests, small)
-
-pub no_digit_47 : NoDigit 47
-no_digit_47 d small = grind (arith, nat_tests, small)
-
-pub no_digit_99 : NoDigit 99
-no_digit_99 d small = grind (arith, nat_tests, small)
-
-pub no_digit_102 : NoDigit 102
-no_digit_102 d small = grind (arith, nat_tests, small)
-
-pub no_digit_116 : NoDigit 116
-no_digit_116 d small = grind (arith, nat_tests, small)
-
-pub no_digit_32 : NoDigit 32
-no_digit_32 d small = grind (arith, nat_tests, small)
-
-pub no_digit_10 : NoDigit 10
-no_digit_10 d small = grind (arith, nat_tests, small)
-
 bytes_same : (xs ys : List ℕ) → bytes_eq xs ys ≡ true → xs ≡ ys
 bytes_same xs ys e = grind (arith, bytes_eq-Decides, e)
 
@@ -106,7 +80,7 @@ unsigned_integer (b ∷ bs) some lacks = no_minus b bs lacks
 pub integer_of_signed : (z : ℤ) → FitsSigned w64 z → integer_of (signed_decimal z) ≡ Some z
 integer_of_signed (pos n) fits =
     let f = fits.sfits in
-    unsigned_integer (decimal n) (decimal_some n) (decimal_lacks 45 n no_digit_45)
+    unsigned_integer (decimal n) (decimal_some n) (decimal_lacks 45 n refl)
     ∙ ap (option_and_then positive) (decimal_of_decimal n (omega (arith, f))) ∙ positive_is n (omega (arith, f))
 integer_of_signed (negsuc n) fits =
     let f = fits.sfits in
@@ -131,8 +105,8 @@ value_of_text (values.Bool true) fits = refl
 value_of_text (values.Bool false) fits = refl
 value_of_text (values.Int n) fits =
     integer_by (bytes_eq (signed_decimal n) (codes "true")) (bytes_eq (signed_decimal n) (codes "false")) (values.Int (unwrap_or (integer_of (signed_decimal n)) (pos 0)))
-    (is_not 116 (signed_decimal n) (codes "true") (signed_lacks 116 n no_digit_116 refl) refl)
-    (is_not 102 (signed_decimal n) (codes "false") (signed_lacks 102 n no_digit_102 refl) refl)
+    (is_not 116 (signed_decimal n) (codes "true") (signed_lacks 116 n refl refl) refl)
+    (is_not 102 (signed_decimal n) (codes "false") (signed_lacks 102 n refl refl) refl)
     ∙ ap (λ o. values.Int (unwrap_or o (pos 0))) (integer_of_signed n fits)
 
 pub type_of_text : (ty : Ty) → type_in (type_text ty) ≡ ty

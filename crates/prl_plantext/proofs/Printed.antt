@@ -22,29 +22,21 @@ use Rattle.prl_plan.specs.declared.graphs.Producer.TheVariants as producers
 use Rattle.prl_plantext.specs.PlanTexts.{cells_words, dates_words, edge_words, kind_text, operator_words, operators_words, pair_text, producer_words, task_words, window_text, word_words}
 use Rattle.prl_plantext.proofs.Bytes.{Lacks, decimal_lacks, decimal_some, lacks_append, lacks_cons, signed_lacks, signed_some, word_bytes_lack}
 use Rattle.prl_plantext.proofs.Cuts.{ArePrinted, IsPrinted, printed_of_two}
-use Rattle.prl_plantext.proofs.Numbers.{no_digit_10, no_digit_32}
 
 -- names
 
-byte_apart : (end b : ℕ) → is_word_byte end ≡ false → is_word_byte b ≡ true → (b == end) ≡ false
-byte_apart end b none is = go (eqb b end) refl
+apart : (p : ℕ → Bool) (end b : ℕ) → p end ≡ false → p b ≡ true → (b == end) ≡ false
+apart p end b none is = go (eqb b end) refl
   where
     go : (t : Bool) → eqb b end ≡ t → eqb b end ≡ false
     go false e = e
-    go true e = absurd (false≢true (sym none ∙ subst (λ n. is_word_byte n ≡ true) (eqb-true b end e) is))
-
-start_apart : (end b : ℕ) → is_word_start end ≡ false → is_word_start b ≡ true → (b == end) ≡ false
-start_apart end b none is = go (eqb b end) refl
-  where
-    go : (t : Bool) → eqb b end ≡ t → eqb b end ≡ false
-    go false e = e
-    go true e = absurd (false≢true (sym none ∙ subst (λ n. is_word_start n ≡ true) (eqb-true b end e) is))
+    go true e = absurd (false≢true (sym none ∙ subst (λ n. p n ≡ true) (eqb-true b end e) is))
 
 pub name_lacks : (end : ℕ) (name : List ℕ) → is_word_byte end ≡ false → is_word_start end ≡ false → IsName name → Lacks end name
 name_lacks end [] none start is = refl
 name_lacks end (b ∷ bs) none start is =
     let both = and_parts (is_word_start b) (list_all is_word_byte bs) is.0 in
-    lacks_cons end b bs (start_apart end b start both.0) (word_bytes_lack end bs (λ c. byte_apart end c none) both.1)
+    lacks_cons end b bs (apart is_word_start end b start both.0) (word_bytes_lack end bs (λ c. apart is_word_byte end c none) both.1)
 
 name_some : (name : List ℕ) → IsName name → 0 < length name
 name_some [] is = absurd (false≢true is.0)
@@ -54,7 +46,7 @@ printed_name : (name : List ℕ) → IsName name → IsPrinted name
 printed_name name is = record { some = name_some name is; blanks = name_lacks 32 name refl refl is; feeds = name_lacks 10 name refl refl is }
 
 pub printed_decimal : (n : ℕ) → IsPrinted (decimal n)
-printed_decimal n = record { some = decimal_some n; blanks = decimal_lacks 32 n no_digit_32; feeds = decimal_lacks 10 n no_digit_10 }
+printed_decimal n = record { some = decimal_some n; blanks = decimal_lacks 32 n refl; feeds = decimal_lacks 10 n refl }
 
 -- two words with a byte between them
 joined : (first : List ℕ) (between : ℕ) (second : List ℕ) → IsPrinted first → (between == 32) ≡ false → (between == 10) ≡ false → IsPrinted second →
@@ -75,7 +67,7 @@ printed_pair : (a between b : ℕ) → (between == 32) ≡ false → (between ==
 printed_pair a between b blank feed = joined (decimal a) between (decimal b) (printed_decimal a) blank feed (printed_decimal b)
 
 printed_signed : (z : ℤ) → IsPrinted (signed_decimal z)
-printed_signed z = record { some = signed_some z; blanks = signed_lacks 32 z no_digit_32 refl; feeds = signed_lacks 10 z no_digit_10 refl }
+printed_signed z = record { some = signed_some z; blanks = signed_lacks 32 z refl refl; feeds = signed_lacks 10 z refl refl }
 
 keyword : (word : List ℕ) → 0 < length word → Lacks 32 word → Lacks 10 word → IsPrinted word
 keyword word some blanks feeds = record { some = some; blanks = blanks; feeds = feeds }

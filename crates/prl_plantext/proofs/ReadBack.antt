@@ -22,7 +22,7 @@ use Rattle.prl_plantext.specs.code.Graphs.{after, after_producer, before, count_
 use Rattle.prl_plantext.proofs.Bytes.{decimal_lacks, lacks_append, lacks_cons}
 use Rattle.prl_plantext.proofs.Cuts.{after_at, after_none, before_at, before_none}
 use Rattle.prl_plantext.proofs.Divisors.{same_divisor}
-use Rattle.prl_plantext.proofs.Numbers.{decimal_of_decimal, is_not, no_digit_46, no_digit_47, no_digit_99, number_of_decimal, small_of_decimal, type_of_text, value_of_text}
+use Rattle.prl_plantext.proofs.Numbers.{decimal_of_decimal, is_not, number_of_decimal, small_of_decimal, type_of_text, value_of_text}
 
 -- ratios
 
@@ -49,13 +49,13 @@ fraction_by : (t : Bool) (n den : ℕ) → (den == 1) ≡ t → n < 2 ^ 64 → d
 fraction_by true n den e small small_den =
     let same : den ≡ 1 = eqb-true den 1 e in
     ap fraction_in (append-nil (decimal n))
-    ∙ ap (λ w. fraction_or_none (number_in w) (unwrap_or (decimal_of (after 47 (decimal n))) 1)) (before_none 47 (decimal n) (decimal_lacks 47 n no_digit_47))
-    ∙ ap (λ w. fraction_or_none (number_in (decimal n)) (unwrap_or (decimal_of w) 1)) (after_none 47 (decimal n) (decimal_lacks 47 n no_digit_47))
+    ∙ ap (λ w. fraction_or_none (number_in w) (unwrap_or (decimal_of (after 47 (decimal n))) 1)) (before_none 47 (decimal n) (decimal_lacks 47 n refl))
+    ∙ ap (λ w. fraction_or_none (number_in (decimal n)) (unwrap_or (decimal_of w) 1)) (after_none 47 (decimal n) (decimal_lacks 47 n refl))
     ∙ ap (λ m. fraction_or_none m 1) (number_of_decimal n small)
     ∙ ap (λ d. fraction_or_none n d) (sym same)
 fraction_by false n den e small small_den =
-    ap (λ w. fraction_or_none (number_in w) (unwrap_or (decimal_of (after 47 (decimal n ++ 47 ∷ decimal den))) 1)) (before_at 47 (decimal n) (decimal den) (decimal_lacks 47 n no_digit_47))
-    ∙ ap (λ w. fraction_or_none (number_in (decimal n)) (unwrap_or (decimal_of w) 1)) (after_at 47 (decimal n) (decimal den) (decimal_lacks 47 n no_digit_47))
+    ap (λ w. fraction_or_none (number_in w) (unwrap_or (decimal_of (after 47 (decimal n ++ 47 ∷ decimal den))) 1)) (before_at 47 (decimal n) (decimal den) (decimal_lacks 47 n refl))
+    ∙ ap (λ w. fraction_or_none (number_in (decimal n)) (unwrap_or (decimal_of w) 1)) (after_at 47 (decimal n) (decimal den) (decimal_lacks 47 n refl))
     ∙ ap (λ m. fraction_or_none m (unwrap_or (decimal_of (decimal den)) 1)) (number_of_decimal n small)
     ∙ ap (λ d. fraction_or_none n (unwrap_or d 1)) (decimal_of_decimal den small_den)
 
@@ -109,15 +109,15 @@ all_operators_back ty (op ∷ ops) are = operators_back ty (op ∷ ops) are
 -- edges
 
 first_of_pair : (a b : ℕ) → a < 2 ^ 32 → small_in (before 46 (pair_text a 46 b)) ≡ a
-first_of_pair a b small = ap small_in (before_at 46 (decimal a) (decimal b) (decimal_lacks 46 a no_digit_46)) ∙ small_of_decimal a small
+first_of_pair a b small = ap small_in (before_at 46 (decimal a) (decimal b) (decimal_lacks 46 a refl)) ∙ small_of_decimal a small
 
 second_of_pair : (a b : ℕ) → b < 2 ^ 32 → small_in (after 46 (pair_text a 46 b)) ≡ b
-second_of_pair a b small = ap small_in (after_at 46 (decimal a) (decimal b) (decimal_lacks 46 a no_digit_46)) ∙ small_of_decimal b small
+second_of_pair a b small = ap small_in (after_at 46 (decimal a) (decimal b) (decimal_lacks 46 a refl)) ∙ small_of_decimal b small
 
 pair_is_no_keyword : (a b : ℕ) → bytes_eq (pair_text a 46 b) (codes "const") ≡ false
 pair_is_no_keyword a b =
     is_not 99 (pair_text a 46 b) (codes "const")
-    (lacks_append 99 (decimal a) (46 ∷ decimal b) (decimal_lacks 99 a no_digit_99) (lacks_cons 99 46 (decimal b) refl (decimal_lacks 99 b no_digit_99))) refl
+    (lacks_append 99 (decimal a) (46 ∷ decimal b) (decimal_lacks 99 a refl) (lacks_cons 99 46 (decimal b) refl (decimal_lacks 99 b refl))) refl
 
 abbrev pub IsReadableProducer : Producer → Type 0
 IsReadableProducer (producers.Port task out) = (task.0 < 2 ^ 32) × (out < 2 ^ 32)

@@ -1,6 +1,6 @@
 //! The text of the actuators' rows, by date.
 
-ghost use Rattle.std.specs.Prelude.{◌≡◌, ◌^◌, ◌<◌, ◌++◌, ℕ, All, IfOk, OnOk, map};
+ghost use Rattle.std.specs.Prelude.{◌≡◌, ◌^◌, ◌<◌, ◌≤◌, ◌++◌, ℕ, All, IfOk, OnOk, map};
 ghost use Rattle.std.specs.List.{flat_map};
 ghost use Rattle.prl_base.specs.Clocks.{IsClock, IsDate};
 ghost use Rattle.prl_calendar.specs.Calendars.{AreDue};
@@ -80,6 +80,26 @@ fn room_of_all(outs: &[OutRows<'_>]) -> usize {
     bytes
 }
 
+/// Appends the rows at the dates that the calendar has left.
+fn push_dates(
+    alloc: Global,
+    calendar: &mut Calendar<'_>,
+    text: &mut Vec<u8>,
+    outs: &[OutRows<'_>],
+) -> Result<(), AllocError>
+    requires clocks { All (λ out. IsClock out.clock) outs.now }
+    requires same { calendar.old.clocks ≡ map (λ out. out.clock) outs.now }
+    requires text { text.old.items ≡ actuator_text calendar.old.from outs.now }
+    requires order { calendar.old.from ≤ calendar.old.until }
+    ensures { OnOk result (text.new.items ≡ actuator_text calendar.old.until outs.now) }
+{
+    let mut due = Vec::new(alloc);
+    'dates: while let Some(date) = calendar.next(&mut due)? {
+        push_rows_at(text, outs, due.as_slice(), date)?;
+    }
+    Ok(())
+}
+
 /// The text of the actuators' rows, date by date.
 fn text_by_date(alloc: Global, outs: &[OutRows<'_>]) -> Result<Vec<u8>, AllocError>
     requires { (until : ℕ) × (until < 2 ^ 64) × AreUpTo until outs.now }
@@ -91,10 +111,7 @@ fn text_by_date(alloc: Global, outs: &[OutRows<'_>]) -> Result<Vec<u8>, AllocErr
     let clocks = clocks_of(alloc, outs)?;
     let mut calendar = Calendar::new(alloc, clocks.as_slice(), end)?;
     let mut text = Vec::with_capacity(alloc, room_of_all(outs))?;
-    let mut due = Vec::new(alloc);
-    while let Some(date) = calendar.next(&mut due)? {
-        push_rows_at(&mut text, outs, due.as_slice(), date)?;
-    }
+    push_dates(alloc, &mut calendar, &mut text, outs)?;
     Ok(text)
 }
 

@@ -6,13 +6,14 @@ ghost use Rattle.std.specs.Vec.{vec_items};
 ghost use Rattle.csv.specs.Records.{fields_of};
 ghost use Rattle.prl_base.specs.Vocabulary.{integer_of, GivesBut};
 ghost use Rattle.prl_base.specs.declared.values.Value.TheVariants as values;
+ghost use Rattle.prl_sensors.specs.code.Left.{HasLeft};
 ghost use Rattle.prl_sensors.specs.SensorRows.{is_header, no_rows, records_of, sensors_of, short_of, truth_of, unless_short, value_of, with_record, with_records, with_row, with_three, with_value};
 
 use crate::faults::SensorFault;
 use crate::finders::Finder;
 use crate::plain::plain_rows;
 use crate::records::{Fields, read_record, reader_of, three};
-use csv::ByteRecord;
+use csv::{ByteRecord, Reader};
 use itoa::Buffer;
 use prl_base::{Name, Seq, Ty, Value, integer_of};
 use prl_flow::Sensors;
@@ -192,6 +193,29 @@ fn push_record(
     push_fields(finder, types, number, rows, three(fields))
 }
 
+/// Adds the rows of the records that are left, of which the first is the first of the text.
+fn push_records(
+    reader: &mut Reader<&[u8]>,
+    fields: &mut ByteRecord,
+    finder: &mut Finder<'_>,
+    types: &[Ty],
+    rows: &mut Vec<Vec<Value>>,
+) -> Result<(), SensorFault>
+    requires types { length types.now ≡ length rows.old.items }
+    requires names { length finder.old ≡ length rows.old.items }
+    ensures lists { length rows.new.items ≡ length rows.old.items }
+    ensures exact { (left : List (List (List ℕ))) → HasLeft reader.old left → GivesBut SensorFault.Memory (λ _. map vec_items rows.new.items) result
+        (with_records (record { names = finder.old; types = types.now }) 1 (map vec_items rows.old.items) left) }
+{
+    for number in 1..u64::MAX {
+        if !read_record(reader, fields)? {
+            return Ok(());
+        }
+        push_record(finder, types, number, rows, fields)?;
+    }
+    Err(SensorFault::Memory)
+}
+
 /// The rows of all records of a text.
 fn read_rows(
     alloc: Global,
@@ -210,13 +234,8 @@ fn read_rows(
     let mut rows = rows;
     let mut reader = reader_of(alloc, text);
     let mut fields = ByteRecord::new(alloc);
-    for number in 1..u64::MAX {
-        if !read_record(&mut reader, &mut fields)? {
-            return Ok(rows);
-        }
-        push_record(&mut finder, types, number, &mut rows, &fields)?;
-    }
-    Err(SensorFault::Memory)
+    push_records(&mut reader, &mut fields, &mut finder, types, &mut rows)?;
+    Ok(rows)
 }
 
 /// The rows of all records of a text. The whole text goes to `csv` where one of them is not in plain form.

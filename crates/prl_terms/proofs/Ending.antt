@@ -7,7 +7,7 @@ use Rattle.prl_base.specs.declared.values.Ty.TheVariants as ty
 use Rattle.prl_terms.specs.Vocabulary.{Rule, Term, Unsolved, Choice, type_in, FitsRule, FitRules, IsFree, AreTypes, Explains, mark_of, Follows, Solves, IsSettled, Refuses}
 use Rattle.prl_terms.specs.declared.terms.Term.TheVariants as terms
 use Rattle.prl_terms.specs.declared.solving.Unsolved.TheVariants as unsolved
-use Rattle.prl_terms.proofs.Meeting.{chosen, chosen_follows}
+use Rattle.prl_terms.proofs.Meeting.{chosen, chosen_follows, mismatch}
 
 -- so many marks from the first on are the types
 pub record AreKnown (marks : List Term) (types : List Ty) (count : ℕ) : Type 0 where
@@ -48,18 +48,9 @@ fits_at count (rule ∷ rules) zero d fits lt = fits.0
 fits_at count (rule ∷ rules) (suc i) d fits lt = fits_at count rules i d fits.1 (omega arith)
 
 pub refused_is : (count : ℕ) (rules : List Rule) (i : ℕ) (d : Rule) (e : Unsolved) → i < length rules → Refuses (take i rules) (get_or rules i d) e → Explains rules count e
-refused_is count rules i d (unsolved.Mismatch at wanted found) lt h = record {
-  earlier = take i rules;
-  rule = get_or rules i d;
-  later = drop (suc i) rules;
-  whole = sym (take-append-drop i rules) ∙ ap (λ (rs : List Rule). take i rules ++ rs) (drop-cons rules i d lt);
-  choice = h.choice;
-  meets = h.meets;
-  place = h.place;
-  wanted_is = h.wanted_is;
-  found_is = h.found_is;
-  differ = h.differ;
-}
+refused_is count rules i d (unsolved.Mismatch at wanted found) lt h =
+    mismatch (take i rules) (get_or rules i d) (drop (suc i) rules)
+    (sym (take-append-drop i rules) ∙ ap (λ (rs : List Rule). take i rules ++ rs) (drop-cons rules i d lt)) h
 refused_is count rules i d (unsolved.Free k) lt h = absurd h
 refused_is count rules i d unsolved.Memory lt h = tt
 

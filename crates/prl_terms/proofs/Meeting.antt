@@ -3,7 +3,7 @@ use Rattle.std.proofs.Common.{◌≡◌, ◌≢◌, ◌<◌, ◌++◌, ◌∙◌
 use Rattle.prl_base.specs.declared.values.Ty.{Ty}
 use Rattle.prl_base.specs.declared.values.Ty.TheVariants as types
 use Rattle.prl_terms.specs.Vocabulary.{Rule, Term, Unsolved, Choice, type_in, Meets, MeetsAll, FitsTerm, mark_of, resolved, Follows, Solves, IsSettled, IsReplaced, IsApart, AreApart, AreJoined}
-use Rattle.prl_terms.specs.Vocabulary.{Contradicts, Refuses}
+use Rattle.prl_terms.specs.Vocabulary.{Contradicts, IsMismatch, Refuses}
 use Rattle.prl_terms.specs.declared.terms.Term.TheVariants as terms
 use Rattle.prl_terms.specs.declared.solving.Unsolved.TheVariants as unsolved
 use Rattle.prl_terms.proofs.Replacing.{follows_new, follows_old, same_type}
@@ -117,12 +117,22 @@ apart_left a b h = record {
 }
 
 pub apart_right : {marks : List Term} (a b : ℕ) → AreApart a b marks → IsApart b (terms.Parameter a) marks
-apart_right a b h = record {
-  own = h.other_own;
-  inside = h.other_inside;
-  by_own = h.own;
-  by_inside = h.inside;
-  other = λ d. let e : a ≡ b = cc in h.differ e;
+apart_right a b h = apart_left b a (record { own = h.other_own; inside = h.other_inside; other_own = h.own; other_inside = h.inside; differ = λ e. h.differ (sym e) })
+
+-- a rule that contradicts those before it is the first that does
+pub mismatch : {rules : List Rule} {at : ℕ} {wanted found : Ty} (earlier : List Rule) (rule : Rule) (later : List Rule) → rules ≡ earlier ++ rule ∷ later
+    → Contradicts earlier rule at wanted found → IsMismatch rules at wanted found
+mismatch earlier rule later whole h = record {
+  earlier = earlier;
+  rule = rule;
+  later = later;
+  whole = whole;
+  choice = h.choice;
+  meets = h.meets;
+  place = h.place;
+  wanted_is = h.wanted_is;
+  found_is = h.found_is;
+  differ = h.differ;
 }
 
 -- what the steps of `meet` come to

@@ -4,7 +4,7 @@ use Rattle.prl_base.specs.declared.values.Ty.{Ty}
 use Rattle.prl_terms.specs.Vocabulary.{Rule, Term, Marks, FitsRule, FitRules, IsMismatch, resolved, IsKept, Solves, Refuses, IsOpen, HasState, State}
 use Rattle.prl_terms.specs.declared.solving.Unsolved.TheVariants as unsolved
 use Rattle.prl_terms.specs.declared.progress.State.TheVariants as states
-use Rattle.prl_terms.proofs.Meeting.{Sides, solves_equal}
+use Rattle.prl_terms.proofs.Meeting.{Sides, mismatch, solves_equal}
 
 fits_last : (count : ℕ) (rules : List Rule) (rule : Rule) → FitRules count (rules ++ rule ∷ []) → FitsRule count rule
 fits_last count [] rule h = h.0
@@ -38,19 +38,7 @@ pub contradicted : {count : ℕ} {rules : List Rule} {old : Marks} (rule : Rule)
     → (Solves rules old.marks.items → Refuses rules rule (unsolved.Mismatch at wanted found)) → FitRules count (rules ++ rule ∷ [])
     → IsMismatch (rules ++ rule ∷ []) at wanted found
 contradicted {count} {rules} rule open_one refuses fits =
-    let h = refuses (open_one.solves (fits_front count rules (rule ∷ []) fits)) in
-    record {
-      earlier = rules;
-      rule = rule;
-      later = [];
-      whole = refl;
-      choice = h.choice;
-      meets = h.meets;
-      place = h.place;
-      wanted_is = h.wanted_is;
-      found_is = h.found_is;
-      differ = h.differ;
-    }
+    mismatch rules rule [] refl (refuses (open_one.solves (fits_front count rules (rule ∷ []) fits)))
 
 -- a contradiction stays the first one
 pub stays_refused : (count : ℕ) (rules more : List Rule) {at : ℕ} {wanted found : Ty} → (FitRules count rules → IsMismatch rules at wanted found)

@@ -123,9 +123,10 @@ fn base(context: &Context<'_, '_>, node: usize, base: &Base) -> Arity
         Base::Apply { name, at, args } => {
             let inner = parts(context, node, args.as_slice());
             let callee = context.callee(name.bytes());
-            let fault = unequal(inner.flows, context.input_count(callee), at.at);
+            let counts = context.counts(callee);
+            let fault = unequal(inner.flows, counts.0, at.at);
             Arity {
-                flows: Some(context.output_count(callee)),
+                flows: Some(counts.1),
                 fault: first(fault, inner.fault),
             }
         }

@@ -1,6 +1,6 @@
 //! The parameters of a program and what its names stand for, by their types.
 
-ghost use Rattle.std.specs.Prelude.{◌≡◌, ◌<◌, ◌+◌, ◌^◌, ◌++◌, map, length, slice_get, IfOk, IfSome, IfNone, OnOk};
+ghost use Rattle.std.specs.Prelude.{◌≡◌, ◌<◌, ◌+◌, ◌^◌, ◌++◌, map, length, slice_get, IfOk, IfSome, IfNone, OnOk, Some};
 ghost use Rattle.std.specs.Option.{option_copied};
 ghost use Rattle.prl_ast.specs.Trees.{program_tree, node_tree};
 ghost use Rattle.prl_names.specs.Lookups.{callee_of};
@@ -168,103 +168,74 @@ impl<'n, 'a> Context<'n, 'a> {
         }
     }
 
-    fn add_import_inputs(&self, import: usize, terms: &mut Vec<Term>) -> Result<(), AllocError>
-        ensures { OnOk result (terms.new.items ≡ terms.old.items ++ import_inputs (slice_get (program_tree self.now).imports import)) }
+    /// Adds the types of the inputs of an import, and those of its outputs.
+    fn add_import_flows(
+        &self,
+        import: usize,
+        ins: &mut Vec<Term>,
+        outs: &mut Vec<Term>,
+    ) -> Result<(), AllocError>
+        ensures ins { OnOk result (ins.new.items ≡ ins.old.items ++ import_inputs (slice_get (program_tree self.now).imports import)) }
+        ensures outs { OnOk result (outs.new.items ≡ outs.old.items ++ import_outputs (slice_get (program_tree self.now).imports import)) }
     {
         match self.import(import) {
-            Some(import) => add_ports(terms, import.ins.as_slice()),
-            None => Ok(()),
-        }
-    }
-
-    fn add_import_outputs(&self, import: usize, terms: &mut Vec<Term>) -> Result<(), AllocError>
-        ensures { OnOk result (terms.new.items ≡ terms.old.items ++ import_outputs (slice_get (program_tree self.now).imports import)) }
-    {
-        match self.import(import) {
-            Some(import) => add_ports(terms, import.outs.as_slice()),
-            None => Ok(()),
-        }
-    }
-
-    fn add_node_inputs(&self, node: usize, terms: &mut Vec<Term>) -> Result<(), AllocError>
-        ensures { OnOk result (terms.new.items ≡ terms.old.items ++ node_inputs (first_of (program_tree self.now) node) (slice_get (program_tree self.now).nodes node)) }
-    {
-        match self.node(node) {
-            Some((callee, first)) => add_parameters(terms, first, callee.ins.len()),
-            None => Ok(()),
-        }
-    }
-
-    fn add_node_outputs(&self, node: usize, terms: &mut Vec<Term>) -> Result<(), AllocError>
-        ensures { OnOk result (terms.new.items ≡ terms.old.items ++ node_outputs (first_of (program_tree self.now) node) (slice_get (program_tree self.now).nodes node)) }
-    {
-        match self.node(node) {
-            Some((callee, first)) => {
-                add_parameters(terms, first + callee.ins.len(), callee.outs.len())
+            Some(import) => {
+                add_ports(ins, import.ins.as_slice())?;
+                add_ports(outs, import.outs.as_slice())
             }
             None => Ok(()),
         }
     }
 
-    /// The types of the inputs of what is applied.
-    pub fn inputs(&self, alloc: Global, callee: Option<Callee>) -> Result<Vec<Term>, AllocError>
-        ensures { IfOk result (λ terms. terms.items ≡ inputs_of (program_tree self.now) callee) }
+    /// Adds the types of the inputs of a node, and those of its outputs.
+    fn add_node_flows(
+        &self,
+        node: usize,
+        ins: &mut Vec<Term>,
+        outs: &mut Vec<Term>,
+    ) -> Result<(), AllocError>
+        ensures ins { OnOk result (ins.new.items ≡ ins.old.items ++ node_inputs (first_of (program_tree self.now) node) (slice_get (program_tree self.now).nodes node)) }
+        ensures outs { OnOk result (outs.new.items ≡ outs.old.items ++ node_outputs (first_of (program_tree self.now) node) (slice_get (program_tree self.now).nodes node)) }
     {
-        let mut terms = Vec::new(alloc);
-        match callee {
-            Some(Callee::Import(k)) => self.add_import_inputs(k, &mut terms)?,
-            Some(Callee::Node(k)) => self.add_node_inputs(k, &mut terms)?,
-            None => {}
+        match self.node(node) {
+            Some((callee, first)) => {
+                add_parameters(ins, first, callee.ins.len())?;
+                add_parameters(outs, first + callee.ins.len(), callee.outs.len())
+            }
+            None => Ok(()),
         }
-        Ok(terms)
     }
 
-    /// The types of the outputs of what is applied.
-    pub fn outputs(&self, alloc: Global, callee: Option<Callee>) -> Result<Vec<Term>, AllocError>
-        ensures { IfOk result (λ terms. terms.items ≡ outputs_of (program_tree self.now) callee) }
+    /// The types of what this takes, and of what it gives.
+    pub fn flows(&self, alloc: Global, of: Callee) -> Result<(Vec<Term>, Vec<Term>), AllocError>
+        ensures ins { IfOk result (λ flows. flows.0.items ≡ inputs_of (program_tree self.now) (Some of)) }
+        ensures outs { IfOk result (λ flows. flows.1.items ≡ outputs_of (program_tree self.now) (Some of)) }
     {
-        let mut terms = Vec::new(alloc);
-        match callee {
-            Some(Callee::Import(k)) => self.add_import_outputs(k, &mut terms)?,
-            Some(Callee::Node(k)) => self.add_node_outputs(k, &mut terms)?,
-            None => {}
+        let mut ins = Vec::new(alloc);
+        let mut outs = Vec::new(alloc);
+        match of {
+            Callee::Import(k) => self.add_import_flows(k, &mut ins, &mut outs)?,
+            Callee::Node(k) => self.add_node_flows(k, &mut ins, &mut outs)?,
         }
-        Ok(terms)
+        Ok((ins, outs))
     }
 
-    /// How many flows what is applied takes.
+    /// How many flows what is applied takes, and how many it gives.
     #[tactic(auto, using(crate::proofs::Declared::port_count, crate::proofs::Declared::parameter_count))]
-    pub fn input_count(&self, callee: Option<Callee>) -> usize
-        ensures { result ≡ length (inputs_of (program_tree self.now) callee) }
+    pub fn counts(&self, callee: Option<Callee>) -> (usize, usize)
+        ensures takes { result.0 ≡ length (inputs_of (program_tree self.now) callee) }
+        ensures gives { result.1 ≡ length (outputs_of (program_tree self.now) callee) }
     {
         match callee {
             Some(Callee::Import(k)) => match self.import(k) {
-                Some(import) => import.ins.len(),
-                None => 0,
+                Some(import) => (import.ins.len(), import.outs.len()),
+                None => (0, 0),
             },
             Some(Callee::Node(k)) => match self.node(k) {
-                Some((node, _)) => node.ins.len(),
-                None => 0,
+                Some((node, _)) => (node.ins.len(), node.outs.len()),
+                None => (0, 0),
             },
-            None => 0,
-        }
-    }
-
-    /// How many flows what is applied gives.
-    #[tactic(auto, using(crate::proofs::Declared::port_count, crate::proofs::Declared::parameter_count))]
-    pub fn output_count(&self, callee: Option<Callee>) -> usize
-        ensures { result ≡ length (outputs_of (program_tree self.now) callee) }
-    {
-        match callee {
-            Some(Callee::Import(k)) => match self.import(k) {
-                Some(import) => import.outs.len(),
-                None => 0,
-            },
-            Some(Callee::Node(k)) => match self.node(k) {
-                Some((node, _)) => node.outs.len(),
-                None => 0,
-            },
-            None => 0,
+            None => (0, 0),
         }
     }
 

@@ -7,7 +7,7 @@ ghost use Rattle.prl_ast.specs.Trees.{program_tree};
 ghost use Rattle.prl_names.specs.Lookups.{callee_of};
 ghost use Rattle.prl_types.specs.Flows.{inputs_of, outputs_of};
 ghost use Rattle.prl_types.specs.Parameters.{named};
-ghost use Rattle.prl_types.specs.code.Signatures.{import_signature, node_signature, taken, given, Signs};
+ghost use Rattle.prl_types.specs.code.Signatures.{callee_at, signature_of, taken, given, Signs};
 
 use crate::contexts::Context;
 use prl_ast::Program;
@@ -57,39 +57,36 @@ fn made_signature(
     ensures ins { IfOk result (λ s. s.ins ≡ inputs_of (program_tree context.now) (Some of)) }
     ensures outs { IfOk result (λ s. s.outs ≡ outputs_of (program_tree context.now) (Some of)) }
 {
+    let (ins, outs) = context.flows(alloc, of)?;
     Ok(Signature {
-        ins: Seq::new(context.inputs(alloc, Some(of))?),
-        outs: Seq::new(context.outputs(alloc, Some(of))?),
+        ins: Seq::new(ins),
+        outs: Seq::new(outs),
     })
 }
 
-/// The signatures of so many imports.
-fn of_imports(
-    alloc: Global,
-    context: &Context<'_, '_>,
-    count: usize,
-) -> Result<Vec<Signature>, AllocError>
-    ensures { IfOk result (λ list. list.items ≡ map (import_signature (program_tree context.now)) (range_with_len 0 count)) }
+/// The node of an index, or the import.
+fn callee_at(is_node: bool, k: usize) -> Callee
+    ensures { result ≡ callee_at is_node k }
 {
-    let mut list = Vec::with_capacity(alloc, count)?;
-    for k in 0..count {
-        let signature = made_signature(alloc, context, Callee::Import(k))?;
-        list.push(signature)?;
+    if is_node {
+        Callee::Node(k)
+    } else {
+        Callee::Import(k)
     }
-    Ok(list)
 }
 
-/// The signatures of so many nodes.
-fn of_nodes(
+/// The signatures of so many nodes, or of so many imports.
+fn made_signatures(
     alloc: Global,
     context: &Context<'_, '_>,
+    are_nodes: bool,
     count: usize,
 ) -> Result<Vec<Signature>, AllocError>
-    ensures { IfOk result (λ list. list.items ≡ map (node_signature (program_tree context.now)) (range_with_len 0 count)) }
+    ensures { IfOk result (λ list. list.items ≡ map (λ k. signature_of (program_tree context.now) (callee_at are_nodes k)) (range_with_len 0 count)) }
 {
     let mut list = Vec::with_capacity(alloc, count)?;
     for k in 0..count {
-        let signature = made_signature(alloc, context, Callee::Node(k))?;
+        let signature = made_signature(alloc, context, callee_at(are_nodes, k))?;
         list.push(signature)?;
     }
     Ok(list)
@@ -109,8 +106,8 @@ impl<'c, 'n, 'a> Signatures<'c, 'n, 'a> {
         ensures { IfOk result (λ s. s ≡ context.now) }
     {
         let program = context.program();
-        let imports = of_imports(alloc, context, program.imports.len())?;
-        let nodes = of_nodes(alloc, context, program.nodes.len())?;
+        let imports = made_signatures(alloc, context, false, program.imports.len())?;
+        let nodes = made_signatures(alloc, context, true, program.nodes.len())?;
         Ok(Signatures {
             context,
             imports,

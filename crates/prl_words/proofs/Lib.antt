@@ -8,7 +8,8 @@ mod Pushed
 mod Held
 mod Lead
 mod Constants
-mod Listed
+-- for the crates above: lists whose elements match have one sum
+pub mod Listed
 mod SomeWord
 mod WordsEnd
 mod Examples

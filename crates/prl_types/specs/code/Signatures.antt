@@ -1,5 +1,5 @@
 -- What imports and nodes take and give, by their types.
-use Rattle.std.specs.Prelude.{◌≡◌, ℕ, List, [], map, length, Option, Some, None}
+use Rattle.std.specs.Prelude.{◌≡◌, ℕ, Bool, true, false, List, [], map, length, Option, Some, None}
 use Rattle.std.specs.List.{range_with_len}
 use Rattle.prl_ast.specs.Trees.{ProgramTree}
 use Rattle.prl_names.specs.declared.lookups.Callee.{Callee}
@@ -16,6 +16,11 @@ import_signature p k = signature_of p (callees.Import k)
 
 abbrev pub node_signature : ProgramTree → ℕ → Signature
 node_signature p k = signature_of p (callees.Node k)
+
+-- the node of an index, or the import
+abbrev pub callee_at : Bool → ℕ → Callee
+callee_at true k = callees.Node k
+callee_at false k = callees.Import k
 
 -- one for each import, and one for each node
 pub record AreSignatures (p : ProgramTree) (imports nodes : List Signature) : Type 0 where

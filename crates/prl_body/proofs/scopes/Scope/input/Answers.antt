@@ -1,23 +1,8 @@
-use Rattle.prl_body.proofs.FirstOf.{in_table, nothing, nothing_there, one}
-use Rattle.prl_body.proofs.Lookups.{port_name, inputs_searched}
-use Rattle.std.proofs.Common.{sym, ◌∙◌}
+use Rattle.prl_body.proofs.Lookups.{input_found}
 use Rattle.prl_body.proofs.scopes.Scope.input.Goals as goal
 
-pub returns-in_err-k : goal.returns-in_err-k
-returns-in_err-k c =
-    let xs = c.self.inside.ins.now in
-    let in_it = in_table port_name c.args.name.now xs c.self.inside.of_inputs c.bytes.result.now c.found.result c.self.invariant.0 c.bytes.ensures.bytes c.found.ensures in
-    rw (← c.self.view_is) (c.from_residual.ensures ∙ sym (nothing (inputs_searched c.args.name.now) xs c.found.result in_it c.in_err-k.was))
+pub returns-in-Some : goal.returns-in-Some
+returns-in-Some c = rw (← c.self.view_is) (input_found c.self.inside.ins.now c.args.name.now _ c.in-Some.ensures)
 
-pub returns-in_err-port : goal.returns-in_err-port
-returns-in_err-port c =
-    let xs = c.self.inside.ins.now in
-    let in_it = in_table port_name c.args.name.now xs c.self.inside.of_inputs c.bytes.result.now c.found.result c.self.invariant.0 c.bytes.ensures.bytes c.found.ensures in
-    rw (← c.self.view_is) (c.from_residual-in_err-port.ensures ∙ sym (nothing_there (inputs_searched c.args.name.now) xs c.found.result in_it c.in_ok-k.k c.in_ok-k.was c.in_err-port.ensures.lookup.0))
-
-pub returns : goal.returns
-returns c =
-    let xs = c.self.inside.ins.now in
-    let in_it = in_table port_name c.args.name.now xs c.self.inside.of_inputs c.bytes.result.now c.found.result c.self.invariant.0 c.bytes.ensures.bytes c.found.ensures in
-    let lookup = c.in_ok-port.ensures.lookup in
-    rw (← c.self.view_is) (sym (one (inputs_searched c.args.name.now) xs c.found.result in_it c.in_ok-k.k c.in_ok-port.port.now c.in_ok-k.was lookup.0 lookup.1))
+pub returns-in-None : goal.returns-in-None
+returns-in-None c = rw (← c.self.view_is) (input_found c.self.inside.ins.now c.args.name.now _ c.in-None.ensures)

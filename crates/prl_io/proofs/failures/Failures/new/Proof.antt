@@ -1,4 +1,4 @@
--- No reading failed yet; the list takes no bytes. The walk of the empty body.
+-- Nothing failed yet; the list takes no bytes. The walk of the empty body.
 use mathlib.Core.Path.{refl}
 use mathlib.Core.List.{[], ◌∷◌}
 use seplogic.Ra.Ura.{Ura}
@@ -21,11 +21,11 @@ use denote.Triple.Entry.{on_entry, alive}
 use denote.Triple.Spec.{Meets, triple_of}
 use denote.Triple.Table.{entered}
 use denote.Triple.Walked.{says, Stays, walk_of, Walks, ends_at, walked, walk_Meets}
-use Rattle.prl_io.specs.contracts.failed_reads.FailedReads.new.Key.{name as key}
-use Rattle.prl_io.specs.contracts.failed_reads.FailedReads.new as f
-use Rattle.prl_io.proofs.failed_reads.FailedReads.new.Statement as stated
-use Rattle.prl_io.proofs.failed_reads.FailedReads.new.Code as code
-use Rattle.prl_io.specs.contracts.failed_reads.FailedReads as made
+use Rattle.prl_io.specs.contracts.failures.Failures.new.Key.{name as key}
+use Rattle.prl_io.specs.contracts.failures.Failures.new as f
+use Rattle.prl_io.proofs.failures.Failures.new.Statement as stated
+use Rattle.prl_io.proofs.failures.Failures.new.Code as code
+use Rattle.prl_io.specs.contracts.failures.Failures as made
 
 abbrev stayed : Stays (f.ended).signature.params (f.ended).kept
 stayed = tt
@@ -41,8 +41,8 @@ module _ {M : Type 1} {𝓤 : Ura M} (𝓛 : Logic 𝓤) (mem : Memory → SProp
       qed 𝓛 (raw (alive 𝓛 f.signature tt tt) ∷ ‵ (owns [] tt tt) ∷ []) ∵ enter ! C Λ code.function [] _ $
       alloc_all ! (λ l. pass_all ! refl tt $ sets ! (agg ! (no_more !)) refl (tt, tt) $
       returns ! (look_at ! 0 refl) $ free_all ! refl $
-      suffices ! _ (ends_at 𝓛 f.ended stayed (f.clauses 𝓛 mem run) bound (vstruct vnil) (record { names = [] }) tt tt) $
-      says ! refl $ pure_i ! (made.the_row.own_val (record { names = [] }) (vstruct vnil ∷ [])) ((λ vss. (tt, tt)), tt) ((tt, (refl, tt)), tt) $
+      suffices ! _ (ends_at 𝓛 f.ended stayed (f.clauses 𝓛 mem run) bound (vstruct vnil) (record { all = [] }) tt tt) $
+      says ! refl $ pure_i ! (made.the_row.own_val (record { all = [] }) (vstruct vnil ∷ [])) ((λ vss. (tt, tt)), tt) ((tt, (refl, tt)), tt) $
       move ! (1 ∷ 2 ∷ 0 ∷ []) $ done !)
 
   walks : Walks 𝓛 f.ended stayed (WpFn 𝓤 H C Λ code.function) (f.clauses 𝓛 mem run)
