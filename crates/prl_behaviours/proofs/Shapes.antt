@@ -57,6 +57,21 @@ module _ {F R N : Type 0} where
     nodes : length (ns a) ≡ length (ns b)
     same : fs a ≡ fs b → rs a ≡ rs b → ns a ≡ ns b → a ≡ b
 
+  -- a part and a rest that are alike are so together
+  two_alike : {A B : Type 0} (fs : A → List F) (rs : A → List R) (ns : A → List N) (gs : B → List F) (ss : B → List R) (ms : B → List N) (make : A → B → B)
+      → ((x : A) (y : B) → gs (make x y) ≡ fs x ++ gs y) → ((x : A) (y : B) → ss (make x y) ≡ rs x ++ ss y) → ((x : A) (y : B) → ms (make x y) ≡ ns x ++ ms y)
+      → (a b : A) (u v : B) → Alike A fs rs ns a b → Alike B gs ss ms u v → Alike B gs ss ms (make a u) (make b v)
+  two_alike fs rs ns gs ss ms make ff rr nn a b u v l r = record {
+    flows = ap length (ff a u) ∙ both_lengths (fs a) (gs u) (fs b) (gs v) l.flows r.flows ∙ sym (ap length (ff b v));
+    imports = ap length (rr a u) ∙ both_lengths (rs a) (ss u) (rs b) (ss v) l.imports r.imports ∙ sym (ap length (rr b v));
+    nodes = ap length (nn a u) ∙ both_lengths (ns a) (ms u) (ns b) (ms v) l.nodes r.nodes ∙ sym (ap length (nn b v));
+    same = λ f i n.
+        let c = cut (fs a) (gs u) (fs b) (gs v) l.flows (sym (ff a u) ∙ f ∙ ff b v) in
+        let d = cut (rs a) (ss u) (rs b) (ss v) l.imports (sym (rr a u) ∙ i ∙ rr b v) in
+        let k = cut (ns a) (ms u) (ns b) (ms v) l.nodes (sym (nn a u) ∙ n ∙ nn b v) in
+        rw (l.same c.left d.left k.left, r.same c.right d.right k.right) refl;
+  }
+
   mutual
     entered_alike : (p : ProgramTree) (k : ℕ) (a b : Entered F R N) → IsText p k a → IsText p k b → Alike (Entered F R N) flows_in imports_in nodes_in a b
     entered_alike p k (entered ins outs locals rights) (entered ins_b outs_b locals_b rights_b) x y =
@@ -82,18 +97,8 @@ module _ {F R N : Type 0} where
     rights_alike p (e ∷ es) done b x y = absurd x
     rights_alike p (e ∷ es) (next q rest) done x y = absurd y
     rights_alike p (e ∷ es) (next q rest) (next q_b rest_b) x y =
-        let l = part_alike p e.right q q_b x.0 y.0 in
-        let r = rights_alike p es rest rest_b x.1 y.1 in
-        record {
-          flows = both_lengths (part_flows q) (right_flows rest) (part_flows q_b) (right_flows rest_b) l.flows r.flows;
-          imports = both_lengths (part_imports q) (right_imports rest) (part_imports q_b) (right_imports rest_b) l.imports r.imports;
-          nodes = both_lengths (part_nodes q) (right_nodes rest) (part_nodes q_b) (right_nodes rest_b) l.nodes r.nodes;
-          same = λ g h m.
-              let c = cut (part_flows q) (right_flows rest) (part_flows q_b) (right_flows rest_b) l.flows g in
-              let d = cut (part_imports q) (right_imports rest) (part_imports q_b) (right_imports rest_b) l.imports h in
-              let k = cut (part_nodes q) (right_nodes rest) (part_nodes q_b) (right_nodes rest_b) l.nodes m in
-              rw (l.same c.left d.left k.left, r.same c.right d.right k.right) refl;
-        }
+        two_alike part_flows part_imports part_nodes right_flows right_imports right_nodes next (λ x y. refl) (λ x y. refl) (λ x y. refl) q q_b rest rest_b
+        (part_alike p e.right q q_b x.0 y.0) (rights_alike p es rest rest_b x.1 y.1)
 
     part_alike : (p : ProgramTree) (t : Tree) (a b : Part F R N) → IsPart p t a → IsPart p t b → Alike (Part F R N) part_flows part_imports part_nodes a b
     part_alike p (tree pre root post at) (part pres core posts) (part pres_b core_b posts_b) x y =
@@ -190,18 +195,8 @@ module _ {F R N : Type 0} where
     parts_alike p (more t ts) notes.none b x y = absurd x
     parts_alike p (more t ts) (notes.more q rest) notes.none x y = absurd y
     parts_alike p (more t ts) (notes.more q rest) (notes.more q_b rest_b) x y =
-        let l = part_alike p t q q_b x.0 y.0 in
-        let r = parts_alike p ts rest rest_b x.1 y.1 in
-        record {
-          flows = both_lengths (part_flows q) (parts_flows rest) (part_flows q_b) (parts_flows rest_b) l.flows r.flows;
-          imports = both_lengths (part_imports q) (parts_imports rest) (part_imports q_b) (parts_imports rest_b) l.imports r.imports;
-          nodes = both_lengths (part_nodes q) (parts_nodes rest) (part_nodes q_b) (parts_nodes rest_b) l.nodes r.nodes;
-          same = λ g h m.
-              let c = cut (part_flows q) (parts_flows rest) (part_flows q_b) (parts_flows rest_b) l.flows g in
-              let d = cut (part_imports q) (parts_imports rest) (part_imports q_b) (parts_imports rest_b) l.imports h in
-              let k = cut (part_nodes q) (parts_nodes rest) (part_nodes q_b) (parts_nodes rest_b) l.nodes m in
-              rw (l.same c.left d.left k.left, r.same c.right d.right k.right) refl;
-        }
+        two_alike part_flows part_imports part_nodes parts_flows parts_imports parts_nodes notes.more (λ x y. refl) (λ x y. refl) (λ x y. refl) q q_b rest rest_b
+        (part_alike p t q q_b x.0 y.0) (parts_alike p ts rest rest_b x.1 y.1)
 
 -- two texts of a node hold as much
 pub as_many : {F R N : Type 0} (p : ProgramTree) (k : ℕ) (a b : Entered F R N) → IsText p k a → IsText p k b

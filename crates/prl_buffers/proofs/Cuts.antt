@@ -6,12 +6,11 @@ use Rattle.prl_buffers.specs.code.Edges.{IsCutOf}
 
 pub cut_is : (list cut : List ℕ) (step : ℕ) → IsLeastRepeat list step → cut ≡ take step list → IsCutOf list cut
 cut_is list cut step is same =
-    let long : length (take step list) ≡ step = length-take-le step list is.within in
-    let size : length cut ≡ step = ap length same ∙ long in
+    let size : length cut ≡ step = ap length same ∙ (length-take-le step list is.within) in
     record {
       front = same ∙ ap (λ (k : ℕ). take k list) (sym size);
-      some = (let s = is.some in omega (arith, s, size));
-      within = (let s = is.within in omega (arith, s, size));
+      some = omega (arith, is.some, size);
+      within = omega (arith, is.within, size);
       same = λ n. subst (λ (c : List ℕ). repeated c n ≡ repeated list n) (sym same) (cut_repeats list step is n);
       shortest = subst (λ (c : List ℕ). IsShortestRepeat c) (sym same) (cut_is_shortest list step is);
     }

@@ -36,10 +36,7 @@ not_before a b never = go (a -ℤ b) refl
 few_gaps : (gaps : List ℕ) → ((j : ℕ) → j < length gaps → 1 ≤ slice_index gaps j) → length gaps ≤ sum gaps
 few_gaps [] each = omega arith
 few_gaps (x ∷ gaps) each =
-    let rest = few_gaps gaps (λ j below. each (suc j) (omega (arith, below))) in
-    let first : 1 ≤ x = each 0 (omega arith) in
-    let e : sum (x ∷ gaps) ≡ x + sum gaps = sum_by-cons (λ y. y) x gaps in
-    omega (arith, rest, first, e)
+    omega (arith, few_gaps gaps (λ j below. each (suc j) (omega (arith, below))), each 0 (omega arith), sum_by-cons (λ y. y) x gaps)
 
 module _ (graph : TaskGraph) (windows : List (List Window)) (edge : Edge) (w : Word) (known : IsPlanned graph windows edge w) (i : ℕ) (comes : ComesFrom edge.from i)
     (gaps last : List ℕ) (turn : IsTurn w (jobs_of graph edge) gaps last) where
@@ -59,20 +56,14 @@ module _ (graph : TaskGraph) (windows : List (List Window)) (edge : Edge) (w : W
   some_gap = some_length (length gaps) (some_gaps edge (record { first = first_instance edge.ops; gaps = gaps }) all_used)
 
   pub sum_small : sum gaps < 2 ^ 45
-  sum_small =
-      let f = numbers_small graph windows edge w known i comes (jobs_of graph edge) (omega arith) in
-      let h = turn.whole in
-      omega (arith, f, h)
+  sum_small = omega (arith, numbers_small graph windows edge w known i comes (jobs_of graph edge) (omega arith), turn.whole)
 
   few : length gaps ≤ graph.hyper
   few =
-      let f = few_gaps gaps turn.positive in
-      let s = full graph windows edge w known i comes gaps last turn in
       let h = spans graph known.well edge (edge_is graph windows edge w known i comes) i comes in
       let p = some_period graph windows edge w known i comes in
-      let up : span_of graph edge * 1 ≤ span_of graph edge * (task_at graph i).clock.period = mul-le-mul_left (span_of graph edge) p in
       let e : span_of graph edge * 1 ≡ span_of graph edge = omega arith in
-      omega (arith, f, s, h, up, e)
+      omega (arith, few_gaps gaps turn.positive, full graph windows edge w known i comes gaps last turn, h, mul-le-mul_left (span_of graph edge) p, e)
 
   -- the encoded release of an instance
   abbrev release : ℕ → ℤ
@@ -85,17 +76,14 @@ module _ (graph : TaskGraph) (windows : List (List Window)) (edge : Edge) (w : W
   release_again zero m =
       let e : m + 0 * span_of graph edge ≡ m = omega arith in
       let z : 0 * graph.hyper ≡ 0 = omega arith in
-      let s = ap (λ (n : ℕ). encoded_release graph windows i (pos n)) e in
-      omega (arith, ints, s, z)
+      omega (arith, ints, ap (λ (n : ℕ). encoded_release graph windows i (pos n)) e, z)
   release_again (suc q) m =
-      let rest = release_again q m in
       let once = (least_repeat graph known.well (encoded_release graph windows) known.dates.releases).again i (span_of graph edge) inside
       (spans graph known.well edge (edge_is graph windows edge w known i comes) i comes) (pos (m + q * span_of graph edge)) in
       let e : pos (m + suc q * span_of graph edge) ≡ pos (m + q * span_of graph edge) +ℤ pos (span_of graph edge) =
       (let t : suc q * span_of graph edge ≡ q * span_of graph edge + span_of graph edge = omega arith in omega (arith, ints, t)) in
-      let s = ap (λ (z : ℤ). encoded_release graph windows i z) e in
       let t : suc q * graph.hyper ≡ q * graph.hyper + graph.hyper = omega arith in
-      omega (arith, ints, rest, once, s, t)
+      omega (arith, ints, release_again q m, once, ap (λ (z : ℤ). encoded_release graph windows i z) e, t)
 
   release_rises : (a b : ℕ) → a ≤ b → encoded_release graph windows i (pos a) ≤ℤ encoded_release graph windows i (pos b)
   release_rises a b order = releases_rise graph known.well (encoded_release graph windows) known.dates.releases i (pos a) (pos b) inside (omega (arith, ints, order))
@@ -105,26 +93,21 @@ module _ (graph : TaskGraph) (windows : List (List Window)) (edge : Edge) (w : W
   at_gap x = number_at w 0 + sum (take x gaps)
 
   gap_rises : (x y : ℕ) → x ≤ y → number_at w 0 + sum (take x gaps) ≤ number_at w 0 + sum (take y gaps)
-  gap_rises x y order = (let s = taken x y order gaps in omega (arith, s))
+  gap_rises x y order = omega (arith, taken x y order gaps)
     where
       taken : (x y : ℕ) → x ≤ y → (xs : List ℕ) → sum (take x xs) ≤ sum (take y xs)
       taken zero y order xs = (let z : sum (take 0 xs) ≡ 0 = refl in omega (arith, z))
       taken (suc x) zero order xs = absurd (omega (arith, order))
       taken (suc x) (suc y) order [] = omega arith
       taken (suc x) (suc y) order (a ∷ xs) =
-          (let rest = taken x y (omega (arith, order)) xs in
-          let e : sum (take (suc x) (a ∷ xs)) ≡ a + sum (take x xs) = sum_by-cons (λ z. z) a (take x xs) in
-          let f : sum (take (suc y) (a ∷ xs)) ≡ a + sum (take y xs) = sum_by-cons (λ z. z) a (take y xs) in
-          omega (arith, rest, e, f))
+          omega (arith, taken x y (omega (arith, order)) xs, sum_by-cons (λ z. z) a (take x xs), sum_by-cons (λ z. z) a (take y xs))
 
   pub releases_fit : ReleasesFit graph i (number_at w 0) gaps
   releases_fit = record {
-    last = (let f = numbers_small graph windows edge w known i comes (jobs_of graph edge) (omega arith) in let h = turn.whole in omega (arith, f, h));
+    last = omega (arith, numbers_small graph windows edge w known i comes (jobs_of graph edge) (omega arith), turn.whole);
     each = λ x below.
-        (let e = turn.each x below in
-        let r = releases_small graph windows edge w known i comes (slice_index last x) (let b = turn.within x below in omega (arith, b)) in
-        let s = ap (λ (n : ℕ). (task_at graph i).clock.start + n * (task_at graph i).clock.period) e in
-        omega (arith, r, s));
+        (let s = ap (λ (n : ℕ). (task_at graph i).clock.start + n * (task_at graph i).clock.period) (turn.each x below) in
+        omega (arith, releases_small graph windows edge w known i comes (slice_index last x) (omega (arith, turn.within x below)), s));
   }
 
   -- the encoded deadline of a job from the prefix on
@@ -140,12 +123,8 @@ module _ (graph : TaskGraph) (windows : List (List Window)) (edge : Edge) (w : W
       let n : ℕ = length w.prefix + slice_index last x in
       let long = turn.long in
       let d = dates_small graph windows edge w known i comes (slice_index last x) (let b = turn.within x (omega (arith, below, long)) in omega (arith, b)) in
-      let due : encoded_deadline graph windows edge.to.0 (pos (length w.prefix + slice_index last x)) ≤ℤ deadline_of (task_at graph edge.to.0) (pos (length w.prefix + slice_index last x)) =
-      known.dates.deadlines.deadlines.below edge.to.0 (pos (length w.prefix + slice_index last x)) e.to in
       let t = task_is graph known.well edge.to.0 e.to in
-      let within = t.due.1 in
-      let period = t.period.1 in
-      omega (arith, ints, d, due, within, period)
+      omega (arith, ints, d, known.dates.deadlines.deadlines.below edge.to.0 (pos (length w.prefix + slice_index last x)) e.to, t.due.1, t.period.1)
 
   module _ (releases ends : List ℕ) (are : AreReleases graph windows i (number_at w 0) gaps releases) (ending_at : AreEnds graph windows edge.to.0 (length w.prefix) last ends) where
     release_at_place : (x : ℕ) → x < length releases → slice_index releases x ≡ min (release_in graph windows i (number_at w 0 + sum (take x gaps))) (2 ^ 64 - 1)
@@ -198,66 +177,49 @@ module _ (graph : TaskGraph) (windows : List (List Window)) (edge : Edge) (w : W
 
     used_small : (k : ℕ) → k < length gaps → used_at plain k ≡ number_at w 0 + sum (take k gaps)
     used_small k below =
-        let f = first_is graph windows edge w known i comes in
-        let d : k / length gaps ≡ 0 = div-eq_of_lt below in
-        let m : k % length gaps ≡ k = mod-eq_of_lt below in
-        let a = ap (λ (x : ℕ). x * sum gaps) d in
         let z : 0 * sum gaps ≡ 0 = omega arith in
-        let b = ap (λ (x : ℕ). sum (take x gaps)) m in
-        omega (arith, f, a, z, b)
+        let b = ap (λ (x : ℕ). sum (take x gaps)) (mod-eq_of_lt below) in
+        omega (arith, first_is graph windows edge w known i comes, ap (λ (x : ℕ). x * sum gaps) (div-eq_of_lt below), z, b)
 
     -- the last reader of an instance is due last
     last_due : (k : ℕ) → k < length gaps → (n : ℤ) → preceding edge.ops n ≡ pos (used_at plain k) →
         encoded_deadline graph windows edge.to.0 n ≤ℤ pos (slice_index ends k)
     last_due k below n at =
         let e = edge_is graph windows edge w known i comes in
-        let d = deadline_is (length w.prefix + slice_index last k) in
-        let is = ending_at.each k (let l = turn.long in omega (arith, below, l)) in
-        let number = used_small k below in
-        let here = turn.each k below in
-        let next = turn.next k below in
-        let p = precedes graph windows edge w known i comes (slice_index last k + 1) in
         let order : n ≤ℤ pos (length w.prefix + slice_index last k) =
         not_before (pos (length w.prefix + slice_index last k)) n (λ later.
         (let up = preceding_rises edge.ty edge.ops e.operators (pos (length w.prefix + (slice_index last k + 1))) n (omega (arith, ints, later)) in
-        omega (arith, ints, up, p, at, number, here, next))) in
+        omega (arith, ints, up, precedes graph windows edge w known i comes (slice_index last k + 1), at, used_small k below, turn.each k below, turn.next k below))) in
         let up = deadlines_rise graph known.well windows known.dates edge.to.0 n (pos (length w.prefix + slice_index last k)) e.to order in
-        omega (arith, ints, up, d, is)
+        omega (arith, ints, up, deadline_is (length w.prefix + slice_index last k), ending_at.each k (omega (arith, below, turn.long)))
 
     in_gaps : (k : ℕ) → k < length ends → k < length gaps
-    in_gaps k below = (let a = ending_at.long in let b = turn.long in omega (arith, a, b, below))
+    in_gaps k below = omega (arith, ending_at.long, turn.long, below)
 
     pub ends_small : (k : ℕ) → k < length ends → slice_index ends k < 2 ^ 50
     ends_small k below =
-        let inside : k < length last = (let a = ending_at.long in omega (arith, a, below)) in
-        let is = ending_at.each k inside in
-        let small = ends_fit k inside in
-        omega (arith, is, small)
+        let inside : k < length last = omega (arith, ending_at.long, below) in
+        omega (arith, ending_at.each k inside, ends_fit k inside)
 
     over_turn : (cells : ℕ) → FitsInPeriod edge i (encoded_release graph windows) (encoded_deadline graph windows) plain cells → AreOver releases graph.hyper ends (length ends) cells
     over_turn cells fit k below =
         let inside = in_gaps k below in
         let p = precedes graph windows edge w known i comes (slice_index last k) in
-        let here = turn.each k inside in
-        let number = used_small k inside in
-        let kept = fit k inside (pos (length w.prefix + slice_index last k)) (omega (arith, ints, p, here, number)) in
         let d = deadline_is (length w.prefix + slice_index last k) in
-        let is = ending_at.each k (let l = turn.long in omega (arith, inside, l)) in
+        let is = ending_at.each k (omega (arith, inside, turn.long)) in
         elim (cases_lt (at_turn releases graph.hyper (k + cells)) (slice_index ends k)) [
           | inl early ↦ absurd
               (let e = (before_is (k + cells) (slice_index ends k) (ends_small k below)).0 early in
-              omega (arith, ints, e, kept, d, is))
+              omega (arith, ints, e, fit k inside (pos (length w.prefix + slice_index last k)) (omega (arith, ints, p, turn.each k inside, used_small k inside)), d, is))
           | inr late ↦ late
         ]
 
     fit_turn : (cells : ℕ) → AreOver releases graph.hyper ends (length ends) cells → FitsInPeriod edge i (encoded_release graph windows) (encoded_deadline graph windows) plain cells
     fit_turn cells over k below n at =
-        let inside : k < length ends = (let a = ending_at.long in let b = turn.long in omega (arith, a, b, below)) in
-        let due = last_due k below n at in
-        let kept = over k inside in
+        let inside : k < length ends = omega (arith, ending_at.long, turn.long, below) in
         let late = not_before (encoded_release graph windows i (pos (used_at plain (k + cells)))) (pos (slice_index ends k))
-        (λ early. (let e = (before_is (k + cells) (slice_index ends k) (ends_small k inside)).1 early in omega (arith, e, kept))) in
-        omega (arith, ints, due, late)
+        (λ early. omega (arith, (before_is (k + cells) (slice_index ends k) (ends_small k inside)).1 early, over k inside)) in
+        omega (arith, ints, last_due k below n at, late)
 
     releases_shift : (m : ℤ) → encoded_release graph windows i (m +ℤ pos (span_of graph edge)) ≡ encoded_release graph windows i m +ℤ pos graph.hyper
     releases_shift = (least_repeat graph known.well (encoded_release graph windows) known.dates.releases).again i (span_of graph edge) inside
@@ -308,20 +270,15 @@ module _ (graph : TaskGraph) (windows : List (List Window)) (edge : Edge) (w : W
         (sym (slice_get-get_or cut (k % length cut) 0 (mod_below k (length cut) is.some)) ∙ is.same k ∙ slice_get-get_or gaps (k % length gaps) 0 (mod_below k (length gaps) some_gap))
 
     same_at : (k : ℕ) → used_at short_list k ≡ used_at whole_list k
-    same_at zero = (let a = first_number short_list is.some in let b = first_number whole_list some_gap in omega (arith, a, b))
+    same_at zero = omega (arith, first_number short_list is.some, first_number whole_list some_gap)
     same_at (suc k) =
-        let rest = same_at k in
-        let a = next_gap short_list is.some k in
-        let b = next_gap whole_list some_gap k in
-        let g = same_gap k in
         let e : k + 1 ≡ suc k = omega arith in
-        let s = ap (λ (x : ℕ). used_at short_list x) e in
         let t = ap (λ (x : ℕ). used_at whole_list x) e in
-        omega (arith, rest, a, b, g, s, t)
+        omega (arith, same_at k, next_gap short_list is.some k, next_gap whole_list some_gap k, same_gap k, ap (λ (x : ℕ). used_at short_list x) e, t)
 
     pub enumerates_cut : EnumeratesUsed edge (record { first = number_at w 0; gaps = cut })
     enumerates_cut = record {
-      rising = λ k. (let a = same_at k in let b = same_at (k + 1) in let r = enumerates_whole.rising k in omega (arith, a, b, r));
+      rising = λ k. omega (arith, same_at k, same_at (k + 1), enumerates_whole.rising k);
       each = λ k. subst (λ (m : ℕ). IsUsed edge m) (sym (same_at k)) (enumerates_whole.each k);
       all = λ m used. (let l = enumerates_whole.all m used in (l.0, same_at l.0 ∙ l.1));
     }

@@ -49,16 +49,15 @@ module _ (graph : TaskGraph) (windows : List (List Window)) (edge : Edge) (w : W
 
   pub numbers_rise : (x y : ℕ) → x ≤ y → number_at w x ≤ number_at w y
   numbers_rise x y order =
-      let up = preceding_rises edge.ty edge.ops edge_is.operators (pos (length w.prefix + x)) (pos (length w.prefix + y)) (omega (arith, ints, order)) in
       let a = precedes x in
       let b = precedes y in
-      omega (arith, ints, up, a, b)
+      omega (arith, ints, preceding_rises edge.ty edge.ops edge_is.operators (pos (length w.prefix + x)) (pos (length w.prefix + y)) (omega (arith, ints, order)), a, b)
 
   pub jobs_is : graph.hyper ≡ jobs_of graph edge * (task_at graph edge.to.0).clock.period
   jobs_is = jobs_are graph known.well edge.to.0 edge_is.to
 
   pub some_jobs : 1 ≤ jobs_of graph edge
-  some_jobs = positive (jobs_of graph edge) (task_at graph edge.to.0).clock.period (let h = known.well.hyper in let j = jobs_is in omega (arith, h, j))
+  some_jobs = positive (jobs_of graph edge) (task_at graph edge.to.0).clock.period (omega (arith, known.well.hyper, jobs_is))
 
   pub number_again : (x : ℕ) → number_at w (x + jobs_of graph edge) ≡ number_at w x + span_of graph edge
   number_again x =
@@ -74,7 +73,7 @@ module _ (graph : TaskGraph) (windows : List (List Window)) (edge : Edge) (w : W
 
   pub first_is : first_instance edge.ops ≡ number_at w 0
   first_is =
-      let at : first_reader edge.ops ≡ length w.prefix + 0 = (let r = reader_is in omega (arith, r)) in
+      let at : first_reader edge.ops ≡ length w.prefix + 0 = omega (arith, reader_is) in
       ap natural (ap (λ (n : ℕ). preceding edge.ops (pos n)) at ∙ precedes 0)
 
   -- the dates of the consumer's jobs
@@ -97,35 +96,27 @@ module _ (graph : TaskGraph) (windows : List (List Window)) (edge : Edge) (w : W
 
   -- and those of the producer's
   pub releases_small : (x : ℕ) → x ≤ jobs_of graph edge → (task_at graph i).clock.start + number_at w x * (task_at graph i).clock.period < 2 ^ 45
-  releases_small x small =
-      let back = edge_back graph edge edge_is i comes (length w.prefix + x) (number_at w x) (walks x) in
-      let d = dates_small x small in
-      omega (arith, back, d)
+  releases_small x small = omega (arith, edge_back graph edge edge_is i comes (length w.prefix + x) (number_at w x) (walks x), dates_small x small)
 
   pub some_period : 1 ≤ (task_at graph i).clock.period
   some_period = (task_is graph known.well i (inside_from graph known.well edge edge_is i comes)).period.0
 
   pub numbers_small : (x : ℕ) → x ≤ jobs_of graph edge → number_at w x < 2 ^ 45
   numbers_small x small =
-      let d = releases_small x small in
-      let up : number_at w x * 1 ≤ number_at w x * (task_at graph i).clock.period = mul-le-mul_left (number_at w x) some_period in
       let e : number_at w x * 1 ≡ number_at w x = omega arith in
-      omega (arith, d, up, e)
+      omega (arith, releases_small x small, mul-le-mul_left (number_at w x) some_period, e)
 
   pub is_steady : IsSteady w (jobs_of graph edge)
   is_steady = record {
     word = known.of_edge.word;
-    fits = λ x small. (let n = numbers_small x small in omega (arith, n));
+    fits = λ x small. omega (arith, numbers_small x small);
     rises = λ x. numbers_rise x (x + 1) (omega arith);
   }
 
   module _ (gaps last : List ℕ) (turn : IsTurn w (jobs_of graph edge) gaps last) where
     pub full : sum gaps ≡ span_of graph edge
     full =
-        let a = turn.whole in
-        let b = number_again 0 in
-        let e = ap (λ (x : ℕ). number_at w x) (let z : 0 + jobs_of graph edge ≡ jobs_of graph edge = omega arith in z) in
-        omega (arith, a, b, e)
+        omega (arith, turn.whole, number_again 0, ap (λ (x : ℕ). number_at w x) (let z : 0 + jobs_of graph edge ≡ jobs_of graph edge = omega arith in z))
 
     all_taken : (j : ℕ) → length gaps ≤ j → sum (take j gaps) ≡ sum gaps
     all_taken j above = ap sum (take_all j gaps above)
@@ -135,39 +126,27 @@ module _ (graph : TaskGraph) (windows : List (List Window)) (edge : Edge) (w : W
     lists = record {
       positive = turn.positive;
       each = λ j small.
-          (let f = first_is in
-          elim (cases_lt j (length gaps)) [
+          (elim (cases_lt j (length gaps)) [
             | inl below ↦
-                (let e = turn.each j below in
-                let p = precedes (slice_index last j) in
-                (pos (length w.prefix + slice_index last j), omega (arith, ints, e, p, f)))
+                ((pos (length w.prefix + slice_index last j), omega (arith, ints, turn.each j below, precedes (slice_index last j), first_is)))
             | inr above ↦
-                (let p = precedes (jobs_of graph edge) in
-                let a = all_taken j above in
-                let b = turn.whole in
-                (pos (length w.prefix + jobs_of graph edge), omega (arith, ints, p, a, b, f)))
+                ((pos (length w.prefix + jobs_of graph edge), omega (arith, ints, precedes (jobs_of graph edge), all_taken j above, turn.whole, first_is)))
           ]);
       all = λ x small asked.
           (let used = (used_is edge i comes edge_is.operators (first_instance edge.ops + x)).1 (omega arith, asked) in
           let reads = (reads_is edge i comes edge_is.operators used.0 (first_instance edge.ops + x)).0 used.1 in
-          let late : length w.prefix ≤ used.0 = (let a = reads.0 in let r = reader_is in omega (arith, a, r)) in
+          let late : length w.prefix ≤ used.0 = omega (arith, reads.0, reader_is) in
           let at : length w.prefix + (used.0 - length w.prefix) ≡ used.0 = omega (arith, late) in
-          let p = precedes (used.0 - length w.prefix) in
           let same = ap (λ (n : ℕ). preceding edge.ops (pos n)) at in
-          let f = first_is in
-          let there = reads.1 in
-          let number : number_at w (used.0 - length w.prefix) ≡ number_at w 0 + x = omega (arith, ints, p, same, f, there) in
+          let number : number_at w (used.0 - length w.prefix) ≡ number_at w 0 + x = omega (arith, ints, precedes (used.0 - length w.prefix), same, first_is, reads.1) in
           elim (cases_lt (jobs_of graph edge) (used.0 - length w.prefix)) [
             | inl far ↦
-                (let up = numbers_rise (jobs_of graph edge) (used.0 - length w.prefix) (omega (arith, far)) in
-                let a = all_taken (length gaps) (omega arith) in
+                (let a = all_taken (length gaps) (omega arith) in
                 let b = turn.whole in
-                let s = full in
-                (length gaps, omega arith, omega (arith, up, number, a, b, s, small)))
+                (length gaps, omega arith, omega (arith, numbers_rise (jobs_of graph edge) (used.0 - length w.prefix) (omega (arith, far)), number, a, b, full, small)))
             | inr near ↦
                 (let l = turn.all (used.0 - length w.prefix) near in
-                let e = l.2 in
-                (l.0, l.1, omega (arith, e, number)))
+                (l.0, l.1, omega (arith, l.2, number)))
           ]);
-      within = (let s = full in omega (arith, s));
+      within = omega (arith, full);
     }

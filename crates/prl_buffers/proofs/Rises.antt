@@ -30,12 +30,11 @@ module _ (releases : List ℕ) (hyper : ℕ) (are : AreReleased releases hyper) 
   quotients x y order =
       elim (cases_lt (y / length releases) (x / length releases)) [
         | inl below ↦ absurd
-            (let up : (y / length releases + 1) * length releases ≤ x / length releases * length releases = mul-le-mul_right (length releases) (let g : y / length releases + 1 ≤ x / length releases = omega (arith, below) in g) in
-            let e : (y / length releases + 1) * length releases ≡ y / length releases * length releases + length releases = omega arith in
+            (let e : (y / length releases + 1) * length releases ≡ y / length releases * length releases + length releases = omega arith in
             let a = whole x in
             let b = whole y in
             let i = inside y in
-            omega (arith, up, e, a, b, i, order))
+            omega (arith, mul-le-mul_right (length releases) (let g : y / length releases + 1 ≤ x / length releases = omega (arith, below) in g), e, a, b, i, order))
         | inr above ↦ above
       ]
 
@@ -43,19 +42,16 @@ module _ (releases : List ℕ) (hyper : ℕ) (are : AreReleased releases hyper) 
   turns_rise x y order =
       elim (cases_lt (x / length releases) (y / length releases)) [
         | inl below ↦
-            (let up : (x / length releases + 1) * hyper ≤ y / length releases * hyper = mul-le-mul_right hyper (let g : x / length releases + 1 ≤ y / length releases = omega (arith, below) in g) in
-            let e : (x / length releases + 1) * hyper ≡ x / length releases * hyper + hyper = omega arith in
+            (let e : (x / length releases + 1) * hyper ≡ x / length releases * hyper + hyper = omega arith in
             let a = are.within (x % length releases) (inside x) in
             let b = are.rises 0 (y % length releases) (omega arith) (inside y) in
-            omega (arith, up, e, a, b))
+            omega (arith, mul-le-mul_right hyper (let g : x / length releases + 1 ≤ y / length releases = omega (arith, below) in g), e, a, b))
         | inr above ↦
-            (let same : x / length releases ≡ y / length releases = (let q = quotients x y order in omega (arith, above, q)) in
-            let t : x / length releases * length releases ≡ y / length releases * length releases = ap (λ (k : ℕ). k * length releases) same in
-            let u : x / length releases * hyper ≡ y / length releases * hyper = ap (λ (k : ℕ). k * hyper) same in
+            (let same : x / length releases ≡ y / length releases = omega (arith, above, quotients x y order) in
             let a = whole x in
             let b = whole y in
-            let r = are.rises (x % length releases) (y % length releases) (omega (arith, a, b, t, order)) (inside y) in
-            omega (arith, u, r))
+            let r = are.rises (x % length releases) (y % length releases) (omega (arith, a, b, ap (λ (k : ℕ). k * length releases) same, order)) (inside y) in
+            omega (arith, ap (λ (k : ℕ). k * hyper) same, r))
       ]
 
   -- the first place whose release is not before the date
@@ -67,15 +63,11 @@ module _ (releases : List ℕ) (hyper : ℕ) (are : AreReleased releases hyper) 
     some_rest =
         elim (cases_lt 0 rest) [
           | inl more ↦ more
-          | inr none ↦ absurd (let a = after 0 none are.some in omega (arith, a, low))
+          | inr none ↦ absurd (omega (arith, after 0 none are.some, low))
         ]
 
     last_before : at_turn releases hyper (turns * length releases + (rest - 1)) < date
-    last_before =
-        let some = some_rest in
-        let b = before (rest - 1) (omega (arith, some)) in
-        let at = turn_at turns (rest - 1) (omega (arith, some, few)) in
-        omega (arith, b, at, low)
+    last_before = omega (arith, before (rest - 1) (omega (arith, some_rest)), turn_at turns (rest - 1) (omega (arith, some_rest, few)), low)
 
     first_after : date ≤ at_turn releases hyper (turns * length releases + rest)
     first_after =
@@ -95,14 +87,11 @@ module _ (releases : List ℕ) (hyper : ℕ) (are : AreReleased releases hyper) 
     pub counted : (x : ℕ) → (x < turns * length releases + rest) ↔ (at_turn releases hyper x < date)
     counted x = (
       (λ below.
-          (let some = some_rest in
-          let up = turns_rise x (turns * length releases + (rest - 1)) (omega (arith, below, some)) in
-          let l = last_before in
-          omega (arith, up, l))),
+          omega (arith, turns_rise x (turns * length releases + (rest - 1)) (omega (arith, below, some_rest)), last_before)),
       (λ early.
           elim (cases_lt x (turns * length releases + rest)) [
             | inl below ↦ below
-            | inr above ↦ absurd (let up = turns_rise (turns * length releases + rest) x above in let l = first_after in omega (arith, up, l, early))
+            | inr above ↦ absurd (omega (arith, turns_rise (turns * length releases + rest) x above, first_after, early))
           ]),
     )
 
@@ -111,26 +100,22 @@ pub next_least : (releases : List ℕ) (hyper : ℕ) → AreReleased releases hy
     ((x : ℕ) → (x < before) ↔ (at_turn releases hyper x < slice_index ends k)) → count ≤ next → before ≤ k + next → ((fewer : ℕ) → count ≤ fewer → before ≤ k + fewer → next ≤ fewer) →
     IsLeastTurn releases hyper ends (k + 1) next
 next_least releases hyper are ends k count next before is counts more reach least = record {
-  some = (let s = is.some in omega (arith, s, more));
+  some = omega (arith, is.some, more);
   fits = λ j below.
       elim (cases_lt j k) [
         | inl old ↦
-            (let f = is.fits j old in
-            let up = turns_rise releases hyper are (j + count) (j + next) (omega (arith, more)) in
-            omega (arith, f, up))
+            omega (arith, is.fits j old, turns_rise releases hyper are (j + count) (j + next) (omega (arith, more)))
         | inr here ↦
             (let same : k ≡ j = omega (arith, below, here) in
             subst (λ (i : ℕ). slice_index ends i ≤ at_turn releases hyper (i + next)) same
             (elim (cases_lt (at_turn releases hyper (k + next)) (slice_index ends k)) [
-              | inl early ↦ absurd (let b = (counts (k + next)).1 early in omega (arith, b, reach))
+              | inl early ↦ absurd (omega (arith, (counts (k + next)).1 early, reach))
               | inr late ↦ late
             ]))
       ];
   least = λ fewer some over.
-      (let low = is.least fewer some (λ j below. over j (omega (arith, below))) in
-      let here = over k (omega arith) in
-      least fewer low (elim (cases_lt (k + fewer) before) [
-        | inl inside ↦ absurd (let b = (counts (k + fewer)).0 inside in omega (arith, b, here))
+      (least fewer (is.least fewer some (λ j below. over j (omega (arith, below)))) (elim (cases_lt (k + fewer) before) [
+        | inl inside ↦ absurd (omega (arith, (counts (k + fewer)).0 inside, over k (omega arith)))
         | inr past ↦ past
       ]));
 }

@@ -46,7 +46,7 @@ some_turn w rises (suc i) =
       | inr low ↦ record {
         gaps = before.gaps;
         last = before.last;
-        is = turn_same w i before.gaps before.last before.is (let up = rises i in omega (arith, up, low));
+        is = turn_same w i before.gaps before.last before.is (omega (arith, rises i, low));
       }
     ])
 
@@ -64,7 +64,7 @@ module _ (releases : List ℕ) (hyper : ℕ) (are : AreReleased releases hyper) 
   over_or_not : (count : ℕ) → AreOver releases hyper ends (length ends) count ⊎ (AreOver releases hyper ends (length ends) count → ⊥)
   over_or_not count = elim (all_or_least (Late count) (Early count) (late_or_early count) (length ends)) [
     | inl all ↦ inl all
-    | inr least ↦ inr (λ over. (let early = least.1.is in let late = over least.0 least.1.below in omega (arith, early, late)))
+    | inr least ↦ inr (λ over. omega (arith, least.1.is, over least.0 least.1.below))
   ]
 
   -- so late that all is over
@@ -72,26 +72,22 @@ module _ (releases : List ℕ) (hyper : ℕ) (are : AreReleased releases hyper) 
   all_over k below =
       let x : ℕ = k + (most + length releases) in
       let turns : ℕ = (k + (most + length releases)) / length releases in
-      let split : (k + (most + length releases)) % length releases + (k + (most + length releases)) / length releases * length releases ≡ k + (most + length releases) =
-      mod-add-div' (k + (most + length releases)) (length releases) in
-      let part = mod_below (k + (most + length releases)) (length releases) are.some in
       let up : (k + (most + length releases)) / length releases * length releases ≤ (k + (most + length releases)) / length releases * hyper =
       mul-le-mul_left ((k + (most + length releases)) / length releases) are.few in
-      let due = small k below in
-      omega (arith, split, part, up, due)
+      omega (arith, mod-add-div' (k + (most + length releases)) (length releases), mod_below (k + (most + length releases)) (length releases) are.some, up, small k below)
 
   abbrev Serves : ℕ → Type 0
   Serves count = (1 ≤ count) × AreOver releases hyper ends (length ends) count
 
   serves_or_not : (count : ℕ) → (Serves count → ⊥) ⊎ Serves count
   serves_or_not count = elim (cases_lt 0 count) [
-    | inr none ↦ inl (λ serves. (let some = serves.0 in omega (arith, none, some)))
+    | inr none ↦ inl (λ serves. omega (arith, none, serves.0))
     | inl some ↦ elim (over_or_not count) [ inl over ↦ inr (omega (arith, some), over) | inr not ↦ inl (λ serves. not serves.1) ]
   ]
 
   pub some_least : (count : ℕ) × IsLeastTurn releases hyper ends (length ends) count × (count ≤ most + length releases)
   some_least = elim (all_or_least (λ count. Serves count → ⊥) Serves serves_or_not (most + length releases + 1)) [
-    | inl none ↦ absurd (none (most + length releases) (omega arith) ((let some = are.some in omega (arith, some)), all_over))
+    | inl none ↦ absurd (none (most + length releases) (omega arith) (omega (arith, are.some), all_over))
     | inr least ↦ (
       least.0,
       record {
@@ -102,7 +98,7 @@ module _ (releases : List ℕ) (hyper : ℕ) (are : AreReleased releases hyper) 
           | inr more ↦ more
         ];
       },
-      (let below = least.1.below in omega (arith, below)),
+      omega (arith, least.1.below),
     )
   ]
 

@@ -21,14 +21,8 @@ item_at list items k x same inside is =
 prefix_within : (words : List Word) (e : ℕ) (w : Word) → slice_get words e ≡ Some w → length w.prefix ≤ constants_in words
 prefix_within [] e w at = cc
 prefix_within (v ∷ words) zero w at =
-    let e : constants_in (v ∷ words) ≡ length v.prefix + constants_in words = sum_by-cons (λ (x : Word). length x.prefix) v words in
-    let same : v ≡ w = same_Some v w at in
-    let s = ap (λ (x : Word). length x.prefix) same in
-    omega (arith, e, s)
-prefix_within (v ∷ words) (suc e) w at =
-    let rest = prefix_within words e w at in
-    let s : constants_in (v ∷ words) ≡ length v.prefix + constants_in words = sum_by-cons (λ (x : Word). length x.prefix) v words in
-    omega (arith, rest, s)
+    omega (arith, sum_by-cons (λ (x : Word). length x.prefix) v words, ap (λ (x : Word). length x.prefix) (same_Some v w at))
+prefix_within (v ∷ words) (suc e) w at = omega (arith, prefix_within words e w at, sum_by-cons (λ (x : Word). length x.prefix) v words)
 
 pub planned : (graph : TaskGraph) (words : List Word) (windows : List (List Window)) → IsDated graph words windows → (e : ℕ) (edge : Edge) (w : Word) →
     slice_get graph.edges e ≡ Some edge → slice_get words e ≡ Some w → IsPlanned graph windows edge w
@@ -55,9 +49,9 @@ module _ (graph : TaskGraph) (windows : List (List Window)) where
       let b = are.used_long in
       let d = are.sums_long in
       record {
-        counts_long = (let l = length_push counts count in omega (arith, l, a));
-        used_long = (let l = length_push used one in omega (arith, l, b));
-        sums_long = (let l = length_push sums sum_list in omega (arith, l, d));
+        counts_long = omega (arith, length_push counts count, a);
+        used_long = omega (arith, length_push used one, b);
+        sums_long = omega (arith, length_push sums sum_list, d);
         each = λ e edge below at.
             elim (cases_lt e i) [
               | inl old ↦
@@ -68,8 +62,7 @@ module _ (graph : TaskGraph) (windows : List (List Window)) where
                   ) (are.each e edge old at)
               | inr here ↦
                   (let same : i ≡ e = omega (arith, here, below) in
-                  let found : slice_get graph.edges e ≡ Some item = subst (λ (n : ℕ). slice_get graph.edges n ≡ Some item) same stands in
-                  let item_is : item ≡ edge = same_Some item edge (sym found ∙ at) in
+                  let item_is : item ≡ edge = same_Some item edge (sym (subst (λ (n : ℕ). slice_get graph.edges n ≡ Some item) same stands) ∙ at) in
                   rw (get_or_push counts count 0 e (a ∙ same), get_or_push used one no_used e (b ∙ same), get_or_push sums sum_list [] e (d ∙ same), ← item_is) cells)
             ];
       }
@@ -79,7 +72,7 @@ module _ (graph : TaskGraph) (windows : List (List Window)) where
 
 length_bases : (before : ℕ) (counts : List ℕ) → length (bases_from before counts) ≡ length counts
 length_bases before [] = refl
-length_bases before (count ∷ counts) = (let rest = length_bases (before + count) counts in omega (arith, rest))
+length_bases before (count ∷ counts) = omega (arith, length_bases (before + count) counts)
 
 base_at : (before : ℕ) (counts : List ℕ) (e : ℕ) → e < length counts → slice_index (bases_from before counts) e ≡ base_of (slice_index counts e) (before + sum (take e counts))
 base_at before [] e below = absurd (omega (arith, below))
@@ -92,7 +85,7 @@ base_at before (count ∷ counts) (suc e) below =
 inside_list : (xs : List Edge) (e : ℕ) (edge : Edge) → slice_get xs e ≡ Some edge → e < length xs
 inside_list [] e edge h = cc
 inside_list (x ∷ xs) zero edge h = omega arith
-inside_list (x ∷ xs) (suc e) edge h = (let g = inside_list xs e edge h in omega (arith, g))
+inside_list (x ∷ xs) (suc e) edge h = omega (arith, inside_list xs e edge h)
 
 module _ (graph : TaskGraph) (windows : List (List Window)) (counts : List ℕ) (used : List Used) (sums : List (List ℕ))
     (are : AreListed graph windows (length graph.edges) counts used sums) where
@@ -110,7 +103,7 @@ module _ (graph : TaskGraph) (windows : List (List Window)) (counts : List ℕ) 
 
   found : (e : ℕ) → e < length used → HasEdgeCells graph windows (edge_at graph e) (slice_index counts e) (slice_index_or used e no_used) (slice_index_or sums e [])
   found e below =
-      let inside : e < length graph.edges = (let l = are.used_long in omega (arith, below, l)) in
+      let inside : e < length graph.edges = omega (arith, below, are.used_long) in
       are.each e (edge_at graph e) inside (slice_get-get_or graph.edges e no_edge inside)
 
   pub short_gaps : AreShortGaps used

@@ -9,12 +9,8 @@ use Rattle.prl_plan.specs.declared.words.Word.{Word}
 use Rattle.prl_buffers.specs.code.Turns.{IsTurn}
 
 pub sum_push : (xs : List ℕ) (g : ℕ) → sum (xs ++ g ∷ []) ≡ sum xs + g
-sum_push [] g = (let e : sum (g ∷ []) ≡ g + sum [] = sum_by-cons (λ y. y) g [] in omega (arith, e))
-sum_push (x ∷ xs) g =
-    let rest = sum_push xs g in
-    let a : sum (x ∷ (xs ++ g ∷ [])) ≡ x + sum (xs ++ g ∷ []) = sum_by-cons (λ y. y) x (xs ++ g ∷ []) in
-    let b : sum (x ∷ xs) ≡ x + sum xs = sum_by-cons (λ y. y) x xs in
-    omega (arith, rest, a, b)
+sum_push [] g = omega (arith, sum_by-cons (λ y. y) g [])
+sum_push (x ∷ xs) g = omega (arith, sum_push xs g, sum_by-cons (λ y. y) x (xs ++ g ∷ []), sum_by-cons (λ y. y) x xs)
 
 module _ (w : Word) where
   pub turn_begins : IsTurn w 0 [] []
@@ -25,7 +21,7 @@ module _ (w : Word) where
     each = λ j inside. absurd (omega (arith, inside));
     next = λ j inside. absurd (omega (arith, inside));
     whole = (let z : sum [] ≡ 0 = refl in omega (arith, z));
-    all = λ i small. (0, omega arith, (let e : i ≡ 0 = omega (arith, small) in let s = ap (λ (k : ℕ). number_at w k) e in let z : sum (take 0 []) ≡ 0 = refl in omega (arith, s, z)));
+    all = λ i small. (0, omega arith, (let e : i ≡ 0 = omega (arith, small) in let z : sum (take 0 []) ≡ 0 = refl in omega (arith, ap (λ (k : ℕ). number_at w k) e, z)));
   }
 
   module _ (i : ℕ) (gaps last : List ℕ) (is : IsTurn w i gaps last) where
@@ -33,18 +29,16 @@ module _ (w : Word) where
     turn_same same = record {
       long = is.long;
       positive = is.positive;
-      within = λ j inside. (let b = is.within j inside in omega (arith, b));
+      within = λ j inside. omega (arith, is.within j inside);
       each = is.each;
       next = is.next;
-      whole = (let h = is.whole in omega (arith, same, h));
+      whole = omega (arith, same, is.whole);
       all = λ k small.
           elim (cases_lt i k) [
             | inl above ↦
                 (let old = is.all i (omega arith) in
-                let o = old.2 in
                 let e : k ≡ i + 1 = omega (arith, above, small) in
-                let s = ap (λ (x : ℕ). number_at w x) e in
-                (old.0, old.1, omega (arith, o, s, same)))
+                (old.0, old.1, omega (arith, old.2, ap (λ (x : ℕ). number_at w x) e, same)))
             | inr below ↦ is.all k below
           ];
     }
@@ -57,17 +51,15 @@ module _ (w : Word) where
       old_sum j small = ap sum (take-append-le j gaps (gap ∷ []) small)
 
       all_sum : (j : ℕ) → length gaps < j → sum (take j (gaps ++ gap ∷ [])) ≡ sum gaps + gap
-      all_sum j above = (let l = length_push gaps gap in ap sum (take_all j (gaps ++ gap ∷ []) (omega (arith, above, l))) ∙ sum_push gaps gap)
+      all_sum j above = ap sum (take_all j (gaps ++ gap ∷ []) (omega (arith, above, length_push gaps gap))) ∙ sum_push gaps gap
 
       last_at : (j : ℕ) → length gaps ≤ j → j < length (gaps ++ gap ∷ []) → slice_index (last ++ i ∷ []) j ≡ i
       last_at j above inside =
-          (let l = length_push gaps gap in
-          let long = is.long in
-          let e : j ≡ length last = omega (arith, above, inside, l, long) in
+          (let e : j ≡ length last = omega (arith, above, inside, length_push gaps gap, is.long) in
           ap (λ (x : ℕ). slice_index (last ++ i ∷ []) x) e ∙ get_or_push last i 0 (length last) refl)
 
       last_old : (j : ℕ) → j < length gaps → slice_index (last ++ i ∷ []) j ≡ slice_index last j
-      last_old j below = get_or_append_left last (i ∷ []) 0 j (let long = is.long in omega (arith, below, long))
+      last_old j below = get_or_append_left last (i ∷ []) 0 j (omega (arith, below, is.long))
 
       pub turn_more : IsTurn w (i + 1) (gaps ++ gap ∷ []) (last ++ i ∷ [])
       turn_more = record {

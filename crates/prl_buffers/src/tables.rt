@@ -1,19 +1,20 @@
 //! The cells of all edges of a task graph.
 
-ghost use Rattle.std.specs.Prelude.{◌≡◌, ◌+◌, ◌≤◌, ◌<◌, ℕ, length, sum, IfOk, MatchResult};
+ghost use Rattle.std.specs.Prelude.{◌≡◌, ◌+◌, ◌≤◌, ◌<◌, ◌^◌, ◌++◌, ◌∷◌, [], ℕ, Some, length, sum, IfOk, OnOk, MatchResult};
+ghost use Rattle.prl_plan.specs.CellLists.{AreCellLists, AreSums};
 ghost use Rattle.prl_plan.specs.Vocabulary.{AreLeastCells, CellLists, AreEncodedDates};
 ghost use Rattle.prl_plan.specs.Vocabulary.{IsWellFormed, AreShortGaps, AreWords};
 ghost use Rattle.prl_plan.specs.declared.limits.TheConstants.{MAX_CELLS};
 ghost use Rattle.prl_buffers.specs.CellFaults.{IsCellFault};
 ghost use Rattle.prl_buffers.specs.code.Tables.{IsDated, AreListed, bases_from};
 
-use crate::edges::cells_of;
+use crate::edges::{EdgeCells, cells_of};
 use prl_base::{Limit, Seq, What};
 use prl_plan::{Cells, Dates, MAX_CELLS, TaskGraph, Used, Words};
 use std::alloc::{AllocError, Global};
 
 /// Why there are no cells.
-#[derive(Clone, Copy, PartialEq, Eq)]
+#[derive(Clone, Copy)]
 pub enum CellFault {
     /// All edges together need more than 4,096 cells.
     Limit(Limit),
@@ -34,10 +35,25 @@ impl From<AllocError> for CellFault {
 /// The least number of cells of each edge, its used instances and the sums of their gaps, and how many cells there are.
 #[derive(Drop)]
 struct EdgeLists {
-    counts: Seq<u64>,
-    used: Seq<Used>,
-    sums: Seq<Seq<u64>>,
+    counts: Vec<u64>,
+    used: Vec<Used>,
+    sums: Vec<Seq<u64>>,
     total: u64,
+}
+
+/// Adds the cells of one more edge.
+fn push_cells(cells: EdgeCells, list: &mut EdgeLists) -> Result<(), AllocError>
+    requires { list.old.total + cells.count < 2 ^ 64 }
+    ensures counts { OnOk result (list.new.counts.items ≡ list.old.counts.items ++ cells.count ∷ []) }
+    ensures used { OnOk result (list.new.used.items ≡ list.old.used.items ++ cells.used ∷ []) }
+    ensures sums { OnOk result (list.new.sums.items ≡ list.old.sums.items ++ cells.sums ∷ []) }
+    ensures total { list.new.total ≡ list.old.total + cells.count }
+{
+    list.total += cells.count;
+    list.counts.push(cells.count)?;
+    list.used.push(cells.used)?;
+    list.sums.push(cells.sums)?;
+    Ok(())
 }
 
 /// The cells of each edge, before they are numbered.
@@ -48,27 +64,23 @@ fn listed(
     dates: &Dates,
 ) -> Result<EdgeLists, AllocError>
     requires { IsDated graph.now words.now.of dates.now }
-    ensures { IfOk result (λ list. AreListed graph.now dates.now (length graph.now.edges) list.counts list.used list.sums × (list.total ≡ sum list.counts)) }
+    ensures { IfOk result (λ list. AreListed graph.now dates.now (length graph.now.edges) list.counts.items list.used.items list.sums.items × (list.total ≡ sum list.counts.items)) }
 {
     let edges = graph.edges.as_slice();
     let words = words.of.as_slice();
-    let mut counts = Vec::with_capacity(alloc, edges.len())?;
-    let mut used = Vec::with_capacity(alloc, edges.len())?;
-    let mut sums = Vec::with_capacity(alloc, edges.len())?;
-    let mut total = 0;
+    let mut list = EdgeLists {
+        counts: Vec::new(alloc),
+        used: Vec::new(alloc),
+        sums: Vec::new(alloc),
+        total: 0,
+    };
     for e in 0..edges.len() {
-        let cells = cells_of(alloc, graph, &edges[e], &words[e], dates)?;
-        total += cells.count;
-        counts.push(cells.count)?;
-        used.push(cells.used)?;
-        sums.push(cells.sums)?;
+        push_cells(
+            cells_of(alloc, graph, &edges[e], &words[e], dates)?,
+            &mut list,
+        )?;
     }
-    Ok(EdgeLists {
-        counts: Seq::new(counts),
-        used: Seq::new(used),
-        sums: Seq::new(sums),
-        total,
-    })
+    Ok(list)
 }
 
 /// The first cell of each edge, where the edges have so many cells.
@@ -97,6 +109,30 @@ fn narrowed(alloc: Global, counts: &[u64]) -> Result<Seq<u32>, AllocError>
     Ok(Seq::new(narrow))
 }
 
+/// The first cell of each edge, where the edges have so many cells, and these numbers in 32 bits.
+fn numbered(alloc: Global, counts: &[u64]) -> Result<(Seq<u32>, Seq<u32>), AllocError>
+    requires { sum counts.now ≤ MAX_CELLS }
+    ensures bases { IfOk result (λ numbers. numbers.0 ≡ bases_from 0 counts.now) }
+    ensures counts { IfOk result (λ numbers. numbers.1 ≡ counts.now) }
+{
+    let bases = bases_of(alloc, counts)?;
+    Ok((bases, narrowed(alloc, counts)?))
+}
+
+/// The cells of the lists, by their numbers.
+fn joined(numbers: (Seq<u32>, Seq<u32>), list: EdgeLists) -> Cells
+    requires lists { AreCellLists numbers.0 numbers.1 list.used.items }
+    requires sums { AreSums list.used.items (Some list.sums.items) }
+    ensures { result ≡ record { bases = numbers.0; counts = numbers.1; used = list.used.items } }
+{
+    Cells::with_sums(
+        numbers.0,
+        numbers.1,
+        Seq::new(list.used),
+        Seq::new(list.sums),
+    )
+}
+
 /// The least number of buffer cells of each edge that comes from a task, its used instances and its first cell; the cells are
 /// numbered edge after edge. The limit on their number is tested after all edges are counted, each by division.
 pub fn cells(
@@ -119,7 +155,6 @@ pub fn cells(
             found: list.total,
         }));
     }
-    let bases = bases_of(alloc, list.counts.as_slice())?;
-    let counts = narrowed(alloc, list.counts.as_slice())?;
-    Ok(Cells::with_sums(bases, counts, list.used, list.sums))
+    let numbers = numbered(alloc, list.counts.as_slice())?;
+    Ok(joined(numbers, list))
 }

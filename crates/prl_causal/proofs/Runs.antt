@@ -188,7 +188,7 @@ pub none_counted : (n : ℕ) → marked_count (replicate n false) ≡ 0
 none_counted n = (let sums = sum_by-replicate (λ b. cond b 1 0) n false in omega (arith, sums))
 
 -- nothing is placed yet, nothing looked at, and no argument found placed
-first_order : (p : FlatProgram) (all : List Source) → IsSorted p all [] (replicate (length all) false) (replicate (length all) false) (replicate (length p.apps) 0) []
+pub first_order : (p : FlatProgram) (all : List Source) → IsSorted p all [] (replicate (length all) false) (replicate (length all) false) (replicate (length p.apps) 0) []
 first_order p all =
     let n = length all in
     record {

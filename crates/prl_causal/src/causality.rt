@@ -1,10 +1,13 @@
 //! Whether a flat program has a cycle, and an order of its flows where it has none.
 
-ghost use Rattle.std.specs.Prelude.{◌≡◌, ◌<◌, ℕ, IfErr, IfOk, MatchOption, false, length, true};
+ghost use Rattle.std.specs.Prelude.{◌≡◌, ◌<◌, ℕ, IfErr, IfOk, List, MatchOption, false, length, true};
 ghost use Rattle.prl_flow.specs.declared.programs.Flow.{Flow};
 ghost use Rattle.prl_flow.specs.Uses.{HasNoCycle, IsCyclic, IsCycleLabel, IsOnCycle, IsOrder, is_made};
 ghost use Rattle.prl_causal.specs.Cycles.{IsCausalFault, IsFirst, IsFirstNamed, IsLabelOf};
-ghost use Rattle.prl_causal.specs.code.Sources.{all_inside, all_undelayed};
+ghost use Rattle.prl_base.specs.declared.numbers.FlowNo.{FlowNo as AnyFlow};
+ghost use Rattle.prl_causal.specs.code.Parts.{IsWhole};
+ghost use Rattle.prl_causal.specs.code.Sources.{AreSources, UsesBy, all_inside, all_undelayed};
+ghost use Rattle.prl_causal.specs.code.Ways.{HasWayBack};
 
 use crate::orders::order;
 use crate::searches::leads_back;
@@ -134,6 +137,56 @@ fn cycle_label(
     }
 }
 
+/// The fault of a program that has a cycle.
+fn cycle_fault(alloc: Global, flat: &Flat, undelayed: &[Source], inside: &[Source]) -> CausalFault
+    requires undelayed { undelayed.now ≡ all_undelayed flat.now }
+    requires inside { inside.now ≡ all_inside flat.now }
+    requires cycle { (i : ℕ) × IsOnCycle flat.now i }
+    ensures { IsCausalFault flat.now result }
+{
+    match cycle_label(alloc, flat, undelayed, inside) {
+        Ok(label) => CausalFault::Cycle(label),
+        Err(_) => CausalFault::Memory,
+    }
+}
+
+/// Whether there is an order of the flows along these uses.
+fn has_order(alloc: Global, flat: &Flat, sources: &[Source]) -> Result<bool, AllocError>
+    requires { AreSources flat.now sources.now }
+    ensures yes { IfOk result (λ has. has ≡ true → (order : List AnyFlow) × IsWhole (UsesBy flat.now sources.now) (length sources.now) order) }
+    ensures no { IfOk result (λ has. has ≡ false → HasWayBack (UsesBy flat.now sources.now)) }
+{
+    match order(alloc, flat, sources)? {
+        Some(_) => Ok(true),
+        None => Ok(false),
+    }
+}
+
+/// An order of the flows by what they use undelayed, where there is no cycle of either kind.
+fn ordered(
+    alloc: Global,
+    flat: &Flat,
+    undelayed: &[Source],
+    inside: &[Source],
+) -> Result<Order, CausalFault>
+    requires undelayed { undelayed.now ≡ all_undelayed flat.now }
+    requires inside { inside.now ≡ all_inside flat.now }
+    ensures order { IfOk result (λ order. IsOrder flat.now order.flows) }
+    ensures acyclic { IfOk result (λ order. HasNoCycle flat.now) }
+    ensures fault { IfErr result (IsCausalFault flat.now) }
+{
+    let _flows = flat.flows();
+    if !has_order(alloc, flat, inside)? {
+        return Err(cycle_fault(alloc, flat, undelayed, inside));
+    }
+    match order(alloc, flat, undelayed)? {
+        Some(flows) => Ok(Order {
+            flows: Seq::new(flows),
+        }),
+        None => Err(cycle_fault(alloc, flat, undelayed, inside)),
+    }
+}
+
 /// An order of the flows of the flat program, or the label of a flow on a cycle that has no delay or passes
 /// through no application.
 pub fn causal(alloc: Global, flat: &Flat) -> Result<Order, CausalFault>
@@ -141,28 +194,7 @@ pub fn causal(alloc: Global, flat: &Flat) -> Result<Order, CausalFault>
     ensures acyclic { IfOk result (λ order. HasNoCycle flat.now) }
     ensures fault { IfErr result (IsCausalFault flat.now) }
 {
-    let _flows = flat.flows();
     let undelayed = undelayed(alloc, flat)?;
     let inside = inside(alloc, flat)?;
-    let by_date = order(alloc, flat, undelayed.as_slice())?;
-    let by_step = order(alloc, flat, inside.as_slice())?;
-    match by_date {
-        Some(flows) => match by_step {
-            Some(_) => Ok(Order {
-                flows: Seq::new(flows),
-            }),
-            None => Err(CausalFault::Cycle(cycle_label(
-                alloc,
-                flat,
-                undelayed.as_slice(),
-                inside.as_slice(),
-            )?)),
-        },
-        None => Err(CausalFault::Cycle(cycle_label(
-            alloc,
-            flat,
-            undelayed.as_slice(),
-            inside.as_slice(),
-        )?)),
-    }
+    ordered(alloc, flat, undelayed.as_slice(), inside.as_slice())
 }

@@ -4,7 +4,7 @@
 //! at stands on a stack, each flow used by the one below it, so a flow that is met there again is on a cycle. Each flow is
 //! opened once and each argument of an application found placed once.
 
-ghost use Rattle.std.specs.Prelude.{◌≡◌, ◌≢◌, ◌<◌, ◌++◌, ◌∷◌, [], ℕ, IfOk, MatchOption, false, length, slice_index_or, true};
+ghost use Rattle.std.specs.Prelude.{◌≡◌, ◌≢◌, ◌<◌, ◌++◌, ◌∷◌, [], ℕ, IfOk, MatchOption, false, length, replicate, slice_index_or, true};
 ghost use Rattle.prl_flow.specs.Uses.{IsArgument};
 ghost use Rattle.prl_causal.specs.code.Parts.{ArePlaced, AreSeen, IsMarked, IsMissing, IsUnplaced, IsWhole};
 ghost use Rattle.prl_causal.specs.code.Sorting.{IsSorted, left};
@@ -144,6 +144,55 @@ fn visit(
     Ok(true)
 }
 
+/// Places all flows. False where there is a cycle.
+fn visit_all(
+    alloc: Global,
+    flat: &Flat,
+    sources: &[Source],
+    order: &mut Vec<FlowNo>,
+    placed: &mut [bool],
+    opened: &mut [bool],
+    seen: &mut [usize],
+) -> Result<bool, AllocError>
+    requires sources { AreSources flat.now sources.now }
+    requires sorted { IsSorted flat.now sources.now order.old.items placed.old opened.old seen.old [] }
+    ensures whole { IfOk result (λ on. on ≡ true → IsWhole (UsesBy flat.now sources.now) (length sources.now) order.new.items) }
+    ensures back { IfOk result (λ on. on ≡ false → HasWayBack (UsesBy flat.now sources.now)) }
+{
+    for from in 0..sources.len() {
+        if !visit(
+            alloc,
+            flat,
+            sources,
+            from as u32,
+            order,
+            placed,
+            opened,
+            seen,
+        )? {
+            return Ok(false);
+        }
+    }
+    Ok(true)
+}
+
+/// Marks of which none is set, for those that are placed and those that are opened, and how many arguments were seen of
+/// each application: none.
+fn no_marks(
+    alloc: Global,
+    flat: &Flat,
+    flows: usize,
+) -> Result<(Vec<bool>, Vec<bool>, Vec<usize>), AllocError>
+    ensures placed { IfOk result (λ marks. marks.0.items ≡ replicate flows false) }
+    ensures opened { IfOk result (λ marks. marks.1.items ≡ replicate flows false) }
+    ensures seen { IfOk result (λ marks. marks.2.items ≡ replicate (length flat.now.apps) 0) }
+{
+    let placed = vec![in alloc; false; flows]?;
+    let opened = vec![in alloc; false; flows]?;
+    let seen = vec![in alloc; 0; flat.apps().len()]?;
+    Ok((placed, opened, seen))
+}
+
 /// The flows, each after those that it uses, where there is such an order.
 pub fn order(
     alloc: Global,
@@ -154,25 +203,18 @@ pub fn order(
     ensures { IfOk result (λ found. MatchOption found (HasWayBack (UsesBy flat.now sources.now)) (λ order. IsWhole (UsesBy flat.now sources.now) (length sources.now) order.items)) }
 {
     let mut order = Vec::new(alloc);
-    let mut placed_marks = vec![in alloc; false; sources.len()]?;
-    let mut opened_marks = vec![in alloc; false; sources.len()]?;
-    let mut seen_counts = vec![in alloc; 0; flat.apps().len()]?;
-    let placed = placed_marks.as_mut_slice();
-    let opened = opened_marks.as_mut_slice();
-    let seen = seen_counts.as_mut_slice();
-    for from in 0..sources.len() {
-        if !visit(
-            alloc,
-            flat,
-            sources,
-            from as u32,
-            &mut order,
-            placed,
-            opened,
-            seen,
-        )? {
-            return Ok(None);
-        }
+    let mut marks = no_marks(alloc, flat, sources.len())?;
+    if visit_all(
+        alloc,
+        flat,
+        sources,
+        &mut order,
+        marks.0.as_mut_slice(),
+        marks.1.as_mut_slice(),
+        marks.2.as_mut_slice(),
+    )? {
+        Ok(Some(order))
+    } else {
+        Ok(None)
     }
-    Ok(Some(order))
 }

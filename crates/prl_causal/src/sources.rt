@@ -8,7 +8,7 @@ use prl_flow::{Arg, Def, Flat};
 use std::alloc::{AllocError, Global};
 
 /// What a flow uses, along uses of one kind.
-#[derive(Clone, Copy, PartialEq, Eq)]
+#[derive(Clone, Copy)]
 pub enum Source {
     Nothing,
     Flow(FlowNo),

@@ -17,19 +17,14 @@ module _ (graph : TaskGraph) (good : IsWellFormed graph) where
         elim (round.only job inside) [
           | inl same ↦
               (let b = (bests.bests job inside).attained in
-              let e = b.2 in
-              (b.0, b.1, record { chain = e.chain; few = (let f = e.few in omega (arith, f)); last = e.last }, b.3 ∙ sym same))
+              (b.0, b.1, record { chain = b.2.chain; few = omega (arith, b.2.few); last = b.2.last }, b.3 ∙ sym same))
           | inr by ↦
-              (let both = both_inside graph good by.0 job by.1 in
-              let b = (bests.bests by.0 both.0).attained in
-              let e : EndsIn graph (rounds + 1) by.0 b.0 b.1 = b.2 in
-              let p : Precedes graph (last_of b.0 b.1) job = subst (λ (j : Job). Precedes graph j job) (sym e.last) by.1 in
-              let l : Longer graph b.0 b.1 job = one_longer graph b.0 b.1 job e.chain inside p in
-              let w = l.wcets in let n = b.3 in let s = by.2 in (
+              (let b = (bests.bests by.0 (both_inside graph good by.0 job by.1).0).attained in
+              let l : Longer graph b.0 b.1 job = one_longer graph b.0 b.1 job b.2.chain inside (subst (λ (j : Job). Precedes graph j job) (sym b.2.last) by.1) in (
                 b.0,
                 l.longer,
-                record { chain = l.chain; few = (let f = e.few in let g = l.long in omega (arith, f, g)); last = l.last },
-                (let g : needs_of graph b.0 l.longer ≡ new job.task job.number = omega (arith, ints, w, n, s) in g),
+                record { chain = l.chain; few = omega (arith, b.2.few, l.long); last = l.last },
+                (let g : needs_of graph b.0 l.longer ≡ new job.task job.number = omega (arith, ints, l.wcets, b.3, by.2) in g),
               ))
         ]
 
@@ -40,14 +35,11 @@ module _ (graph : TaskGraph) (good : IsWellFormed graph) where
         omega (arith, ints, round.up job.task job.number inside, (bests.bests job inside).none_above first [] (record { chain = ends.chain; few = few; last = ends.last }))
     none_above job inside first (next ∷ rest) ends =
         let e : Ending graph first (next ∷ rest) (last_of next rest) = before_last graph first next rest ends.chain in
-        let last : last_of next rest ≡ job = ends.last in
-        let f = ends.few in let g = e.long in
         let before : Job = last_of first e.front in
         let some : before.task < length graph.tasks = ends_inside graph first e.front e.chain in
-        let b = (bests.bests before some).none_above first e.front (record { chain = e.chain; few = omega (arith, f, g); last = refl }) in
-        let p : Precedes graph before job = subst (λ (j : Job). Precedes graph before j) last e.precedes in
-        let s : (task_at graph (last_of next rest).task).wcet ≡ (task_at graph job.task).wcet = ap (λ (j : Job). (task_at graph j.task).wcet) last in
-        omega (arith, ints, b, round.order before job p, e.wcets, s)
+        let b = (bests.bests before some).none_above first e.front (record { chain = e.chain; few = omega (arith, ends.few, e.long); last = refl }) in
+        let s : (task_at graph (last_of next rest).task).wcet ≡ (task_at graph job.task).wcet = ap (λ (j : Job). (task_at graph j.task).wcet) ends.last in
+        omega (arith, ints, b, round.order before job (subst (λ (j : Job). Precedes graph before j) ends.last e.precedes), e.wcets, s)
 
     rises : (i : ℕ) (a b : ℤ) → i < length graph.tasks → a ≤ℤ b → new i a ≤ℤ new i b
     rises i a b inside order =
@@ -97,16 +89,14 @@ module _ (graph : TaskGraph) (good : IsWellFormed graph) where
     pub least_releases : AreLeastReleases graph (λ i m. best i m -ℤ pos (task_at graph i).wcet)
     least_releases = record {
       releases = record {
-        above = λ i m inside. (let a = above_release i m inside in omega (arith, ints, a));
-        along = λ before after h. (let o = still.order before after h in omega (arith, ints, o));
+        above = λ i m inside. omega (arith, ints, above_release i m inside);
+        along = λ before after h. omega (arith, ints, still.order before after h);
       };
       least = λ other are i m inside.
           (let job : Job = record { task = i; number = m } in
           let b = (bests.bests job inside).attained in
-          let e : EndsIn graph (rounds + 1) job b.0 b.1 = b.2 in
-          let whole = within_other other are b.0 b.1 e.chain in
-          let last : last_of b.0 b.1 ≡ job = e.last in
+          let whole = within_other other are b.0 b.1 b.2.chain in
           let at : (other b.0.task b.0.number +ℤ pos (wcets_of graph b.0 b.1)) ≤ℤ (other i m +ℤ pos (task_at graph i).wcet) =
-          subst (λ (j : Job). (other b.0.task b.0.number +ℤ pos (wcets_of graph b.0 b.1)) ≤ℤ (other j.task j.number +ℤ pos (task_at graph j.task).wcet)) last whole in
-          omega (arith, ints, are.above b.0.task b.0.number (begins_inside graph b.0 b.1 e.chain), at, b.3));
+          subst (λ (j : Job). (other b.0.task b.0.number +ℤ pos (wcets_of graph b.0 b.1)) ≤ℤ (other j.task j.number +ℤ pos (task_at graph j.task).wcet)) b.2.last whole in
+          omega (arith, ints, are.above b.0.task b.0.number (begins_inside graph b.0 b.1 b.2.chain), at, b.3));
     }

@@ -22,9 +22,9 @@ module _ (graph : TaskGraph) where
       record {
         front = next ∷ e.front;
         chain = (chain.0, chain.1, e.chain);
-        long = (let l = e.long in omega (arith, l));
+        long = omega (arith, e.long);
         precedes = e.precedes;
-        wcets = (let w = e.wcets in omega (arith, w));
+        wcets = omega (arith, e.wcets);
       }
 
   pub record Longer (first : Job) (rest : List Job) (job : Job) : Type 0 where
@@ -43,9 +43,9 @@ module _ (graph : TaskGraph) where
       record {
         longer = next ∷ e.longer;
         chain = (chain.0, chain.1, e.chain);
-        long = (let l = e.long in omega (arith, l));
+        long = omega (arith, e.long);
         last = e.last;
-        wcets = (let w = e.wcets in omega (arith, w));
+        wcets = omega (arith, e.wcets);
       }
 
   pub ends_inside : (first : Job) (rest : List Job) → IsChain graph first rest → (last_of first rest).task < length graph.tasks
@@ -59,7 +59,5 @@ module _ (graph : TaskGraph) where
   -- jobs that precede one another are of tasks of the graph
   pub both_inside : IsWellFormed graph → (before after : Job) → Precedes graph before after → (before.task < length graph.tasks) × (after.task < length graph.tasks)
   both_inside good before after h =
-      let edge : Edge = h.1 in
-      let along : PrecedesAlong graph edge before after = h.3 in
-      let is = good.edges h.0 edge h.2 in
-      (source_inside graph edge is edge.from refl before.task along.from, subst (λ (i : ℕ). i < length graph.tasks) along.to is.to)
+      let is = good.edges h.0 h.1 h.2 in
+      (source_inside graph h.1 is h.1.from refl before.task h.3.from, subst (λ (i : ℕ). i < length graph.tasks) h.3.to is.to)

@@ -58,7 +58,7 @@ module _ (graph : TaskGraph) (good : IsWellFormed graph) where
     long : length rest ≡ length front + length back
     wcets : wcets_of graph first rest + wcet at ≡ wcets_of graph first front + wcets_of graph at back
 
-  further : (first next : Job) (rest : List Job) (at : Job) → IsChain graph first (next ∷ rest) → IsSplit next rest at → IsSplit first (next ∷ rest) at
+  abbrev further : (first next : Job) (rest : List Job) (at : Job) → IsChain graph first (next ∷ rest) → IsSplit next rest at → IsSplit first (next ∷ rest) at
   further first next rest at chain s = record {
     front = next ∷ s.front;
     back = s.back;
@@ -66,11 +66,11 @@ module _ (graph : TaskGraph) (good : IsWellFormed graph) where
     ends = s.ends;
     after = s.after;
     same = s.same;
-    long = (let l = s.long in omega (arith, l));
-    wcets = (let w = s.wcets in omega (arith, w));
+    long = omega (arith, s.long);
+    wcets = omega (arith, s.wcets);
   }
 
-  at_first : (first : Job) (rest : List Job) → IsChain graph first rest → IsSplit first rest first
+  abbrev at_first : (first : Job) (rest : List Job) → IsChain graph first rest → IsSplit first rest first
   at_first first rest chain = record {
     front = [];
     back = rest;
@@ -111,19 +111,10 @@ module _ (graph : TaskGraph) (good : IsWellFormed graph) where
   record IsTwice (first : Job) (rest : List Job) : Type 0 where
     early : Job
     late : Job
-    front : List Job
-    around : List Job
-    back : List Job
     indices_same : index late ≡ index early
-    before : IsChain graph first front
-    ends : last_of first front ≡ early
-    turn : IsChain graph early around
-    turned : last_of early around ≡ late
-    some : 1 ≤ length around
-    after : IsChain graph late back
-    same : last_of late back ≡ last_of first rest
-    long : length rest ≡ length front + length around + length back
-    wcets : wcets_of graph first rest + wcet early + wcet late ≡ wcets_of graph first front + wcets_of graph early around + wcets_of graph late back
+    head : IsSplit first rest early
+    turn : IsSplit early head.back late
+    some : 1 ≤ length turn.front
 
   none_of : (p : ℕ → Bool) (xs : List ℕ) → list_any p xs ≡ false → AllByRecursion (λ y. p y ≡ false) xs
   none_of p [] none = tt
@@ -140,23 +131,7 @@ module _ (graph : TaskGraph) (good : IsWellFormed graph) where
   twice first (next ∷ rest) chain =
       elim (twice next rest chain.2) [
         | inl distinct ↦ go (list_any (eqb (index first)) (indices next rest)) refl distinct
-        | inr t ↦ inr (record {
-          early = t.early;
-          late = t.late;
-          front = next ∷ t.front;
-          around = t.around;
-          back = t.back;
-          indices_same = t.indices_same;
-          before = (chain.0, chain.1, t.before);
-          ends = t.ends;
-          turn = t.turn;
-          turned = t.turned;
-          some = t.some;
-          after = t.after;
-          same = t.same;
-          long = (let l = t.long in omega (arith, l));
-          wcets = (let w = t.wcets in omega (arith, w));
-        })
+        | inr t ↦ inr (record { early = t.early; late = t.late; indices_same = t.indices_same; head = further first next rest t.early chain t.head; turn = t.turn; some = t.some })
       ]
     where
       go : (b : Bool) → list_any (eqb (index first)) (indices next rest) ≡ b → IsDistinct eqb (indices next rest) →
@@ -164,28 +139,11 @@ module _ (graph : TaskGraph) (good : IsWellFormed graph) where
       go false is distinct = inl (none_of (eqb (index first)) (indices next rest) is, distinct)
       go true is distinct =
           (let f = found (index first) next rest chain.2 is in
-          let s : IsSplit next rest f.0 = f.2 in
-          inr (record {
-            early = first;
-            late = f.0;
-            front = [];
-            around = next ∷ s.front;
-            back = s.back;
-            indices_same = f.1;
-            before = chain.0;
-            ends = refl;
-            turn = (chain.0, chain.1, s.before);
-            turned = s.ends;
-            some = omega arith;
-            after = s.after;
-            same = s.same;
-            long = (let l = s.long in omega (arith, l));
-            wcets = (let w = s.wcets in omega (arith, w));
-          }))
+          inr (record { early = first; late = f.0; indices_same = f.1; head = at_first first (next ∷ rest) chain; turn = further first next rest f.0 chain f.2; some = omega arith }))
 
   indices_long : (first : Job) (rest : List Job) → length (indices first rest) ≡ length rest + 1
   indices_long first [] = refl
-  indices_long first (next ∷ rest) = (let r = indices_long next rest in omega (arith, r))
+  indices_long first (next ∷ rest) = omega (arith, indices_long next rest)
 
   long_is_twice : (first : Job) (rest : List Job) → IsChain graph first rest → length rest ≡ jobs_in_hyperperiod graph → IsTwice first rest
   long_is_twice first rest chain long =
@@ -206,9 +164,8 @@ module _ (graph : TaskGraph) (good : IsWellFormed graph) where
   join first [] middle back before ends after = (
     subst (λ (j : Job). IsChain graph j back) (sym ends) after,
     ap (λ (j : Job). last_of j back) ends,
-    (let e : wcets_of graph first back ≡ wcets_of graph middle back = ap (λ (j : Job). wcets_of graph j back) ends in
-        let f : wcet first ≡ wcet middle = ap (λ (j : Job). wcet j) ends in
-        let g : wcets_of graph first back + wcet middle ≡ wcet first + wcets_of graph middle back = omega (arith, e, f) in g),
+    (let f : wcet first ≡ wcet middle = ap (λ (j : Job). wcet j) ends in
+        let g : wcets_of graph first back + wcet middle ≡ wcet first + wcets_of graph middle back = omega (arith, ap (λ (j : Job). wcets_of graph j back) ends, f) in g),
     (let g : length back ≡ 0 + length back = omega arith in g),
   )
   join first (next ∷ front) middle back before ends after =
@@ -264,17 +221,16 @@ module _ (graph : TaskGraph) (good : IsWellFormed graph) where
 
   later_wcets : (h : ℕ) (first : Job) (rest : List Job) → wcets_of graph (later h first) (map (later h) rest) ≡ wcets_of graph first rest
   later_wcets h first [] = refl
-  later_wcets h first (next ∷ rest) = (let r = later_wcets h next rest in omega (arith, r))
+  later_wcets h first (next ∷ rest) = omega (arith, later_wcets h next rest)
 
   later_long : (h : ℕ) (rest : List Job) → length (map (later h) rest) ≡ length rest
   later_long h [] = refl
-  later_long h (x ∷ rest) = (let r = later_long h rest in omega (arith, r))
+  later_long h (x ∷ rest) = omega (arith, later_long h rest)
 
   -- the first job of a chain is not released after its last
   first_early : (first : Job) (rest : List Job) → IsChain graph first rest → release first ≤ℤ release (last_of first rest)
   first_early first [] chain = omega (arith, ints)
-  first_early first (next ∷ rest) chain =
-      (let a = released_first graph good first next chain.1 in let b = first_early next rest chain.2 in omega (arith, ints, a, b))
+  first_early first (next ∷ rest) chain = omega (arith, ints, released_first graph good first next chain.1, first_early next rest chain.2)
 
   -- the later of two jobs of one index is so many hyperperiods later
   hyperperiods_between : (early late : Job) → early.task < length graph.tasks → late.task < length graph.tasks → index late ≡ index early → release early ≤ℤ release late →
@@ -329,19 +285,16 @@ module _ (graph : TaskGraph) (good : IsWellFormed graph) where
         (let r = round_trip turns in
         let j = join early around (later h early) (map (later h) r.rest) turn turned (later_chain h early r.rest r.chain) in
         let last : last_of early (around ++ map (later h) r.rest) ≡ later h (last_of early r.rest) = j.1 ∙ later_last h early r.rest in
-        let inside : (last_of early r.rest).task < length graph.tasks = ends_inside graph early r.rest r.chain in
         record {
           rest = around ++ map (later h) r.rest;
           chain = j.0;
           task = ap (λ (x : Job). x.task) last ∙ r.task;
           release_last =
-              (let e : release (last_of early (around ++ map (later h) r.rest)) ≡ release (later h (last_of early r.rest)) = ap (λ (x : Job). release x) last in
-              let t : suc turns * (h * graph.hyper) ≡ turns * (h * graph.hyper) + h * graph.hyper = omega arith in
-              omega (arith, ints, e, later_release h (last_of early r.rest) inside, r.release_last, t));
+              (let t : suc turns * (h * graph.hyper) ≡ turns * (h * graph.hyper) + h * graph.hyper = omega arith in
+              omega (arith, ints, ap (λ (x : Job). release x) last, later_release h (last_of early r.rest) (ends_inside graph early r.rest r.chain), r.release_last, t));
           wcets =
-              (let w = j.2 in let v = later_wcets h early r.rest in let u = r.wcets in
-              let t : suc turns * gain ≡ turns * gain + gain = omega arith in
-              omega (arith, w, v, u, t, gains));
+              (let t : suc turns * gain ≡ turns * gain + gain = omega arith in
+              omega (arith, j.2, later_wcets h early r.rest, r.wcets, t, gains));
         })
 
     -- a turn that gains more than the time that it takes
@@ -358,23 +311,21 @@ module _ (graph : TaskGraph) (good : IsWellFormed graph) where
   pub loop_is_narrow : (job : Job) → EndsLoop graph job → HasNarrowChain graph
   loop_is_narrow job loop =
       let t : IsTwice loop.first loop.rest = long_is_twice loop.first loop.rest loop.chain loop.long in
-      let early_in : t.early.task < length graph.tasks = begins_inside graph t.early t.around t.turn in
-      let late_in : t.late.task < length graph.tasks = begins_inside graph t.late t.back t.after in
-      let order : release t.early ≤ℤ release t.late =
-      subst (λ (j : Job). release t.early ≤ℤ release j) t.turned (first_early t.early t.around t.turn) in
-      let between = hyperperiods_between t.early t.late early_in late_in t.indices_same order in
-      let first_in : loop.first.task < length graph.tasks = begins_inside graph loop.first t.front t.before in
-      let shorter = join (later between.0 loop.first) (map (later between.0) t.front) t.late t.back (later_chain between.0 loop.first t.front t.before)
-      (later_last between.0 loop.first t.front ∙ ap (λ (j : Job). later between.0 j) t.ends ∙ sym between.1) t.after in
-      let some = t.some in let long = t.long in let whole = loop.long in
-      let few : length (map (later between.0) t.front ++ t.back) + 1 ≤ jobs_in_hyperperiod graph =
-      (let l = shorter.3 in let m = later_long between.0 t.front in omega (arith, l, m, some, long, whole)) in
-      let bound = loop.is_best.none_above (later between.0 loop.first) (map (later between.0) t.front ++ t.back)
-      (record { chain = shorter.0; few = few; last = shorter.1 ∙ t.same ∙ loop.last }) in
-      let least : wcet t.early ≤ wcets_of graph t.early t.around = at_least t.early t.around in
-      let gain : wcets_of graph t.early t.around ≡ wcet t.early + (wcets_of graph t.early t.around - wcet t.early) = omega (arith, least) in
-      narrow_turns t.early t.around t.turn between.0 (t.turned ∙ between.1) (wcets_of graph t.early t.around - wcet t.early) gain
-      (omega (arith, ints, bound, later_release between.0 loop.first first_in, later_wcets between.0 loop.first t.front, shorter.2, t.wcets, loop.longer, least))
+      let head : IsSplit loop.first loop.rest t.early = t.head in
+      let turn : IsSplit t.early head.back t.late = t.turn in
+      let between = hyperperiods_between t.early t.late (begins_inside graph t.early turn.front turn.before) (begins_inside graph t.late turn.back turn.after) t.indices_same
+      (subst (λ (j : Job). release t.early ≤ℤ release j) turn.ends (first_early t.early turn.front turn.before)) in
+      let first_in : loop.first.task < length graph.tasks = begins_inside graph loop.first head.front head.before in
+      let shorter = join (later between.0 loop.first) (map (later between.0) head.front) t.late turn.back (later_chain between.0 loop.first head.front head.before)
+      (later_last between.0 loop.first head.front ∙ ap (λ (j : Job). later between.0 j) head.ends ∙ sym between.1) turn.after in
+      let few : length (map (later between.0) head.front ++ turn.back) + 1 ≤ jobs_in_hyperperiod graph =
+      omega (arith, shorter.3, later_long between.0 head.front, t.some, head.long, turn.long, loop.long) in
+      let bound = loop.is_best.none_above (later between.0 loop.first) (map (later between.0) head.front ++ turn.back)
+      (record { chain = shorter.0; few = few; last = shorter.1 ∙ turn.same ∙ head.same ∙ loop.last }) in
+      let least : wcet t.early ≤ wcets_of graph t.early turn.front = at_least t.early turn.front in
+      let gain : wcets_of graph t.early turn.front ≡ wcet t.early + (wcets_of graph t.early turn.front - wcet t.early) = omega (arith, least) in
+      narrow_turns t.early turn.front turn.before between.0 (turn.ends ∙ between.1) (wcets_of graph t.early turn.front - wcet t.early) gain
+      (omega (arith, ints, bound, later_release between.0 loop.first first_in, later_wcets between.0 loop.first head.front, shorter.2, head.wcets, turn.wcets, loop.longer, least))
     where
       at_least : (first : Job) (rest : List Job) → wcet first ≤ wcets_of graph first rest
       at_least first [] = omega arith
@@ -384,13 +335,12 @@ module _ (graph : TaskGraph) (good : IsWellFormed graph) where
   late_is_narrow : (job : Job) (needs has : ℤ) → IsLate graph job needs has → HasNarrowChain graph
   late_is_narrow job needs has late =
       let b = late.best.attained in
-      let e : EndsIn graph (jobs_in_hyperperiod graph) job b.0 b.1 = b.2 in
-      let n = b.3 in let d = late.due in let l = late.late in (
+      let l = late.late in (
         b.0,
         b.1,
         record {
-          chain = e.chain;
-          late = subst (λ (j : Job). deadline_of (task_at graph j.task) j.number <ℤ needs_of graph b.0 b.1) (sym e.last) (omega (arith, ints, n, d, l));
+          chain = b.2.chain;
+          late = subst (λ (j : Job). deadline_of (task_at graph j.task) j.number <ℤ needs_of graph b.0 b.1) (sym b.2.last) (omega (arith, ints, b.3, late.due, l));
         },
       )
 

@@ -40,8 +40,8 @@ module _ (graph : TaskGraph) (good : IsWellFormed graph) (lanes : List Lane) (ar
   pub first_dates : (dues : List ℕ) → IsFirstTable graph firsts.Due (length graph.tasks) dues → length dues ≡ jobs_in_hyperperiod graph → AreUpperDates graph bests dues
   first_dates dues spread long = record {
     long = long;
-    floors = λ i p inside below. (let d = spread.each i p inside below in let b = final.due i p inside below in omega (arith, d, b));
-    due = λ i p inside below. (let d = spread.each i p inside below in omega (arith, d));
+    floors = λ i p inside below. omega (arith, spread.each i p inside below, final.due i p inside below);
+    due = λ i p inside below. omega (arith, spread.each i p inside below);
     above = λ other of i m inside.
         omega (arith, ints, of.below i m inside, spread.each i (place_in m (jobs_of graph i)) inside (place_below (jobs_of graph i) (some_jobs graph good i inside) m));
   }
@@ -57,26 +57,26 @@ module _ (graph : TaskGraph) (good : IsWellFormed graph) (lanes : List Lane) (ar
 
     -- within the periods
     dues : (i p : ℕ) → i < length graph.tasks → p < jobs_of graph i → slice_index tails (jobs_before graph i + p) ≤ (task_at graph i).clock.period
-    dues i p inside below = (let d = upper.due i p inside below in let t = (task_is graph good i inside).due.1 in omega (arith, d, t))
+    dues i p inside below = omega (arith, upper.due i p inside below, (task_is graph good i inside).due.1)
 
     order : (first second : Job) → Precedes graph first second →
         (dates_of graph tails first.task first.number +ℤ pos (task_at graph second.task).wcet) ≤ℤ dates_of graph tails second.task second.number
     order first second h =
         let at : Linked graph good lanes are first second = linked graph good lanes are first second h in
         linked_order graph good lanes are tails tails (table_rises graph good tails dues) first second at
-        (leave at.l at.lane (slice_get_within lanes at.l at.lane at.stands) at.stands at.k (let l = at.is.long in let b = at.below in omega (arith, b, l)))
+        (leave at.l at.lane (slice_get_within lanes at.l at.lane at.stands) at.stands at.k (omega (arith, at.below, at.is.long)))
 
     pub greatest : AreGreatestDeadlines graph (dates_of graph tails)
     greatest = record {
       deadlines = record {
-        below = λ i m inside. (let v = (value i m inside).1 in omega (arith, ints, v));
+        below = λ i m inside. omega (arith, ints, (value i m inside).1);
         along = order;
       };
       greatest = λ other of i m inside. upper.above other of i m inside;
     }
 
     pub rooms : (i : ℕ) (m : ℤ) → i < length graph.tasks → dates_of graph bests i m ≤ℤ dates_of graph tails i m
-    rooms i m inside = (let v = (value i m inside).0 in omega (arith, ints, v))
+    rooms i m inside = omega (arith, ints, (value i m inside).0)
 
     -- the windows of lists that repeat are those of the tables
     module _ (windows : List (List Window)) (lists : AreWindows graph bests tails (length graph.tasks) windows) where
@@ -86,13 +86,11 @@ module _ (graph : TaskGraph) (good : IsWellFormed graph) (lanes : List Lane) (ar
           omega (arith, ints, w, best_room i (place_in m (jobs_of graph i)) inside (place_below (jobs_of graph i) (some_jobs graph good i inside) m))
 
       deadline_is : (i : ℕ) (m : ℤ) → i < length graph.tasks → encoded_deadline graph windows i m ≡ dates_of graph tails i m
-      deadline_is i m inside =
-          let w : (window_at windows i m).tail ≡ slice_index tails (index_of graph i m) = ap (λ (x : Window). x.tail) (window_is graph good bests tails windows lists i inside m) in
-          omega (arith, ints, w)
+      deadline_is i m inside = omega (arith, ints, ap (λ (x : Window). x.tail) (window_is graph good bests tails windows lists i inside m))
 
       releases : AreReleases graph (encoded_release graph windows)
       releases = record {
-        above = λ i m inside. (let a = least.releases.above i m inside in let e = release_is i m inside in omega (arith, ints, a, e));
+        above = λ i m inside. omega (arith, ints, least.releases.above i m inside, release_is i m inside);
         along = λ before after h.
             (let both = both_inside graph good before after h in
             omega (arith, ints, least.releases.along before after h, release_is before.task before.number both.0, release_is after.task after.number both.1));
@@ -100,7 +98,7 @@ module _ (graph : TaskGraph) (good : IsWellFormed graph) (lanes : List Lane) (ar
 
       deadlines : AreDeadlines graph (encoded_deadline graph windows)
       deadlines = record {
-        below = λ i m inside. (let a = greatest.deadlines.below i m inside in let e = deadline_is i m inside in omega (arith, ints, a, e));
+        below = λ i m inside. omega (arith, ints, greatest.deadlines.below i m inside, deadline_is i m inside);
         along = λ before after h.
             (let both = both_inside graph good before after h in
             omega (arith, ints, greatest.deadlines.along before after h, deadline_is before.task before.number both.0, deadline_is after.task after.number both.1));
@@ -109,25 +107,25 @@ module _ (graph : TaskGraph) (good : IsWellFormed graph) (lanes : List Lane) (ar
       pub dates_made : AreEncodedDates graph windows
       dates_made = record {
         lists = lists.long;
-        some = λ i inside. (let s = (lists.each i inside).some in omega (arith, s));
+        some = λ i inside. omega (arith, (lists.each i inside).some);
         releases = record {
           releases = releases;
-          least = λ other of i m inside. (let a = least.least other of i m inside in let e = release_is i m inside in omega (arith, ints, a, e));
+          least = λ other of i m inside. omega (arith, ints, least.least other of i m inside, release_is i m inside);
         };
         deadlines = record {
           deadlines = deadlines;
-          greatest = λ other of i m inside. (let a = greatest.greatest other of i m inside in let e = deadline_is i m inside in omega (arith, ints, a, e));
+          greatest = λ other of i m inside. omega (arith, ints, greatest.greatest other of i m inside, deadline_is i m inside);
         };
       }
 
       pub room_made : HaveRoom graph windows
       room_made = record {
         room = λ i m inside.
-            (let r = rooms i m inside in let x = release_is i m inside in let y = deadline_is i m inside in omega (arith, ints, r, x, y));
+            omega (arith, ints, rooms i m inside, release_is i m inside, deadline_is i m inside);
       }
 
       pub short_made : AreShortWindows windows
-      short_made i inside = (lists.each i (let l = lists.long in omega (arith, l, inside))).short
+      short_made i inside = (lists.each i (omega (arith, lists.long, inside))).short
 
 -- the list cut to its shortest
 pub cut_made : (graph : TaskGraph) (good : IsWellFormed graph) (bests tails : List ℕ) (i : ℕ) → i < length graph.tasks → (list : List Window) → length list ≡ jobs_of graph i →

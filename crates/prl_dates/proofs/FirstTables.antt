@@ -29,11 +29,11 @@ get_same (suc n) (suc k) x d below = get_same n k x d (omega (arith, below))
 
 pub length_both : {A : Type 0} (xs ys : List A) → length (xs ++ ys) ≡ length xs + length ys
 length_both [] ys = (let e : length ys ≡ 0 + length ys = omega arith in e)
-length_both (x ∷ xs) ys = (let r = length_both xs ys in omega (arith, r))
+length_both (x ∷ xs) ys = omega (arith, length_both xs ys)
 
 pub length_same : {A : Type 0} (n : ℕ) (x : A) → length (replicate n x) ≡ n
 length_same zero x = refl
-length_same (suc n) x = (let r = length_same n x in omega (arith, r))
+length_same (suc n) x = omega (arith, length_same n x)
 
 module _ (graph : TaskGraph) where
   pub first_more : (first : First) (k : ℕ) (table : List ℕ) (value : ℕ) → IsFirstTable graph first k table → value ≡ first_of graph first k →
@@ -50,10 +50,9 @@ module _ (graph : TaskGraph) where
               get_first table (replicate (jobs_of graph k) value) (jobs_before graph i + p) 0 (omega (arith, r, l, inside)) ∙ is.each i p less inside)
           | inr above ↦
               (let e : i ≡ k = omega (arith, above, below) in
-              let q : jobs_before graph i + p ≡ length table + p = (let l = is.long in let b : jobs_before graph i ≡ jobs_before graph k = ap (λ (x : ℕ). jobs_before graph x) e in omega (arith, l, b)) in
-              let inside' : p < jobs_of graph k = subst (λ (x : ℕ). p < jobs_of graph x) e inside in
+              let q : jobs_before graph i + p ≡ length table + p = (let l = is.long in omega (arith, l, ap (λ (x : ℕ). jobs_before graph x) e)) in
               ap (λ (x : ℕ). get_or (table ++ replicate (jobs_of graph k) value) x 0) q ∙ get_second table (replicate (jobs_of graph k) value) p 0
-              ∙ get_same (jobs_of graph k) p value 0 inside' ∙ same ∙ ap (λ (x : ℕ). first_of graph first x) (sym e))
+              ∙ get_same (jobs_of graph k) p value 0 (subst (λ (x : ℕ). p < jobs_of graph x) e inside) ∙ same ∙ ap (λ (x : ℕ). first_of graph first x) (sym e))
         ];
   }
 
@@ -65,8 +64,8 @@ module _ (graph : TaskGraph) where
   index_found zero q below = absurd (omega arith)
   index_found (suc count) q below =
       elim (cases_lt q (jobs_before graph count)) [
-        | inl less ↦ (let s = index_found count q less in (s.0, s.1, (let b = s.2 in omega (arith, b)), s.3, s.4))
-        | inr above ↦ (count, q - jobs_before graph count, (omega arith), (omega (arith, above, below)), (omega (arith, above)))
+        | inl less ↦ (let s = index_found count q less in (s.0, s.1, omega (arith, s.2), s.3, s.4))
+        | inr above ↦ (count, q - jobs_before graph count, (omega arith), omega (arith, above, below), omega (arith, above))
       ]
 
   pub first_within : (first : First) (table : List ℕ) (bound : ℕ) → IsFirstTable graph first (length graph.tasks) table →
@@ -74,15 +73,14 @@ module _ (graph : TaskGraph) where
   first_within first table bound is each q =
       elim (cases_lt q (length table)) [
         | inl inside ↦
-            (let s = index_found (length graph.tasks) q (let l = is.long in omega (arith, l, inside)) in
-            let v : slice_index table q ≡ first_of graph first s.0 = ap (λ (x : ℕ). slice_index table x) s.4 ∙ is.each s.0 s.1 s.2 s.3 in
-            omega (arith, v, each s.0 s.2))
-        | inr past ↦ (let z = get_past table q 0 past in omega (arith, z))
+            (let s = index_found (length graph.tasks) q (omega (arith, is.long, inside)) in
+            omega (arith, ap (λ (x : ℕ). slice_index table x) s.4 ∙ is.each s.0 s.1 s.2 s.3, each s.0 s.2))
+        | inr past ↦ omega (arith, get_past table q 0 past)
       ]
 
   pub first_one : (first : First) (a b : List ℕ) → IsFirstTable graph first (length graph.tasks) a → IsFirstTable graph first (length graph.tasks) b → a ≡ b
   first_one first a b of_a of_b =
       ext_get_or 0 a b (of_a.long ∙ sym of_b.long)
       (λ q below.
-      (let s = index_found (length graph.tasks) q (let l = of_a.long in omega (arith, l, below)) in
+      (let s = index_found (length graph.tasks) q (omega (arith, of_a.long, below)) in
       ap (λ (x : ℕ). get_or a x 0) s.4 ∙ of_a.each s.0 s.1 s.2 s.3 ∙ sym (of_b.each s.0 s.1 s.2 s.3) ∙ sym (ap (λ (x : ℕ). get_or b x 0) s.4)))

@@ -19,10 +19,9 @@ place_again len some (pos n) =
 place_again len some (negsuc n) =
     elim (cases_lt n len) [
       | inl below ↦
-          (let low : n % len ≡ n = mod-eq_of_lt below in
-          let at : negsuc n +ℤ pos len ≡ pos (len - 1 - n) = omega (arith, ints, below) in
+          (let at : negsuc n +ℤ pos len ≡ pos (len - 1 - n) = omega (arith, ints, below) in
           let m : (len - 1 - n) % len ≡ len - 1 - n = mod-eq_of_lt (let e : len - 1 - n < len = omega (arith, some) in e) in
-          ap (λ (z : ℤ). place_in z len) at ∙ m ∙ ap (λ (k : ℕ). len - 1 - k) (sym low))
+          ap (λ (z : ℤ). place_in z len) at ∙ m ∙ ap (λ (k : ℕ). len - 1 - k) (sym (mod-eq_of_lt below)))
       | inr above ↦
           (let at : negsuc n +ℤ pos len ≡ negsuc (n - len) = omega (arith, ints, above) in
           let back : n - len + 1 * len ≡ n = omega (arith, above) in
@@ -51,14 +50,13 @@ module _ (graph : TaskGraph) where
   pub one_index : (i j p q : ℕ) → p < jobs_of graph i → q < jobs_of graph j → jobs_before graph i + p ≡ jobs_before graph j + q → (i ≡ j) × (p ≡ q)
   one_index i j p q first second same =
       elim (cases_lt i j) [
-        | inl less ↦ absurd (let r = before_rises i j less in omega (arith, r, same, first))
+        | inl less ↦ absurd (omega (arith, before_rises i j less, same, first))
         | inr above ↦
             elim (cases_lt j i) [
-              | inl less ↦ absurd (let r = before_rises j i less in omega (arith, r, same, second))
+              | inl less ↦ absurd (omega (arith, before_rises j i less, same, second))
               | inr under ↦
                   (let e : i ≡ j = omega (arith, above, under) in
-                  let b : jobs_before graph i ≡ jobs_before graph j = ap (λ (x : ℕ). jobs_before graph x) e in
-                  (e, omega (arith, b, same)))
+                  (e, omega (arith, ap (λ (x : ℕ). jobs_before graph x) e, same)))
             ]
       ]
 
@@ -68,16 +66,13 @@ module _ (graph : TaskGraph) where
   sum_more f (t ∷ tasks) (suc k) below =
       (let r = sum_more f tasks k (omega arith) in
       let first : sum (f t ∷ map f (take (suc k) tasks)) ≡ f t + sum (map f (take (suc k) tasks)) = sum_by-cons (λ (x : ℕ). x) (f t) (map f (take (suc k) tasks)) in
-      let second : sum (f t ∷ map f (take k tasks)) ≡ f t + sum (map f (take k tasks)) = sum_by-cons (λ (x : ℕ). x) (f t) (map f (take k tasks)) in
       first ∙ (let e : f t + sum (map f (take (suc k) tasks)) ≡ f t + sum (map f (take k tasks)) + f (slice_index_or tasks k no_task) = omega (arith, r) in e)
-      ∙ ap (λ (x : ℕ). x + f (slice_index_or tasks k no_task)) (sym second))
+      ∙ ap (λ (x : ℕ). x + f (slice_index_or tasks k no_task)) (sym (sum_by-cons (λ (x : ℕ). x) (f t) (map f (take k tasks)))))
 
   before_is : (i : ℕ) → i ≤ length graph.tasks → jobs_before graph i ≡ sum (map (λ (t : Task). graph.hyper / t.clock.period) (take i graph.tasks))
   before_is zero within = refl
   before_is (suc i) within =
-      (let r = before_is i (omega arith) in
-      let s = sum_more (λ (t : Task). graph.hyper / t.clock.period) graph.tasks i (omega arith) in
-      omega (arith, r, s))
+      omega (arith, before_is i (omega arith), sum_more (λ (t : Task). graph.hyper / t.clock.period) graph.tasks i (omega arith))
 
   take_whole : {A : Type 0} (xs : List A) → take (length xs) xs ≡ xs
   take_whole [] = refl
@@ -90,7 +85,7 @@ module _ (graph : TaskGraph) where
       ∙ ap (λ (ts : List Task). sum (map (λ (t : Task). graph.hyper / t.clock.period) ts)) (take_whole graph.tasks)
 
   pub index_below : (i p : ℕ) → i < length graph.tasks → p < jobs_of graph i → jobs_before graph i + p < jobs_in_hyperperiod graph
-  index_below i p inside below = (let r = before_rises i (length graph.tasks) inside in let a = before_all in omega (arith, r, a))
+  index_below i p inside below = omega (arith, before_rises i (length graph.tasks) inside, before_all)
 
   module _ (good : IsWellFormed graph) where
     pub jobs_are : (i : ℕ) → i < length graph.tasks → graph.hyper ≡ jobs_of graph i * (task_at graph i).clock.period
@@ -104,7 +99,7 @@ module _ (graph : TaskGraph) where
     some_jobs i inside = go (jobs_of graph i) (jobs_are i inside)
       where
         go : (jobs : ℕ) → graph.hyper ≡ jobs * (task_at graph i).clock.period → 1 ≤ jobs
-        go zero is = absurd (let z : 0 * (task_at graph i).clock.period ≡ 0 = omega arith in let h = good.hyper in omega (arith, z, is, h))
+        go zero is = absurd (let z : 0 * (task_at graph i).clock.period ≡ 0 = omega arith in omega (arith, z, is, good.hyper))
         go (suc jobs) is = omega arith
 
     pub index_again : (i : ℕ) → i < length graph.tasks → (m : ℤ) → index_of graph i (m +ℤ pos (jobs_of graph i)) ≡ index_of graph i m

@@ -30,7 +30,7 @@ got_pushed (z ∷ xs) x y zero is = inl is
 got_pushed (z ∷ xs) x y (suc k) is =
     elim (got_pushed xs x y k is) [
       | inl old ↦ inl old
-      | inr new ↦ inr ((let e = new.0 in omega (arith, e)), new.1)
+      | inr new ↦ inr (omega (arith, new.0), new.1)
     ]
 
 pub got_kept : {A : Type 0} (xs : List A) (x y : A) (k : ℕ) → slice_get xs k ≡ Some y → slice_get (xs ++ x ∷ []) k ≡ Some y
@@ -45,14 +45,14 @@ got_last (z ∷ xs) x = got_last xs x
 -- what fits lies between two bounds
 pub fits_low : (z : ℤ) → Fits64 z → negsuc (2 ^ 63 - 1) ≤ℤ z
 fits_low (pos n) fits = omega (arith, ints)
-fits_low (negsuc n) fits = (let f = fits.sfits in omega (arith, ints, f))
+fits_low (negsuc n) fits = omega (arith, ints, fits.sfits)
 
 pub fits_between : (z : ℤ) → negsuc (2 ^ 63 - 1) ≤ℤ z → z ≤ℤ pos (2 ^ 63 - 1) → Fits64 z
 fits_between (pos n) low high = record { sfits = omega (arith, ints, high) }
 fits_between (negsuc n) low high = record { sfits = omega (arith, ints, low) }
 
 pub fits_high : (z : ℤ) → Fits64 z → z ≤ℤ pos (2 ^ 63 - 1)
-fits_high (pos n) fits = (let f = fits.sfits in omega (arith, ints, f))
+fits_high (pos n) fits = omega (arith, ints, fits.sfits)
 fits_high (negsuc n) fits = omega (arith, ints)
 
 -- a factor of what fits
@@ -67,10 +67,9 @@ takes_unit : (hyper : ℕ) (ops : List Op) (producer consumer : Clock) → TakeC
     TakeClock hyper (ops ++ operators.Down producer.period ∷ []) (record { period = 1; start = producer.start }) consumer
 takes_unit hyper [] producer consumer takes =
     let one : consumer.period ≡ producer.period * 1 = ap (λ (c : Clock). c.period) takes.2 ∙ (let e : producer.period ≡ producer.period * 1 = omega arith in e) in
-    let at : consumer.start ≡ producer.start = ap (λ (c : Clock). c.start) takes.2 in
     let some : 1 ≤ 1 = omega arith in
     let div : hyper ≡ hyper * 1 = omega arith in
-    (takes.0, takes.1, (record { period = 1; start = producer.start }, (one, at), (some, (hyper, div), refl)))
+    (takes.0, takes.1, (record { period = 1; start = producer.start }, (one, ap (λ (c : Clock). c.start) takes.2), (some, (hyper, div), refl)))
 takes_unit hyper (op ∷ ops) producer consumer takes = (takes.0, takes.1, (takes.2.0, takes.2.1, takes_unit hyper ops producer takes.2.0 takes.2.2))
 
 fits_last : (ops : List Op) (k : ℕ) (n : ℤ) → PrecedingFits (ops ++ operators.Down k ∷ []) n → Fits64 (pos k *ℤ preceding ops n)
@@ -79,7 +78,7 @@ fits_last (op ∷ ops) k n fits = fits_last ops k (preceding_number op n) (fits_
 
 more_ops : (ops : List Op) (op : Op) → length (ops ++ op ∷ []) ≡ length ops + 1
 more_ops [] op = refl
-more_ops (x ∷ ops) op = (let r = more_ops ops op in omega (arith, r))
+more_ops (x ∷ ops) op = omega (arith, more_ops ops op)
 
 module _ (graph : TaskGraph) (good : IsWellFormed graph) where
   ops_small : (edge : Edge) → IsEdge graph edge → (length edge.ops + 1) * graph.hyper ≤ 2 ^ 32 * 10000000
@@ -116,9 +115,8 @@ module _ (graph : TaskGraph) (good : IsWellFormed graph) where
     pub joined_product : Fits64 (preceding edge.ops (pos n) *ℤ pos (task_at graph i).clock.period)
     joined_product =
         let period : ℕ = (task_at graph i).clock.period in
-        let l = more_ops edge.ops (operators.Down (task_at graph i).clock.period) in
         let longer : length (edge.ops ++ operators.Down (task_at graph i).clock.period ∷ []) * graph.hyper ≡ (length edge.ops + 1) * graph.hyper =
-        ap (λ (x : ℕ). x * graph.hyper) l in
+        ap (λ (x : ℕ). x * graph.hyper) (more_ops edge.ops (operators.Down (task_at graph i).clock.period)) in
         let whole = preceding_fits graph.hyper (edge.ops ++ operators.Down (task_at graph i).clock.period ∷ [])
         (record { period = 1; start = (task_at graph i).clock.start }) (task_at graph edge.to.0).clock good.hyper
         (takes_unit graph.hyper edge.ops (task_at graph i).clock (task_at graph edge.to.0).clock takes) (pos n) 10000000 at_consumer
@@ -150,13 +148,11 @@ module _ (graph : TaskGraph) (good : IsWellFormed graph) where
 
   pub are_near : (i j n : ℕ) (m : ℤ) → i < length graph.tasks → j < length graph.tasks → n < jobs_of graph j → IsGreatestBefore graph i j (pos n) m → AreNear i j n m
   are_near i j n m first second below greatest =
-      let edge : Edge = greatest.attained.0 in
-      let joins : Joins graph i j edge = greatest.attained.1 in
-      let same : preceding edge.ops (pos n) ≡ m = greatest.attained.2 in
+      let joins : Joins graph i j greatest.attained.0 = greatest.attained.1 in
       let product : Fits64 (m *ℤ pos (task_at graph i).clock.period) =
-      subst (λ (z : ℤ). Fits64 (z *ℤ pos (task_at graph i).clock.period)) same (joined_product i j edge joins n below) in
+      subst (λ (z : ℤ). Fits64 (z *ℤ pos (task_at graph i).clock.period)) greatest.attained.2 (joined_product i j greatest.attained.0 joins n below) in
       let order = released_first graph good (record { task = i; number = m }) (record { task = j; number = pos n })
-      (joins.stands.0, edge, joins.stands.1, record { from = joins.from; to = joins.to; number = sym same }) in
+      (joins.stands.0, greatest.attained.0, joins.stands.1, record { from = joins.from; to = joins.to; number = sym greatest.attained.2 }) in
       let d = date_small j n second below in
       let later : release_of (task_at graph j) (pos n) ≤ℤ pos (2 ^ 31 + 10000000) = omega (arith, ints, d, (task_is graph good j second).start) in
       let some : pos 0 ≤ℤ release_of (task_at graph j) (pos n) = omega (arith, ints) in
@@ -178,7 +174,7 @@ module _ (graph : TaskGraph) (good : IsWellFormed graph) where
   apart a b gap order is = go (a -ℤ b) refl is
     where
       go : (d : ℤ) → a -ℤ b ≡ d → gap ≡ unsigned_abs d → a ≡ b +ℤ pos gap
-      go (pos n) at same = (let g : gap ≡ n = same in omega (arith, ints, at, g))
+      go (pos n) at same = omega (arith, ints, at, same)
       go (negsuc n) at same = absurd (omega (arith, ints, at, order))
 
   pub link_made : (i j n : ℕ) (m : ℤ) → AreNear i j n m → (link : Link) → link.from ≡ jobs_before graph i + place_in m (jobs_of graph i) →
@@ -213,15 +209,15 @@ module _ (graph : TaskGraph) (good : IsWellFormed graph) where
   greatest_more i j e edge stands from to numbers later are long each = record {
     long = long ∙ are.long;
     attained = λ n below.
-        (let at = each n (let l = are.long in omega (arith, l, below)) in
+        (let at = each n (omega (arith, are.long, below)) in
         elim (max_either (slice_index_or numbers n (pos 0)) (preceding edge.ops (pos n))) [
           | inl old ↦ (let a = are.attained n below in (a.0, a.1, a.2 ∙ sym old ∙ sym at))
           | inr new ↦ (edge, record { stands = (e, stands); from = from; to = to }, sym new ∙ sym at)
         ]);
     above = λ n below e' edge' less stands' from' to'.
-        (let at = each n (let l = are.long in omega (arith, l, below)) in
+        (let at = each n (omega (arith, are.long, below)) in
         elim (cases_lt e' e) [
-          | inl before ↦ (let a = are.above n below e' edge' before stands' from' to' in omega (arith, ints, clamps, a, at))
+          | inl before ↦ omega (arith, ints, clamps, are.above n below e' edge' before stands' from' to', at)
           | inr last ↦
               (let s : e' ≡ e = omega (arith, last, less) in
               let o : edge ≡ edge' = same_edge graph.edges e edge edge' stands (subst (λ (x : ℕ). slice_get graph.edges x ≡ Some edge') s stands') in
@@ -276,9 +272,7 @@ module _ (graph : TaskGraph) (good : IsWellFormed graph) where
         elim (cases_lt k (length lane.links)) [
           | inl inside ↦ (each k (link_at lane k) (slice_get-get_or lane.links k no_link inside)).small
           | inr past ↦
-              (let e : link_at lane k ≡ no_link = get_or_past lane.links k no_link past in
-              let g : (link_at lane k).gap ≡ 0 = ap (λ (x : Link). x.gap) e in
-              omega (arith, g))
+              omega (arith, ap (λ (x : Link). x.gap) (get_or_past lane.links k no_link past))
         ];
   }
     where

@@ -21,9 +21,8 @@ module _ (graph : TaskGraph) (good : IsWellFormed graph) where
   joins_shift i j edge joins n =
       let is : IsEdge graph edge = joined_edge i j edge joins in
       let inside : i < length graph.tasks = source_inside graph edge is edge.from refl i joins.from in
-      let to : graph.hyper ≡ jobs_of graph edge.to.0 * (task_at graph edge.to.0).clock.period = jobs_are graph good edge.to.0 is.to in
       subst (λ (k : ℕ). preceding edge.ops (n +ℤ pos (jobs_of graph k)) ≡ preceding edge.ops n +ℤ pos (jobs_of graph i)) joins.to
-      (edge_precedes graph good edge is i (jobs_of graph edge.to.0) (jobs_of graph i) joins.from to (jobs_are graph good i inside) n)
+      (edge_precedes graph good edge is i (jobs_of graph edge.to.0) (jobs_of graph i) joins.from (jobs_are graph good edge.to.0 is.to) (jobs_are graph good i inside) n)
 
   module _ (lane : Lane) (lanes : IsLane graph lane) (k : ℕ) where
     c : ℤ
@@ -43,12 +42,11 @@ module _ (graph : TaskGraph) (good : IsWellFormed graph) where
               ∙ ap (λ (z : ℤ). z +ℤ pos (jobs_of graph lane.from.0)) link.greatest.attained.2,
         );
         above = λ edge joins.
-            (let s = joins_shift lane.from.0 lane.to.0 edge joins n in let a = link.greatest.above edge joins in omega (arith, ints, s, a));
+            omega (arith, ints, joins_shift lane.from.0 lane.to.0 edge joins n, link.greatest.above edge joins);
       };
       index = index_again graph good lane.from.0 lanes.from m ∙ link.index;
       gap =
-          (let a = release_again graph good lane.to.0 lanes.to n in let b = release_again graph good lane.from.0 lanes.from m in
-          omega (arith, ints, a, b, link.gap));
+          omega (arith, ints, release_again graph good lane.to.0 lanes.to n, release_again graph good lane.from.0 lanes.from m, link.gap);
     }
 
     pub link_down : (n m : ℤ) → IsLink graph lane k (n +ℤ pos (jobs_of graph lane.to.0)) (m +ℤ pos (jobs_of graph lane.from.0)) → IsLink graph lane k n m
@@ -62,12 +60,11 @@ module _ (graph : TaskGraph) (good : IsWellFormed graph) where
               let g : preceding link.greatest.attained.0.ops n ≡ m = omega (arith, ints, s, link.greatest.attained.2) in g),
         );
         above = λ edge joins.
-            (let s = joins_shift lane.from.0 lane.to.0 edge joins n in let a = link.greatest.above edge joins in omega (arith, ints, s, a));
+            (let s = joins_shift lane.from.0 lane.to.0 edge joins n in omega (arith, ints, s, link.greatest.above edge joins));
       };
       index = sym (index_again graph good lane.from.0 lanes.from m) ∙ link.index;
       gap =
-          (let a = release_again graph good lane.to.0 lanes.to n in let b = release_again graph good lane.from.0 lanes.from m in
-          omega (arith, ints, a, b, link.gap));
+          omega (arith, ints, release_again graph good lane.to.0 lanes.to n, release_again graph good lane.from.0 lanes.from m, link.gap);
     }
 
     back_again : (m : ℤ) (len : ℕ) → (m -ℤ pos len) +ℤ pos len ≡ m
@@ -116,7 +113,7 @@ module _ (graph : TaskGraph) (good : IsWellFormed graph) where
     pub link_from : k < jobs_of graph lane.to.0 → (m : ℤ) → index_of graph lane.from.0 m ≡ (link_at lane k).from → (n : ℤ) × IsLink graph lane k n m
     link_from below m index =
         let first = lanes.links k below in
-        from_alike first.0 (pos k, first.1) m (let s = first.1.index in omega (arith, s, index))
+        from_alike first.0 (pos k, first.1) m (omega (arith, first.1.index, index))
 
   -- each job of the lane's later task has a link
   pub link_to : (lane : Lane) → IsLane graph lane → (n : ℤ) → (m : ℤ) × IsLink graph lane (place_in n (jobs_of graph lane.to.0)) n m
@@ -140,6 +137,5 @@ module _ (graph : TaskGraph) (good : IsWellFormed graph) where
   -- the jobs of a link precede one another
   pub link_precedes : (lane : Lane) (k : ℕ) (n m : ℤ) → IsLink graph lane k n m → Precedes graph (record { task = lane.from.0; number = m }) (record { task = lane.to.0; number = n })
   link_precedes lane k n m link =
-      let edge : Edge = link.greatest.attained.0 in
-      let joins : Joins graph lane.from.0 lane.to.0 edge = link.greatest.attained.1 in
-      (joins.stands.0, edge, joins.stands.1, record { from = joins.from; to = joins.to; number = sym link.greatest.attained.2 })
+      let joins : Joins graph lane.from.0 lane.to.0 link.greatest.attained.0 = link.greatest.attained.1 in
+      (joins.stands.0, link.greatest.attained.0, joins.stands.1, record { from = joins.from; to = joins.to; number = sym link.greatest.attained.2 })

@@ -30,27 +30,23 @@ module _ (graph : TaskGraph) (good : IsWellFormed graph) (floor table : List ℕ
     (lane : Lane) (is : IsLane graph lane) (k : ℕ) (inside : k < length lane.links)
     (floors : Leaves lane (task_at graph lane.to.0).wcet floor floor k) where
   below : k < jobs_of graph lane.to.0
-  below = (let l = is.long in omega (arith, l, inside))
+  below = omega (arith, is.long, inside)
 
-  first_job : ℤ
-  first_job = (is.links k (let l = is.long in omega (arith, l, inside))).0
-
-  first_link : IsLink graph lane k (pos k) (is.links k (let l = is.long in omega (arith, l, inside))).0
-  first_link = (is.links k (let l = is.long in omega (arith, l, inside))).1
+  first_link : IsLink graph lane k (pos k) (is.links k (omega (arith, is.long, inside))).0
+  first_link = (is.links k (omega (arith, is.long, inside))).1
 
   first_place : ℕ
-  first_place = place_in (is.links k (let l = is.long in omega (arith, l, inside))).0 (jobs_of graph lane.from.0)
+  first_place = place_in (is.links k (omega (arith, is.long, inside))).0 (jobs_of graph lane.from.0)
 
-  place_inside : place_in (is.links k (let l = is.long in omega (arith, l, inside))).0 (jobs_of graph lane.from.0) < jobs_of graph lane.from.0
-  place_inside =
-      place_below (jobs_of graph lane.from.0) (some_jobs graph good lane.from.0 is.from) (is.links k (let l = is.long in omega (arith, l, inside))).0
+  place_inside : place_in (is.links k (omega (arith, is.long, inside))).0 (jobs_of graph lane.from.0) < jobs_of graph lane.from.0
+  place_inside = place_below (jobs_of graph lane.from.0) (some_jobs graph good lane.from.0 is.from) (is.links k (omega (arith, is.long, inside))).0
 
   -- the link's indices, and the dates in them
   pub from_inside : (link_at lane k).from < length table
-  from_inside = (let f = links_from graph good lane is k inside in let l = are.long in omega (arith, f, l))
+  from_inside = omega (arith, links_from graph good lane is k inside, are.long)
 
   pub to_inside : lane.first + k < length table
-  to_inside = (let t = links_to graph good lane is in let l = are.long in omega (arith, t, l, inside))
+  to_inside = omega (arith, links_to graph good lane is, are.long, inside)
 
   pub to_floor : slice_index floor (lane.first + k) ≤ slice_index table (lane.first + k)
   to_floor =
@@ -61,7 +57,7 @@ module _ (graph : TaskGraph) (good : IsWellFormed graph) (floor table : List ℕ
 
   -- what the later job asks for, after its WCET
   pub room : (task_at graph lane.to.0).wcet ≤ slice_index table (lane.first + k) + (link_at lane k).gap
-  room = (let t = to_floor in let f = floors in omega (arith, t, f))
+  room = omega (arith, to_floor, floors)
 
   module _ (value : ℕ) (asked : value ≡ slice_index table (lane.first + k) + (link_at lane k).gap - (task_at graph lane.to.0).wcet)
       (less : value < slice_index table (link_at lane k).from) where
@@ -95,25 +91,20 @@ module _ (graph : TaskGraph) (good : IsWellFormed graph) (floor table : List ℕ
       floors = λ i p task job.
           elim (set_index table (link_at lane k).from (jobs_before graph i + p) value from_inside) [
             | inl here ↦
-                (let f : slice_index floor (jobs_before graph i + p) ≡ slice_index floor (link_at lane k).from = ap (λ (x : ℕ). slice_index floor x) here.0 in
-                let v = here.1 in let t = to_floor in let l = floors in
-                omega (arith, f, v, t, l, asked))
-            | inr there ↦ (let f = are.floors i p task job in let v = there.1 in omega (arith, f, v))
+                omega (arith, ap (λ (x : ℕ). slice_index floor x) here.0, here.1, to_floor, floors, asked)
+            | inr there ↦ omega (arith, are.floors i p task job, there.1)
           ];
       due = λ i p task job.
           elim (set_index table (link_at lane k).from (jobs_before graph i + p) value from_inside) [
             | inl here ↦
-                (let e : slice_index table (jobs_before graph i + p) ≡ slice_index table (link_at lane k).from = ap (λ (x : ℕ). slice_index table x) here.0 in
-                omega (arith, are.due i p task job, e, here.1, less))
-            | inr there ↦ (let d = are.due i p task job in let v = there.1 in omega (arith, d, v))
+                omega (arith, are.due i p task job, ap (λ (x : ℕ). slice_index table x) here.0, here.1, less)
+            | inr there ↦ omega (arith, are.due i p task job, there.1)
           ];
       above = lowered_above;
     }
 
     pub sum_less : sum (set table (link_at lane k).from value) < sum table
-    sum_less =
-        (let s = sum_by-set (λ (x : ℕ). x) table (link_at lane k).from value 0 from_inside in
-        omega (arith, s, less))
+    sum_less = omega (arith, sum_by-set (λ (x : ℕ). x) table (link_at lane k).from value 0 from_inside, less)
 
 -- one link more, of the lane's links under another name
 module _ (graph : TaskGraph) (good : IsWellFormed graph) (floor : List ℕ) (lane : Lane) (is : IsLane graph lane)
@@ -136,18 +127,15 @@ module _ (graph : TaskGraph) (good : IsWellFormed graph) (floor : List ℕ) (lan
   index_from = subst (λ (x : Link). x.from < length table) (sym link_is) (from_inside graph good floor table so_far.dates lane is k at (floors k at))
 
   pub few_indices : length table ≤ 20000
-  few_indices = (let l = so_far.dates.long in let f = good.few_jobs in omega (arith, l, f))
+  few_indices = omega (arith, so_far.dates.long, good.few_jobs)
 
   pub sum_fits : get_or table (lane.first + k) 0 + (get_or links k no_link).gap < 2 ^ 64
   sum_fits =
       (let t = task_is graph good lane.to.0 is.to in
-      let e : (get_or links k no_link).gap ≡ (link_at lane k).gap = ap (λ (x : Link). x.gap) link_is in
-      omega (arith, to_small graph good floor table so_far.dates lane is k at (floors k at), t.due.1, t.period.1, is.small k, e))
+      omega (arith, to_small graph good floor table so_far.dates lane is k at (floors k at), t.due.1, t.period.1, is.small k, ap (λ (x : Link). x.gap) link_is))
 
   pub room_is : wcet ≤ get_or table (lane.first + k) 0 + (get_or links k no_link).gap
-  room_is =
-      (let e : (get_or links k no_link).gap ≡ (link_at lane k).gap = ap (λ (x : Link). x.gap) link_is in
-      omega (arith, room graph good floor table so_far.dates lane is k at (floors k at), e, own))
+  room_is = omega (arith, room graph good floor table so_far.dates lane is k at (floors k at), ap (λ (x : Link). x.gap) link_is, own)
 
   pub lowered_more : get_or table (lane.first + k) 0 + (get_or links k no_link).gap - wcet < get_or table (get_or links k no_link).from 0 →
       IsLowering graph floor lane (k + 1) old
@@ -158,10 +146,9 @@ module _ (graph : TaskGraph) (good : IsWellFormed graph) (floor : List ℕ) (lan
       let less' : get_or table (lane.first + k) 0 + (get_or links k no_link).gap - wcet < slice_index table (link_at lane k).from =
       subst (λ (x : ℕ). get_or table (lane.first + k) 0 + (get_or links k no_link).gap - wcet < get_or table x 0) from less in
       let dates = lowered graph good floor table so_far.dates lane is k at (floors k at) value limit_is less' in
-      let sums = sum_less graph good floor table so_far.dates lane is k at (floors k at) value limit_is less' in
       let here : IsLowering graph floor lane (k + 1) old (set table (link_at lane k).from value) true = record {
         dates = dates;
-        less = λ yes. fallen before so_far sums;
+        less = λ yes. fallen before so_far (sum_less graph good floor table so_far.dates lane is k at (floors k at) value limit_is less');
         same = λ no. absurd (let e : ◌≡◌ {A = Bool} true false = no in cc);
         asks = λ no. absurd (let e : ◌≡◌ {A = Bool} true false = no in cc);
       } in
@@ -183,9 +170,7 @@ module _ (graph : TaskGraph) (good : IsWellFormed graph) (floor : List ℕ) (lan
           | inr above ↦
               (let e : k ≡ j = omega (arith, above, below) in
               let here : Leaves lane (task_at graph lane.to.0).wcet table table k =
-              (let g : (get_or links k no_link).gap ≡ (link_at lane k).gap = ap (λ (x : Link). x.gap) link_is in
-              let f : get_or table (get_or links k no_link).from 0 ≡ slice_index table (link_at lane k).from = ap (λ (x : Link). get_or table x.from 0) link_is in
-              omega (arith, room_is, g, f, low, own)) in
+              (omega (arith, room_is, ap (λ (x : Link). x.gap) link_is, ap (λ (x : Link). get_or table x.from 0) link_is, low, own)) in
               subst (λ (x : ℕ). Leaves lane (task_at graph lane.to.0).wcet table table x) e here)
         ];
   }

@@ -27,13 +27,11 @@ task_read graph xs i d same below = ap (λ (ts : List Task). get_or ts i d) same
 pub before_few : (graph : TaskGraph) → IsWellFormed graph → (i : ℕ) → i ≤ length graph.tasks → jobs_before graph i ≤ 20000
 before_few graph good i within =
     let a = before_all graph in
-    let f = good.few_jobs in
     elim (cases_lt i (length graph.tasks)) [
-      | inl less ↦ (let r = before_rises graph i (length graph.tasks) less in omega (arith, a, f, r))
+      | inl less ↦ omega (arith, a, good.few_jobs, before_rises graph i (length graph.tasks) less)
       | inr all ↦
           (let e : i ≡ length graph.tasks = omega arith in
-          let s : jobs_before graph i ≡ jobs_before graph (length graph.tasks) = ap (λ (x : ℕ). jobs_before graph x) e in
-          omega (arith, a, f, s))
+          omega (arith, a, good.few_jobs, ap (λ (x : ℕ). jobs_before graph x) e))
     ]
 
 pub before_next : (graph : TaskGraph) (i : ℕ) → jobs_before graph (i + 1) ≡ jobs_before graph i + jobs_of graph i
@@ -41,11 +39,11 @@ before_next graph i = ap (λ (n : ℕ). jobs_before graph n) (let e : i + 1 ≡ 
 
 -- the indices of a task are in the tables
 pub indices_inside : (graph : TaskGraph) (i : ℕ) → i < length graph.tasks → jobs_before graph i + jobs_of graph i ≤ jobs_in_hyperperiod graph
-indices_inside graph i inside = (let r = before_rises graph i (length graph.tasks) inside in let a = before_all graph in omega (arith, r, a))
+indices_inside graph i inside = omega (arith, before_rises graph i (length graph.tasks) inside, before_all graph)
 
 -- the numbers on the way to a job that precedes fit one operator after the other
 pub pred_same : (n : ℤ) → n -ℤ pos 1 ≡ pred_ℤ n
-pred_same n = (let e = pred_is n in omega (arith, ints, e))
+pred_same n = omega (arith, ints, pred_is n)
 
 pub fits_rest : (op : Op) (ops : List Op) (n : ℤ) → PrecedingFits (op ∷ ops) n → PrecedingFits ops (preceding_number op n)
 fits_rest (operators.Up k) ops n fits = fits.1

@@ -52,7 +52,7 @@ module _ (graph : TaskGraph) (lanes : List Lane) (l : ℕ) (lane : Lane) (stands
     long = round.long;
     up = round.up;
     asks = lane_more (λ (x : Lane). (k : ℕ) → k < length x.links → Leaves x (task_at graph x.to.0).wcet now next k) lanes l lane stands round.asks
-        (λ k inside. let a : Leaves lane (task_at graph lane.to.0).wcet now now k = settled k inside in let u = round.up (lane.first + k) in omega (arith, a, u));
+        (λ k inside. omega (arith, settled k inside, round.up (lane.first + k)));
     only = round.only;
   }
 
@@ -68,7 +68,7 @@ module _ (graph : TaskGraph) (good : IsWellFormed graph) where
   -- the indices of a lane's links are in the tables
   pub links_from : (lane : Lane) → IsLane graph lane → (k : ℕ) → k < length lane.links → (link_at lane k).from < jobs_in_hyperperiod graph
   links_from lane is k inside =
-      let link = is.links k (let l = is.long in omega (arith, l, inside)) in
+      let link = is.links k (omega (arith, is.long, inside)) in
       let below = index_below graph lane.from.0 (place_in link.0 (jobs_of graph lane.from.0)) is.from
       (place_below (jobs_of graph lane.from.0) (some_jobs graph good lane.from.0 is.from) link.0) in
       omega (arith, below, link.1.index)
@@ -81,7 +81,7 @@ module _ (graph : TaskGraph) (good : IsWellFormed graph) where
     pub next_within : (bound : ℕ) → AreWithin now bound → AreWithin next (bound + 2 ^ 31)
     next_within bound within q =
         elim (round.only q) [
-          | inl same ↦ (let w = within q in omega (arith, same, w))
+          | inl same ↦ omega (arith, same, within q)
           | inr by ↦
               (let e : slice_index next q ≡ slice_index next (by.1.first + by.3) = ap (λ (x : ℕ). slice_index next x) by.5 in
               omega (arith, within (link_at by.1 by.3).from, (task_is graph good by.1.to.0 (are by.0 by.1 by.2).to).wcet.1, by.6, e))
@@ -92,9 +92,8 @@ module _ (graph : TaskGraph) (good : IsWellFormed graph) where
     next_settled rose marked l lane stands unmarked k inside =
         let is = are l lane stands in
         let a : Leaves lane (task_at graph lane.to.0).wcet now next k = round.asks l lane (slice_get_within lanes l lane stands) stands k inside in
-        let link = is.links k (let l = is.long in omega (arith, l, inside)) in
+        let link = is.links k (omega (arith, is.long, inside)) in
         let below : place_in link.0 (jobs_of graph lane.from.0) < jobs_of graph lane.from.0 =
         place_below (jobs_of graph lane.from.0) (some_jobs graph good lane.from.0 is.from) link.0 in
-        let x : slice_index next (index_of graph lane.from.0 link.0) ≡ slice_index next (link_at lane k).from = ap (λ (q : ℕ). slice_index next q) link.1.index in
         let y : slice_index now (index_of graph lane.from.0 link.0) ≡ slice_index now (link_at lane k).from = ap (λ (q : ℕ). slice_index now q) link.1.index in
-        omega (arith, a, marked lane.from.0 (place_in link.0 (jobs_of graph lane.from.0)) is.from unmarked below, x, y)
+        omega (arith, a, marked lane.from.0 (place_in link.0 (jobs_of graph lane.from.0)) is.from unmarked below, ap (λ (q : ℕ). slice_index next q) link.1.index, y)

@@ -39,8 +39,7 @@ job_small : (graph : TaskGraph) (good : IsWellFormed graph) (i n : ℕ) → i < 
 job_small graph good i n inside below t is =
     subst (λ (x : Task). (x.clock.start + n * x.clock.period ≤ 2 ^ 32) × (x.due < 2 ^ 31)) (sym is)
     (let task = task_is graph good i inside in
-    let s = task.start in let p = task.period.1 in let d = task.due.1 in let n = date_small graph good i n inside below in
-    ((omega (arith, s, n)), (omega (arith, p, d))))
+    (omega (arith, task.start, date_small graph good i n inside below), omega (arith, task.period.1, task.due.1)))
 
 -- a task that is read, and the parts of the dates of a job of it
 pub record IsSmall (graph : TaskGraph) (i n : ℕ) (t : Task) : Type 0 where
@@ -89,7 +88,7 @@ module _ (graph : TaskGraph) (good : IsWellFormed graph) where
           none_above = λ first rest ends. alone job first rest ends (dates_of graph table job.task job.number) v;
         });
     rises = λ i a b inside order.
-        (let x = first_value table is i a inside in let y = first_value table is i b inside in let r = release_rises graph i a b order in omega (arith, ints, x, y, r));
+        omega (arith, ints, first_value table is i a inside, first_value table is i b inside, release_rises graph i a b order);
   }
     where
       alone : (job first : Job) (rest : List Job) → EndsIn graph (0 + 1) job first rest → (date : ℤ) → date ≡ release_of (task_at graph job.task) job.number +ℤ pos (task_at graph job.task).wcet →
@@ -108,7 +107,7 @@ module _ (graph : TaskGraph) (good : IsWellFormed graph) where
     best_here : (i p : ℕ) → IsOfPeriod graph i p → IsBest graph (jobs_in_hyperperiod graph) (record { task = i; number = pos p }) (dates_of graph now i (pos p))
     best_here i p of =
         subst (λ (n : ℕ). IsBest graph n (record { task = i; number = pos p }) (dates_of graph now i (pos p)))
-        (let b = index_below graph i p of.0 of.1 in let e : most + 1 ≡ jobs_in_hyperperiod graph = omega (arith, b, is) in e)
+        (let e : most + 1 ≡ jobs_in_hyperperiod graph = omega (arith, index_below graph i p of.0 of.1, is) in e)
         (bests.bests (record { task = i; number = pos p }) of.0)
 
     module _ (dues : List ℕ) (spread : IsFirstTable graph firsts.Due (length graph.tasks) dues) where
@@ -139,7 +138,7 @@ module _ (graph : TaskGraph) (good : IsWellFormed graph) where
         where
           lower : (i j n p : ℕ) → (i < j) ⊎ ((i ≡ j) × (n ≤ p)) → (i < j) ⊎ ((i ≡ j) × (pos n ≤ℤ pos p))
           lower i j n p (inl less) = inl less
-          lower i j n p (inr same) = inr (same.0, (let s = same.1 in omega (arith, ints, s)))
+          lower i j n p (inr same) = inr (same.0, omega (arith, ints, same.1))
 
       pub none_late : IsNowhereAbove graph (length graph.tasks) now dues → NoneOfPeriod graph (IsSomehowLate graph)
       none_late below i p of late =
@@ -200,7 +199,7 @@ module _ (graph : TaskGraph) (good : IsWellFormed graph) where
           where
             lower : (i j n p : ℕ) → (i < j) ⊎ ((i ≡ j) × (n ≤ p)) → (i < j) ⊎ ((i ≡ j) × (pos n ≤ℤ pos p))
             lower i j n p (inl less) = inl less
-            lower i j n p (inr same) = inr (same.0, (let s = same.1 in omega (arith, ints, s)))
+            lower i j n p (inr same) = inr (same.0, omega (arith, ints, same.1))
 
         -- a round in which nothing rises
         pub round_still : IsNowhereAbove graph (length graph.tasks) next now → AreRound graph lanes (length lanes) now now
@@ -209,10 +208,8 @@ module _ (graph : TaskGraph) (good : IsWellFormed graph) where
           up = λ q. omega arith;
           asks = λ l lane less stands k inside.
               (let lane_is = are.each l lane stands in
-              let b = below lane.to.0 k lane_is.to (let long = lane_is.long in omega (arith, long, inside)) in
-              let f = lane_is.first in
-              let v : slice_index next (lane.first + k) ≡ slice_index next (jobs_before graph lane.to.0 + k) = ap (λ (x : ℕ). slice_index next (x + k)) f in
-              let w : slice_index now (lane.first + k) ≡ slice_index now (jobs_before graph lane.to.0 + k) = ap (λ (x : ℕ). slice_index now (x + k)) f in
-              omega (arith, round.asks l lane less stands k inside, b, v, w));
+              let v : slice_index next (lane.first + k) ≡ slice_index next (jobs_before graph lane.to.0 + k) = ap (λ (x : ℕ). slice_index next (x + k)) lane_is.first in
+              let w : slice_index now (lane.first + k) ≡ slice_index now (jobs_before graph lane.to.0 + k) = ap (λ (x : ℕ). slice_index now (x + k)) lane_is.first in
+              omega (arith, round.asks l lane less stands k inside, below lane.to.0 k lane_is.to (omega (arith, lane_is.long, inside)), v, w));
           only = λ q. inl refl;
         }

@@ -50,7 +50,7 @@ module _ (lane : Lane) (wcet : ℕ) (now old : List ℕ) (k : ℕ) (new : List �
     ];
     only = λ q. elim (are.only q) [
       | inl same ↦ inl same
-      | inr by ↦ inr (by.0, (let less = by.1 in omega (arith, less)), by.2, by.3)
+      | inr by ↦ inr (by.0, omega (arith, by.1), by.2, by.3)
     ];
   }
 
@@ -108,7 +108,7 @@ some_raised lane wcet now old fits zero within = (
 )
 some_raised lane wcet now old fits (suc k) within =
     let before = some_raised lane wcet now old fits k (omega (arith, within)) in
-    let inside : lane.first + k < length before.0 = (let l = before.1.long in omega (arith, l, fits, within)) in
+    let inside : lane.first + k < length before.0 = omega (arith, before.1.long, fits, within) in
     let next : k + 1 ≡ suc k = omega arith in
     elim (cases_lt (slice_index before.0 (lane.first + k) + (link_at lane k).gap) (slice_index now (link_at lane k).from + wcet)) [
       | inl more ↦ (
@@ -305,11 +305,11 @@ module _ (graph : TaskGraph) (good : IsWellFormed graph) where
           (tails : List ℕ) × AreUpperDates graph floor tails × LeaveAll graph lanes (length lanes) tails
       some_lowered zero table small upper = elim (one_lowered table upper) [
         | inl leaves ↦ (table, upper, leaves)
-        | inr less ↦ absurd (let fall = less.2 in omega (arith, small, fall))
+        | inr less ↦ absurd (omega (arith, small, less.2))
       ]
       some_lowered (suc most) table small upper = elim (one_lowered table upper) [
         | inl leaves ↦ (table, upper, leaves)
-        | inr less ↦ some_lowered most less.0 (let fall = less.2 in omega (arith, small, fall)) less.1
+        | inr less ↦ some_lowered most less.0 (omega (arith, small, less.2)) less.1
       ]
 
   -- windows can be told apart
@@ -330,7 +330,7 @@ module _ (graph : TaskGraph) (good : IsWellFormed graph) where
     task_windows i inside =
         let all : List Window = listed (λ p. window_of graph i bests tails (jobs_before graph i + p)) (jobs_of graph i) in
         let long : length all ≡ jobs_of graph i = listed_long (λ p. window_of graph i bests tails (jobs_before graph i + p)) (jobs_of graph i) in
-        let step = some_repeat all (places_tell windows_tell all) (let s = some_jobs graph good i inside in omega (arith, s, long)) in (
+        let step = some_repeat all (places_tell windows_tell all) (omega (arith, some_jobs graph good i inside, long)) in (
           take step.0 all,
           cut_made graph good bests tails i inside all long
               (λ p below. listed_or (λ q. window_of graph i bests tails (jobs_before graph i + q)) (jobs_of graph i) p no_window below) step.0 step.1,
@@ -343,10 +343,10 @@ module _ (graph : TaskGraph) (good : IsWellFormed graph) where
         let last = task_windows count (omega (arith, within)) in (
           before.0 ++ last.0 ∷ [],
           record {
-            long = (let l = length_push before.0 last.0 in let b = before.1.long in omega (arith, l, b));
+            long = omega (arith, length_push before.0 last.0, before.1.long);
             each = λ i below. elim (cases_lt i count) [
               | inl old ↦
-                  rw (get_or_append_left before.0 (last.0 ∷ []) [] i (let b = before.1.long in omega (arith, old, b))) (before.1.each i old)
+                  rw (get_or_append_left before.0 (last.0 ∷ []) [] i (omega (arith, old, before.1.long))) (before.1.each i old)
               | inr here ↦
                   (let same : count ≡ i = omega (arith, below, here) in
                   rw (get_or_push before.0 last.0 [] i (before.1.long ∙ same)) (subst (λ (x : ℕ). AreWindowsOf graph bests tails x last.0) same last.1))

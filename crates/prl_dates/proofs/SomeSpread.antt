@@ -78,14 +78,14 @@ module _ (graph : TaskGraph) (good : IsWellFormed graph) (lanes : List Lane) (ar
       let round = some_round graph good lanes are now long (length lanes) (omega arith) in
       elim (lists_tell now round.0) [
         | inl same ↦ (now, rising_ends graph good lanes are old now so_far (subst (λ (xs : List ℕ). AreRound graph lanes (length lanes) now xs) (sym same) round.1))
-        | inr other ↦ absurd (let less = rising_less graph good lanes are now round.0 long so_far.ceiling round.1 other in omega (arith, less, small))
+        | inr other ↦ absurd (omega (arith, rising_less graph good lanes are now round.0 long so_far.ceiling round.1 other, small))
       ]
   some_end old (suc most) now small long so_far =
       let round = some_round graph good lanes are now long (length lanes) (omega arith) in
       elim (lists_tell now round.0) [
         | inl same ↦ (now, rising_ends graph good lanes are old now so_far (subst (λ (xs : List ℕ). AreRound graph lanes (length lanes) now xs) (sym same) round.1))
         | inr other ↦ some_end old most round.0
-            (let less = rising_less graph good lanes are now round.0 long so_far.ceiling round.1 other in omega (arith, less, small))
+            omega (arith, rising_less graph good lanes are now round.0 long so_far.ceiling round.1 other, small)
             (round.1.long ∙ long) (rising_more graph good lanes are old now round.0 so_far round.1)
       ]
 

@@ -50,22 +50,22 @@ module _ (plan : PlanView) (is : IsPlan plan) where
   ends_repeat : RepeatsByHyper plan.graph (λ i m. encoded_release plan.graph plan.windows i m +ℤ pos (task_at plan.graph i).wcet)
   ends_repeat = record {
     again = λ i jobs inside times m.
-        (let a = (least_repeat plan.graph is.graph (encoded_release plan.graph plan.windows) is.dates.releases).again i jobs inside times m in omega (arith, ints, a));
+        omega (arith, ints, (least_repeat plan.graph is.graph (encoded_release plan.graph plan.windows) is.dates.releases).again i jobs inside times m);
   }
 
   pub ends_tell : (ends : List ℕ) → IsTableOf plan bounds.End ends → (i : ℕ) (m : ℤ) → i < length plan.graph.tasks →
       dates_of plan.graph ends i m ≡ encoded_release plan.graph plan.windows i m +ℤ pos (task_at plan.graph i).wcet
   ends_tell ends table i m inside =
       table_tells plan.graph is.graph ends (λ i m. encoded_release plan.graph plan.windows i m +ℤ pos (task_at plan.graph i).wcet) ends_repeat i inside
-      (λ n below. (let e = table.each i n inside below in omega (arith, ints, e))) m
+      (λ n below. omega (arith, ints, table.each i n inside below)) m
 
   pub table_long : (bound : Bound) (table : List ℕ) → IsTableOf plan bound table → length table ≡ jobs_in_hyperperiod plan.graph
-  table_long bound table is_table = (let l = is_table.long in let a = before_all plan.graph in omega (arith, l, a))
+  table_long bound table is_table = omega (arith, is_table.long, before_all plan.graph)
 
   pub deadlines_small : (table : List ℕ) → IsTableOf plan bounds.Deadline table → AreWithin table (2 ^ 62)
   deadlines_small table of q =
       (let w = due_small plan.graph is.graph table (table_long bounds.Deadline table of)
-      (λ i m inside. (let t = deadlines_tell table of i m inside in let d = is.dates.deadlines.deadlines.below i m inside in omega (arith, ints, t, d))) q in
+      (λ i m inside. omega (arith, ints, deadlines_tell table of i m inside, is.dates.deadlines.deadlines.below i m inside)) q in
       omega (arith, w))
 
   module _ (processors : List ℕ) (lanes : List Lane) (are : AreLanes plan.graph lanes) (deadlines : List ℕ) (of_deadlines : IsTableOf plan bounds.Deadline deadlines)
@@ -85,9 +85,8 @@ module _ (plan : PlanView) (is : IsPlan plan) where
         across_least plan.graph is.graph lanes are.each processors deadlines made.base across made.raised date
         (λ l lane stands apart k n m link.
         (let a = asks (record { task = lane.from.0; number = m }) (record { task = lane.to.0; number = n }) (link_precedes plan.graph is.graph lane k n m link) apart in
-        let t = deadlines_tell deadlines of_deadlines lane.from.0 m (are.each l lane stands).from in
-        omega (arith, ints, a, t)))
-        (λ i m inside. (let a = above i m inside in let t = ends_tell made.base made.of_base i m inside in omega (arith, ints, a, t)))
+        omega (arith, ints, a, deadlines_tell deadlines of_deadlines lane.from.0 m (are.each l lane stands).from)))
+        (λ i m inside. (let a = above i m inside in omega (arith, ints, a, ends_tell made.base made.of_base i m inside)))
 
     -- and so below the deadlines
     deadlines_keep : KeepsLanes plan.graph (within processors lanes) (encoded_deadline plan.graph plan.windows)
@@ -144,7 +143,7 @@ module _ (plan : PlanView) (is : IsPlan plan) where
           let apart' : AreTogether processors at.lane.from.0 at.lane.to.0 → ⊥ =
           λ together. apart (ap (λ (i : ℕ). slice_index processors i) (sym at.from) ∙ together ∙ ap (λ (i : ℕ). slice_index processors i) at.to) in
           let o = linked_order plan.graph is.graph lanes are deadlines across (table_rises plan.graph is.graph deadlines deadlines_due) before after at
-          (made.raised.asks at.l at.lane (slice_get_within lanes at.l at.lane at.stands) at.stands apart' at.k (let b = at.below in let l = at.is.long in omega (arith, b, l))) in
+          (made.raised.asks at.l at.lane (slice_get_within lanes at.l at.lane at.stands) at.stands apart' at.k (omega (arith, at.below, at.is.long))) in
           let u = least.up (index_of plan.graph after.task after.number) in
           omega (arith, ints, o, deadlines_tell deadlines of_deadlines before.task before.number (both_inside plan.graph is.graph before after precedes).0, u)
 
@@ -163,11 +162,11 @@ module _ (plan : PlanView) (is : IsPlan plan) where
         long = least.long ∙ ends_long;
         releases = record {
           releases = record {
-            above = λ i m inside. (let a = ends_above i m inside in omega (arith, ints, a));
-            within = λ before after precedes together. (let a = ends_within before after precedes together in omega (arith, ints, a));
-            across = λ before after precedes apart. (let a = ends_across before after precedes apart in omega (arith, ints, a));
+            above = λ i m inside. omega (arith, ints, ends_above i m inside);
+            within = λ before after precedes together. omega (arith, ints, ends_within before after precedes together);
+            across = λ before after precedes apart. omega (arith, ints, ends_across before after precedes apart);
           };
-          least = λ other of i m inside. (let a = ends_least other of i m inside in omega (arith, ints, a));
+          least = λ other of i m inside. omega (arith, ints, ends_least other of i m inside);
         };
       }
 

@@ -76,12 +76,11 @@ module _ (graph : TaskGraph) (good : IsWellFormed graph) (lanes : List Lane) (ar
       IsBelow graph (dates_of graph old) date → IsBelow graph (dates_of graph new) date
   across_least processors now old new raised date keeps below i m inside =
       elim (raised.only (index_of graph i m)) [
-        | inl same ↦ (let b = below i m inside in omega (arith, ints, b, same))
+        | inl same ↦ omega (arith, ints, below i m inside, same)
         | inr by ↦
             (let at : Met graph by.1 now new i m by.4 = met graph good by.1 (are by.0 by.1 by.2) now new i m by.4 inside by.5 by.6 by.7 in
-            let o : date by.1.to.0 m ≡ date i m = ap (λ (j : ℕ). date j m) (sym at.task) in
             let c : (task_at graph by.1.to.0).wcet ≡ (task_at graph i).wcet = ap (λ (j : ℕ). (task_at graph j).wcet) (sym at.task) in
-            omega (arith, ints, keeps by.0 by.1 by.2 by.3 by.4 m at.before at.link, at.date, o, c))
+            omega (arith, ints, keeps by.0 by.1 by.2 by.3 by.4 m at.before at.link, at.date, ap (λ (j : ℕ). date j m) (sym at.task), c))
       ]
 
   -- nor does a round raise past a family that keeps the lanes
@@ -89,18 +88,16 @@ module _ (graph : TaskGraph) (good : IsWellFormed graph) (lanes : List Lane) (ar
       IsBelow graph (dates_of graph now) date → IsBelow graph (dates_of graph new) date
   round_least now new round date keeps below i m inside =
       elim (round.only (index_of graph i m)) [
-        | inl same ↦ (let b = below i m inside in omega (arith, ints, b, same))
+        | inl same ↦ omega (arith, ints, below i m inside, same)
         | inr by ↦
-            (let is = are by.0 by.1 by.2 in
-            let at : Met graph by.1 now new i m by.3 = met graph good by.1 (are by.0 by.1 by.2) now new i m by.3 inside by.4 by.5 by.6 in
+            (let at : Met graph by.1 now new i m by.3 = met graph good by.1 (are by.0 by.1 by.2) now new i m by.3 inside by.4 by.5 by.6 in
             let o : date by.1.to.0 m ≡ date i m = ap (λ (j : ℕ). date j m) (sym at.task) in
             let c : (task_at graph by.1.to.0).wcet ≡ (task_at graph i).wcet = ap (λ (j : ℕ). (task_at graph j).wcet) (sym at.task) in
-            omega (arith, ints, below by.1.from.0 at.before is.from, keeps by.0 by.1 by.2 by.3 m at.before at.link, at.date, o, c))
+            omega (arith, ints, below by.1.from.0 at.before (are by.0 by.1 by.2).from, keeps by.0 by.1 by.2 by.3 m at.before at.link, at.date, o, c))
       ]
 
   pub ceiling_within : (table : List ℕ) → length table ≡ jobs_in_hyperperiod graph → HasCeiling graph lanes table → AreWithin table (2 ^ 31)
-  ceiling_within table long has =
-      due_small graph good table long (λ i m inside. (let a = has.above i m inside in let w = has.within i m inside in omega (arith, ints, a, w)))
+  ceiling_within table long has = due_small graph good table long (λ i m inside. omega (arith, ints, has.above i m inside, has.within i m inside))
 
   pub ceiling_kept : (now new : List ℕ) → AreRound graph lanes (length lanes) now new → HasCeiling graph lanes now → HasCeiling graph lanes new
   ceiling_kept now new round has = record {
@@ -116,7 +113,7 @@ module _ (graph : TaskGraph) (good : IsWellFormed graph) (lanes : List Lane) (ar
   pub rising_more : (old now new : List ℕ) → IsRising graph lanes old now → AreRound graph lanes (length lanes) now new → IsRising graph lanes old new
   rising_more old now new so_far round = record {
     long = round.long ∙ so_far.long;
-    up = λ q. (let a = so_far.up q in let b = round.up q in omega (arith, a, b));
+    up = λ q. omega (arith, so_far.up q, round.up q);
     ceiling = ceiling_kept now new round so_far.ceiling;
     least = λ date keeps below. round_least now new round date keeps (so_far.least date keeps below);
   }
@@ -133,6 +130,5 @@ module _ (graph : TaskGraph) (good : IsWellFormed graph) (lanes : List Lane) (ar
   pub rising_less : (now new : List ℕ) → length now ≡ jobs_in_hyperperiod graph → HasCeiling graph lanes now → AreRound graph lanes (length lanes) now new → (now ≡ new → ⊥) →
       length new * 2 ^ 31 - sum new < length now * 2 ^ 31 - sum now
   rising_less now new long has round other =
-      let bound = sum_bound new (2 ^ 31) (ceiling_within new (round.long ∙ long) (ceiling_kept now new round has)) in
       let same : length new * 2 ^ 31 ≡ length now * 2 ^ 31 = ap (λ (n : ℕ). n * 2 ^ 31) round.long in
-      omega (arith, sum_rises now new round.long round.up other, bound, same)
+      omega (arith, sum_rises now new round.long round.up other, sum_bound new (2 ^ 31) (ceiling_within new (round.long ∙ long) (ceiling_kept now new round has)), same)

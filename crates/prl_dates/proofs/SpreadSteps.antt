@@ -13,15 +13,15 @@ use Rattle.prl_dates.proofs.Readings.{before_next}
 pub part_more : (plan : PlanView) (bound : Bound) (count some : ℕ) (table : List ℕ) (value : ℕ) → IsTablePart plan bound count some table → value ≡ bound_of plan bound count some →
     some < jobs_of plan.graph count → IsTablePart plan bound count (some + 1) (table ++ value ∷ [])
 part_more plan bound count some table value part is inside = record {
-  long = length_both table (value ∷ []) ∙ (let l = part.long in omega (arith, l));
+  long = length_both table (value ∷ []) ∙ (omega (arith, part.long));
   each = λ i n below job.
       get_first table (value ∷ []) (jobs_before plan.graph i + n) 0 (omega (arith, part.long, before_rises plan.graph i count below, job)) ∙ part.each i n below job;
   next = λ n below.
       elim (cases_lt n some) [
-        | inl less ↦ (let l = part.long in get_first table (value ∷ []) (jobs_before plan.graph count + n) 0 (omega (arith, l, less)) ∙ part.next n less)
+        | inl less ↦ get_first table (value ∷ []) (jobs_before plan.graph count + n) 0 (omega (arith, part.long, less)) ∙ part.next n less
         | inr above ↦
             (let e : n ≡ some = omega (arith, above, below) in
-            let at : jobs_before plan.graph count + n ≡ length table + 0 = (let l = part.long in omega (arith, l, e)) in
+            let at : jobs_before plan.graph count + n ≡ length table + 0 = omega (arith, part.long, e) in
             ap (λ (q : ℕ). slice_index (table ++ value ∷ []) q) at ∙ get_second table (value ∷ []) 0 0 ∙ is ∙ ap (λ (k : ℕ). bound_of plan bound count k) (sym e))
       ];
 }
@@ -30,7 +30,7 @@ part_more plan bound count some table value part is inside = record {
 pub part_whole : (plan : PlanView) (bound : Bound) (count some : ℕ) (table : List ℕ) → IsTablePart plan bound count some table → some ≡ jobs_of plan.graph count →
     IsTablePart plan bound (count + 1) 0 table
 part_whole plan bound count some table part all = record {
-  long = (let l = part.long in let b = before_next plan.graph count in omega (arith, l, b, all));
+  long = omega (arith, part.long, before_next plan.graph count, all);
   each = λ i n below job.
       elim (cases_lt i count) [
         | inl less ↦ part.each i n less job
@@ -68,8 +68,7 @@ pub item_kept : {A : Type 0} (test : A → Bool) (xs : List A) (j : ℕ) (x : A)
 item_kept {A} test [] j x is passes = absurd (search rules)
 item_kept {A} test (y ∷ ys) zero x is passes =
     let e : y ≡ x = cc in
-    let t : test y ≡ true = subst (λ (z : A). test z ≡ true) (sym e) passes in
-    (zero, subst (λ (b : Bool). slice_get (cond b (y ∷ filter test ys) (filter test ys)) zero ≡ Some x) (sym t) is)
+    (zero, subst (λ (b : Bool). slice_get (cond b (y ∷ filter test ys) (filter test ys)) zero ≡ Some x) (sym (subst (λ (z : A). test z ≡ true) (sym e) passes)) is)
 item_kept {A} test (y ∷ ys) (suc j) x is passes = go (test y) (item_kept test ys j x is passes)
   where
     go : (b : Bool) → (l : ℕ) × (slice_get (filter test ys) l ≡ Some x) → (l : ℕ) × (slice_get (cond b (y ∷ filter test ys) (filter test ys)) l ≡ Some x)
@@ -82,10 +81,7 @@ sum_below [] [] long up = omega arith
 sum_below [] (y ∷ high) long up = absurd (omega (arith, long))
 sum_below (x ∷ low) [] long up = absurd (omega (arith, long))
 sum_below (x ∷ low) (y ∷ high) long up =
-    let rest = sum_below low high (omega (arith, long)) (λ q. up (suc q)) in
-    let a = sum_by-cons (λ (n : ℕ). n) x low in
-    let b = sum_by-cons (λ (n : ℕ). n) y high in
-    omega (arith, rest, up 0, a, b)
+    omega (arith, sum_below low high (omega (arith, long)) (λ q. up (suc q)), up 0, sum_by-cons (λ (n : ℕ). n) x low, sum_by-cons (λ (n : ℕ). n) y high)
 
 -- and where they are not the same, its sum is less
 pub sum_rises : (low high : List ℕ) → length high ≡ length low → ((q : ℕ) → slice_index low q ≤ slice_index high q) → (low ≡ high → ⊥) → sum low < sum high
@@ -94,9 +90,9 @@ sum_rises [] (y ∷ high) long up other = absurd (omega (arith, long))
 sum_rises (x ∷ low) [] long up other = absurd (omega (arith, long))
 sum_rises (x ∷ low) (y ∷ high) long up other =
     elim (cases_lt x y) [
-      | inl less ↦ (let rest = sum_below low high (omega (arith, long)) (λ q. up (suc q)) in omega (arith, rest, less, a, b))
+      | inl less ↦ omega (arith, sum_below low high (omega (arith, long)) (λ q. up (suc q)), less, a, b)
       | inr above ↦
-          (let e : x ≡ y = (let first = up 0 in omega (arith, first, above)) in
+          (let e : x ≡ y = omega (arith, up 0, above) in
           let rest = sum_rises low high (omega (arith, long)) (λ q. up (suc q)) (λ same. other (cc)) in
           omega (arith, rest, e, a, b))
     ]
@@ -110,7 +106,5 @@ sum_rises (x ∷ low) (y ∷ high) long up other =
 pub sum_bound : (table : List ℕ) (bound : ℕ) → AreWithin table bound → sum table ≤ length table * bound
 sum_bound [] bound within = omega arith
 sum_bound (x ∷ xs) bound within =
-    let rest = sum_bound xs bound (λ q. within (suc q)) in
-    let a = sum_by-cons (λ (n : ℕ). n) x xs in
     let e : suc (length xs) * bound ≡ bound + length xs * bound = omega arith in
-    omega (arith, rest, within 0, a, e)
+    omega (arith, sum_bound xs bound (λ q. within (suc q)), within 0, sum_by-cons (λ (n : ℕ). n) x xs, e)

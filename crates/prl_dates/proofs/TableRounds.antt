@@ -20,17 +20,15 @@ pub record Met (graph : TaskGraph) (lane : Lane) (now new : List ℕ) (i : ℕ) 
 pub met : (graph : TaskGraph) (good : IsWellFormed graph) (lane : Lane) → IsLane graph lane → (now new : List ℕ) (i : ℕ) (n : ℤ) (k : ℕ) → i < length graph.tasks →
     k < length lane.links → index_of graph i n ≡ lane.first + k → Meets lane (task_at graph lane.to.0).wcet now new k → Met graph lane now new i n k
 met graph good lane is now new i n k inside below at meets =
-    let below' : k < jobs_of graph lane.to.0 = (let l = is.long in omega (arith, below, l)) in
+    let below' : k < jobs_of graph lane.to.0 = omega (arith, below, is.long) in
     let there : jobs_before graph i + place_in n (jobs_of graph i) ≡ jobs_before graph lane.to.0 + k = at ∙ ap (λ (x : ℕ). x + k) is.first in
     let one = one_index graph i lane.to.0 (place_in n (jobs_of graph i)) k (place_below (jobs_of graph i) (some_jobs graph good i inside) n) below' there in
     let link = link_to graph good lane is n in
-    let place : place_in n (jobs_of graph lane.to.0) ≡ k = ap (λ (j : ℕ). place_in n (jobs_of graph j)) (sym one.0) ∙ one.1 in
-    let here : IsLink graph lane k n link.0 = subst (λ (x : ℕ). IsLink graph lane x n link.0) place link.1 in
-    let w : slice_index now (index_of graph lane.from.0 link.0) ≡ slice_index now (link_at lane k).from = ap (λ (q : ℕ). slice_index now q) here.index in
+    let here : IsLink graph lane k n link.0 = subst (λ (x : ℕ). IsLink graph lane x n link.0) (ap (λ (j : ℕ). place_in n (jobs_of graph j)) (sym one.0) ∙ one.1) link.1 in
     let v : slice_index new (index_of graph i n) ≡ slice_index new (lane.first + k) = ap (λ (q : ℕ). slice_index new q) at in
     let t : release_of (task_at graph i) n ≡ release_of (task_at graph lane.to.0) n = ap (λ (j : ℕ). release_of (task_at graph j) n) one.0 in
     let c : (task_at graph i).wcet ≡ (task_at graph lane.to.0).wcet = ap (λ (j : ℕ). (task_at graph j).wcet) one.0 in
-    record { before = link.0; task = one.0; link = here; date = omega (arith, ints, meets, w, v, here.gap, t, c) }
+    record { before = link.0; task = one.0; link = here; date = omega (arith, ints, meets, ap (λ (q : ℕ). slice_index now q) here.index, v, here.gap, t, c) }
 
 module _ (graph : TaskGraph) (good : IsWellFormed graph) (lanes : List Lane) (are : AreLanes graph lanes) where
   -- what two jobs that precede one another have in common: the lane, its link, and the greatest job before
@@ -80,9 +78,8 @@ module _ (graph : TaskGraph) (good : IsWellFormed graph) (lanes : List Lane) (ar
       let s : index_of graph at.lane.to.0 second.number ≡ at.lane.first + at.k =
       ap (λ (x : ℕ). jobs_before graph at.lane.to.0 + x) at.link.place ∙ ap (λ (x : ℕ). x + at.k) (sym at.is.first) in
       let v : slice_index after (index_of graph at.lane.to.0 second.number) ≡ slice_index after (at.lane.first + at.k) = ap (λ (q : ℕ). slice_index after q) s in
-      let w : slice_index before (index_of graph at.lane.from.0 at.before) ≡ slice_index before (link_at at.lane at.k).from = ap (λ (q : ℕ). slice_index before q) at.link.index in
       let here : (dates_of graph before at.lane.from.0 first.number +ℤ pos (task_at graph at.lane.to.0).wcet) ≤ℤ dates_of graph after at.lane.to.0 second.number =
-      omega (arith, ints, asks, rises at.lane.from.0 first.number at.before at.is.from at.greatest, v, w, at.link.gap) in
+      omega (arith, ints, asks, rises at.lane.from.0 first.number at.before at.is.from at.greatest, v, ap (λ (q : ℕ). slice_index before q) at.link.index, at.link.gap) in
       subst (λ (i : ℕ). (dates_of graph before i first.number +ℤ pos (task_at graph second.task).wcet) ≤ℤ dates_of graph after second.task second.number) at.from
       (subst (λ (j : ℕ). (dates_of graph before at.lane.from.0 first.number +ℤ pos (task_at graph j).wcet) ≤ℤ dates_of graph after j second.number) at.to here)
 
@@ -93,7 +90,7 @@ module _ (graph : TaskGraph) (good : IsWellFormed graph) (lanes : List Lane) (ar
     order first second h =
         let at : Linked first second = linked first second h in
         linked_order now new rises first second at
-        (round.asks at.l at.lane (slice_get_within lanes at.l at.lane at.stands) at.stands at.k (let b = at.below in let l = at.is.long in omega (arith, b, l)))
+        (round.asks at.l at.lane (slice_get_within lanes at.l at.lane at.stands) at.stands at.k (omega (arith, at.below, at.is.long)))
 
     only : (job : Job) → job.task < length graph.tasks →
         (dates_of graph new job.task job.number ≡ dates_of graph now job.task job.number)
@@ -114,7 +111,7 @@ module _ (graph : TaskGraph) (good : IsWellFormed graph) (lanes : List Lane) (ar
 
     pub round_of_tables : IsRound graph (dates_of graph now) (dates_of graph new)
     round_of_tables = record {
-      up = λ i m inside. (let u = round.up (index_of graph i m) in omega (arith, ints, u));
+      up = λ i m inside. omega (arith, ints, round.up (index_of graph i m));
       order = order;
       only = only;
     }

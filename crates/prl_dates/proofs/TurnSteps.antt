@@ -63,9 +63,8 @@ pub under_up : (k g jobs higher : ℕ) → 1 ≤ k → IsGcd k higher g → (mor
     IsTurnUnder (operators.Up k) (record { jobs = jobs; higher = higher }) (record { jobs = more; higher = higher / g })
 under_up k g jobs higher some gcd more more_is =
     let factor : k / g * g ≡ k = div-mul_cancel g gcd.0 in
-    let step : higher / g * g ≡ higher = div-mul_cancel g gcd.1 in
     let both : higher * (k / g) ≡ k * (higher / g) =
-    ap (λ (x : ℕ). x * (k / g)) (sym step)
+    ap (λ (x : ℕ). x * (k / g)) (sym (div-mul_cancel g gcd.1))
     ∙ (let e : higher / g * g * (k / g) ≡ k / g * g * (higher / g) = omega arith in e)
     ∙ ap (λ (x : ℕ). x * (higher / g)) factor in
     record {
@@ -100,8 +99,8 @@ factor_at (op ∷ ops) n fits (suc i) d below = factor_at ops (preceding_number 
 
 -- the number of the job that precedes fits
 floor_fits : (n : ℤ) (k : ℕ) → Fits64 n → Fits64 (floor_div n k)
-floor_fits (pos n) k fits = (let h = fits_high (pos n) fits in let less = div-le_self n k in fits_between (pos (n / k)) (omega (arith, ints)) (omega (arith, ints, h, less)))
-floor_fits (negsuc n) k fits = (let l = fits_low (negsuc n) fits in let less = div-le_self n k in fits_between (negsuc (n / k)) (omega (arith, ints, l, less)) (omega (arith, ints)))
+floor_fits (pos n) k fits = fits_between (pos (n / k)) (omega (arith, ints)) (omega (arith, ints, fits_high (pos n) fits, div-le_self n k))
+floor_fits (negsuc n) k fits = fits_between (negsuc (n / k)) (omega (arith, ints, fits_low (negsuc n) fits, div-le_self n k)) (omega (arith, ints))
 
 pub preceding_small : (ops : List Op) (n : ℤ) → Fits64 n → PrecedingFits ops n → Fits64 (preceding ops n)
 preceding_small [] n small fits = small

@@ -39,11 +39,8 @@ module _ (graph : TaskGraph) (good : IsWellFormed graph) where
   table_tells table date repeats i inside base =
       families_agree graph good (dates_of graph table) date (record {
         again = λ j jobs inside' times m.
-            (let one : jobs_of graph j ≡ jobs = jobs_same j jobs inside' times in
-            subst (λ (k : ℕ). dates_of graph table j (m +ℤ pos k) ≡ dates_of graph table j m +ℤ pos graph.hyper) one
-            (let v : slice_index table (index_of graph j (m +ℤ pos (jobs_of graph j))) ≡ slice_index table (index_of graph j m) =
-            ap (λ (q : ℕ). slice_index table q) (index_again graph good j inside' m) in
-            omega (arith, ints, v, release_again graph good j inside' m)));
+            (subst (λ (k : ℕ). dates_of graph table j (m +ℤ pos k) ≡ dates_of graph table j m +ℤ pos graph.hyper) (jobs_same j jobs inside' times)
+            omega (arith, ints, ap (λ (q : ℕ). slice_index table q) (index_again graph good j inside' m), release_again graph good j inside' m));
       }) repeats i (jobs_of graph i) inside (jobs_are graph good i inside)
       (λ n below. date_here graph table i n below ∙ base n below)
     where
@@ -72,7 +69,7 @@ module _ (graph : TaskGraph) (good : IsWellFormed graph) (bests tails : List ℕ
       of = lists.each i inside
 
       whole : jobs_of graph i ≡ jobs_of graph i / length (slice_index_or windows i []) * length (slice_index_or windows i [])
-      whole = (let e = mod-add-div' (jobs_of graph i) (length (slice_index_or windows i [])) in let d = (lists.each i inside).divides in omega (arith, e, d))
+      whole = omega (arith, mod-add-div' (jobs_of graph i) (length (slice_index_or windows i [])), (lists.each i inside).divides)
 
       list_again : (m : ℤ) → window_at windows i (m +ℤ pos (jobs_of graph i)) ≡ window_at windows i m
       list_again m =

@@ -21,7 +21,7 @@ use prl_plan::TaskGraph;
 use std::alloc::{AllocError, Global};
 
 /// What the dates of a table are at first, in ticks after the releases.
-#[derive(Clone, Copy, PartialEq, Eq)]
+#[derive(Clone, Copy)]
 pub(crate) enum First {
     Wcet,
     Due,

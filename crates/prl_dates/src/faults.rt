@@ -5,7 +5,7 @@ use std::alloc::AllocError;
 
 /// Why there are no dates. Jobs are numbered from 0 and told of one hyperperiod; dates are in
 /// ticks.
-#[derive(Clone, Copy, PartialEq, Eq)]
+#[derive(Clone, Copy)]
 pub enum DateFault {
     /// The lowest job, by task and then by number, whose best is above its deadline.
     Narrow {

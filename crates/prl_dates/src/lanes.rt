@@ -16,7 +16,7 @@ use prl_plan::{Edge, Producer, TaskGraph};
 use std::alloc::{AllocError, Global};
 
 /// The job before a job: its index, and how much earlier it is released.
-#[derive(Clone, Copy, PartialEq, Eq)]
+#[derive(Clone, Copy)]
 pub(crate) struct Link {
     pub from: u64,
     /// In ticks.

@@ -11,7 +11,7 @@ use prl_base::Op;
 use std::alloc::{AllocError, Global};
 
 /// A job of a run, and a step on from it.
-#[derive(Clone, Copy, PartialEq, Eq)]
+#[derive(Clone, Copy)]
 struct Stride {
     last: u64,
     step: u64,

@@ -19,7 +19,7 @@ use std::alloc::{AllocError, Global};
 
 /// What a table of a plan's dates tells of each job: the earliest end, which is its release and then
 /// its WCET, or the deadline. Both are in ticks after the job's clock releases it.
-#[derive(Clone, Copy, PartialEq, Eq)]
+#[derive(Clone, Copy)]
 enum Bound {
     End,
     Deadline,

@@ -7,7 +7,7 @@ ghost use Rattle.prl_dates.specs.code.Turns.{StepsBy, IsTurnUnder};
 use prl_base::{Op, gcd};
 
 /// So many jobs later the job that precedes is so many jobs later.
-#[derive(Clone, Copy, PartialEq, Eq)]
+#[derive(Clone, Copy)]
 pub(crate) struct Turn {
     pub jobs: u64,
     pub higher: u64,

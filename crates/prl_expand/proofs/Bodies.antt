@@ -52,9 +52,7 @@ expanded_more p main k j h applied =
     right_or (j == main) (reaches p main j)
     (⊎_elim
     (λ here.
-    (let same : k ≡ main = eqb-true k main here in
-    let by : applies p main j ≡ true = subst (λ i. applies p i j ≡ true) same applied in
-    (reached p main j (once main j by)).1))
+    ((reached p main j (once main j (subst (λ i. applies p i j ≡ true) (eqb-true k main here) applied))).1))
     (λ far. (reached p main j (further p main k j (reaching p main k far) applied)).1)
     (or_cases (k == main) (reaches p main k) h))
 
@@ -78,9 +76,8 @@ expanded_has p main [] first i k n name e at h there = absurd (cc)
 expanded_has p main (m ∷ ns) first zero k n name e at h there =
     let number : k ≡ first = omega (arith, at) in
     let here : is_expanded p main first ≡ true = subst (λ j. is_expanded p main j ≡ true) number h in
-    let own : Has (node_applied m) name = subst (λ (x : NodeTree). Has (node_applied x) name) (sym (some_inner m n e)) there in
     subst (λ (b : Bool). Has (cond b (node_applied m ++ expanded_from p main (first + 1) ns) (expanded_from p main (first + 1) ns)) name) (sym here)
-    (has_left (node_applied m) (expanded_from p main (first + 1) ns) name own)
+    (has_left (node_applied m) (expanded_from p main (first + 1) ns) name (subst (λ (x : NodeTree). Has (node_applied x) name) (sym (some_inner m n e)) there))
 expanded_has p main (m ∷ ns) first (suc i) k n name e at h there =
     let later = expanded_has p main ns (first + 1) i k n name e (omega (arith, at)) h there in
     cond_has (is_expanded p main first) (node_applied m) (expanded_from p main (first + 1) ns) [] name (has_right (node_applied m) (expanded_from p main (first + 1) ns) name later) later

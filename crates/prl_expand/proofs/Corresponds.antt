@@ -61,9 +61,8 @@ module _ (p : ProgramTree) (asked : Option (List ℕ)) (main : ℕ) (tys : List 
 
   flat_are : flat_rules flat ≡ numbered_rules numbered ++ zipped_rules (imports_in e) (entered_apps p main e)
   flat_are =
-      let counted : numbers_of numbered ≡ range_with_len 0 (length numbered) = numbers_are ∙ expansion.flows ∙ ap (range_with_len 0) (sym numbered_count) in
       let apps : range_with_len 0 (length (entered_apps p main e)) ≡ imports_in e = ap (range_with_len 0) (sym app_count) ∙ sym expansion.imports in
-      rw (flows_rules_are 0 numbered counted, apps_rules_are 0 (entered_apps p main e), apps) refl
+      rw (flows_rules_are 0 numbered (numbers_are ∙ expansion.flows ∙ ap (range_with_len 0) (sym numbered_count)), apps_rules_are 0 (entered_apps p main e), apps) refl
 
   module _ (bodies : List CheckedBody) (rows : Rows) (until : ℕ) where
     abbrev Held : State → Rule ℕ ℕ → Type 0
@@ -102,9 +101,8 @@ module _ (p : ProgramTree) (asked : Option (List ℕ)) (main : ℕ) (tys : List 
     onto : (s : State) → IsSolution flat bodies rows until s → (b : Behaviour) × Satisfies p main bodies rows until b × (state_in b ≡ s)
     onto s h =
         let b = behaviour_of s e in
-        let flows : flows_in e ≡ range_with_len 0 (length s.flows) = expansion.flows ∙ ap (range_with_len 0) (sym flow_count ∙ sym h.flow_count) in
         let imports : imports_in e ≡ range_with_len 0 (length s.registers) = expansion.imports ∙ ap (range_with_len 0) (app_count ∙ sym h.register_count) in
-        let of = made p main e s expansion.text flows imports in
+        let of = made p main e s expansion.text (expansion.flows ∙ ap (range_with_len 0) (sym flow_count ∙ sym h.flow_count)) imports in
         let own_flows : flows_in b ≡ s.flows = ap (λ (x : State). x.flows) of.1 in
         (b, record { text = of.0; timed = subst (λ (fs : List Timed). AllByRecursion (IsTimed until) fs) (sym own_flows) h.timed; rules = from_flat s h.rules }, of.1)
 

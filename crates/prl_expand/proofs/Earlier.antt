@@ -57,7 +57,7 @@ word_made : (b : ℕ) (bs : List ℕ) → IsName (b ∷ bs) → (b == 36) ≡ fa
 word_made b bs h =
     elim (b == 36) as (λ (x : Bool). (b == 36) ≡ x → x ≡ false) [
       | false ↦ λ e. refl
-      | true ↦ λ e. let is : b ≡ 36 = eqb→eq b 36 (subst T (sym e) tt) in absurd (dollar bs (subst (λ c. IsName (c ∷ bs)) is h))
+      | true ↦ λ e. absurd (dollar bs (subst (λ c. IsName (c ∷ bs)) (eqb→eq b 36 (subst T (sym e) tt)) h))
     ] refl
   where
     dollar : (bs : List ℕ) → IsName (36 ∷ bs) → ⊥
@@ -154,21 +154,19 @@ module _ (p : ProgramTree) (tys : Types) (flat : FlatProgram) where
   operators_use ty (o ∷ os) [] of s counted early = tt
   operators_use ty (o ∷ os) (i ∷ is) [] s counted early = tt
   operators_use ty (o ∷ os) (i ∷ is) (x ∷ xs) s counted early =
-      let here = counted.0 in
-      let first : IsEarly i x = early_up s i x (omega (arith, here)) early.0 in (
+      let first : IsEarly i x = early_up s i x (omega (arith, counted.0)) early.0 in (
         λ made j uses. elim uses [ inl now ↦ subst (IsEarly i) now.1 first | inr inside ↦ subst (IsEarly i) inside first ],
-        operators_use ty os is (i ∷ []) (s + 1) counted.1 (inl (omega (arith, here)), tt),
+        operators_use ty os is (i ∷ []) (s + 1) counted.1 (inl (omega (arith, counted.0)), tt),
       )
 
   outputs_use : (app out : ℕ) (at : Span) (qs : List Port) (is : List ℕ) (s b : ℕ) → b ≤ s → Counted s is → ((j : ℕ) → IsArgument flat app j → IsEarly b j)
       → AllUse (output_flows app out at qs is)
   outputs_use app out at [] is s b up counted args = tt
   outputs_use app out at (q ∷ qs) [] s b up counted args = tt
-  outputs_use app out at (q ∷ qs) (i ∷ is) s b up counted args =
-      let here = counted.0 in (
-        λ made j uses. elim uses [ inl arg ↦ early_up b i j (omega (arith, here, up)) (args j arg) | inr inside ↦ absurd inside ],
-        outputs_use app (out + 1) at qs is (s + 1) b (omega (arith, up)) counted.1 args,
-      )
+  outputs_use app out at (q ∷ qs) (i ∷ is) s b up counted args = (
+    λ made j uses. elim uses [ inl arg ↦ early_up b i j (omega (arith, counted.0, up)) (args j arg) | inr inside ↦ absurd inside ],
+    outputs_use app (out + 1) at qs is (s + 1) b (omega (arith, up)) counted.1 args,
+  )
 
   -- the arguments of an application
   arguments_early : (app : ℕ) (call : App) (gs : List ℕ) (b : ℕ) → slice_get flat.apps app ≡ Some call → map (λ (a : Arg). a.flow.0) call.args ≡ gs → AreEarly b gs
@@ -178,8 +176,7 @@ module _ (p : ProgramTree) (tys : Types) (flat : FlatProgram) where
       let found : slice_get call.args h.index ≡ Some h.arg = subst (λ (a : App). slice_get a.args h.index ≡ Some h.arg) same h.found in
       let number : slice_get (map (λ (a : Arg). a.flow.0) call.args) h.index ≡ Some h.arg.flow.0 =
       slice_get-map (λ (a : Arg). a.flow.0) call.args h.index ∙ ap (option_map (λ (a : Arg). a.flow.0)) found in
-      let there : slice_get gs h.index ≡ Some h.arg.flow.0 = subst (λ (xs : List ℕ). slice_get xs h.index ≡ Some h.arg.flow.0) are number in
-      subst (IsEarly b) h.is (at_place (IsEarly b) gs h.index h.arg.flow.0 early there)
+      subst (IsEarly b) h.is (at_place (IsEarly b) gs h.index h.arg.flow.0 early (subst (λ (xs : List ℕ). slice_get xs h.index ≡ Some h.arg.flow.0) are number))
 
   module _ (sound : IsSound p) (range : ranges.IsInRange p) where
     mutual

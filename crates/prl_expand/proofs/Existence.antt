@@ -119,13 +119,11 @@ module _ (p : ProgramTree) (k : ℕ) where
         let posts : List ℕ = range_with_len f1 (length post) in
         let f2 : ℕ = f + length (core_flows c.value ++ posts) in
         let pres : List ℕ = reverse (range_with_len f2 (length pre)) in
-        let turned : reverse pres ≡ range_with_len f2 (length pre) = reverse-reverse (range_with_len f2 (length pre)) in
-        let front : From f (core_flows c.value ++ posts) = both_from f (core_flows c.value) posts c.flows (range_from f1 (length post)) in
-        let back : From f2 (reverse pres) = subst (From f2) (sym turned) (range_from f2 (length pre)) in
+        let back : From f2 (reverse pres) = subst (From f2) (sym (reverse-reverse (range_with_len f2 (length pre)))) (range_from f2 (length pre)) in
         record {
           value = part pres c.value posts;
           good = (length-reverse (range_with_len f2 (length pre)) ∙ length-range_with_len f2 (length pre), c.good, length-range_with_len f1 (length post));
-          flows = both_from f (core_flows c.value ++ posts) (reverse pres) front back;
+          flows = both_from f (core_flows c.value ++ posts) (reverse pres) (both_from f (core_flows c.value) posts c.flows (range_from f1 (length post))) back;
           imports = c.imports;
           nodes = c.nodes;
         }
@@ -201,8 +199,7 @@ module _ (p : ProgramTree) (main : ℕ) (right : IsNamed p main) where
       let d = element_at p.nodes k below in
       build_entered p k d.0 d.1 (right.nodes k d.0 d.1).known
       (λ j applied there g s m.
-      let by : applies p k j ≡ true = ap (applied_by p j) d.1 ∙ applied in
-      build fuel j (omega (arith, small, rank_falls p right.acyclic k j by there)) there g s m)
+      build fuel j (omega (arith, small, rank_falls p right.acyclic k j (ap (applied_by p j) d.1 ∙ applied) there)) there g s m)
       f r n
 
   pub expansion : (e : Expansion) × IsExpansion p main e

@@ -171,11 +171,9 @@ module _ (p : ProgramTree) (main : ℕ) (right : IsNamed p main) where
   build zero k small below s = absurd (omega (arith, small))
   build (suc fuel) k small below s =
       let d = element_at p.nodes k below in
-      let at : node_at p k ≡ d.0 = ap texts.node_or d.1 in
       let enters : Enters p (entered_from p fuel) (λ j. applied_equations p j d.0.eqs) = λ j applied there t.
-      (let by : applies p k j ≡ true = ap (applied_by p j) d.1 ∙ applied in
-      build fuel j (omega (arith, small, rank_falls p right.acyclic k j by there)) there t) in
-      subst (λ x. IsNode p k s (node_from p (entered_from p fuel) x s)) (sym at)
+      (build fuel j (omega (arith, small, rank_falls p right.acyclic k j (ap (applied_by p j) d.1 ∙ applied) there)) there t) in
+      subst (λ x. IsNode p k s (node_from p (entered_from p fuel) x s)) (sym (ap texts.node_or d.1))
       (build_entered p (entered_from p fuel) k d.0 d.1 (right.nodes k d.0 d.1).known enters s)
 
   pub is_expansion : IsExpansion p main (a_node p (length p.nodes) main first)

@@ -79,11 +79,10 @@ module _ (p : ProgramTree) (tys : Types) (levels k : ℕ) (env : List ℕ) (pre 
       let n : NodeTree = node_at p k in
       let of' : List ℕ = root_given n env root core in
       let ty : Ty = resolved tys (types.operand (types.root_flows p k root)) in
-      let number : b.next.flow ≡ above = ap (λ (x : Next). x.flow) one.next_is in
       let type_is : first_type (types_of of) ≡ ty = ap first_type types_is ∙ first_resolved tys (types.root_flows p k root) in
       let turned = reverse-reverse (range_with_len (above + length post) (length pre)) in
       let ops : operated_flows b.next.flow pre post (first_type (types_of of)) (map flow_of of) ≡ operated_flows above pre post ty of' =
-      ap (λ f. operated_flows f pre post (first_type (types_of of)) (map flow_of of)) number
+      ap (λ f. operated_flows f pre post (first_type (types_of of)) (map flow_of of)) (ap (λ (x : Next). x.flow) one.next_is)
       ∙ ap (λ y. operated_flows above pre post y (map flow_of of)) type_is ∙ ap (operated_flows above pre post ty) flows_is in
       let back = ap (λ is. operator_flows ty (reverse pre) is (last_of of' (range_with_len above (length post)))) (sym turned) in
       adds_as a d
@@ -97,8 +96,7 @@ module _ (p : ProgramTree) (tys : Types) (levels k : ℕ) (env : List ℕ) (pre 
 
   pub operators_past : (m : Made) (e : ExpandFault) → m.next ≡ past_core s core → IsPast ((m.next.flow + length post) + length pre) e → IsPast (s.flow + length (notes.part_flows whole)) e
   operators_past m e at_is h =
-      let number : m.next.flow ≡ above = ap (λ (x : Next). x.flow) at_is in
-      past_more ((m.next.flow + length post) + length pre) (s.flow + length (notes.part_flows whole)) e (omega (arith, part_length, number)) h
+      past_more ((m.next.flow + length post) + length pre) (s.flow + length (notes.part_flows whole)) e (omega (arith, part_length, ap (λ (x : Next). x.flow) at_is)) h
 
 pub on_ok : {T E : Type 0} (r : Result T E) (P Q : Type 0) → (P → Q) → OnOk r P → OnOk r Q
 on_ok (Ok x) P Q f h = f h
@@ -265,8 +263,8 @@ module _ (p : ProgramTree) (tys : Types) (levels k : ℕ) (env : List ℕ) (name
   apply_past t e is h = subst (λ n. IsPast n e) (ap (λ (x : Next). x.flow) (ap (λ x. past_core x (a_call p levels o x)) is ∙ numbers_root o)) h
 
   args_below : (o : Option Callee) → s.flow + length (notes.parts_flows inner) ≤ s.flow + length (notes.core_flows (called_by o))
-  args_below None = let n = length-append (notes.parts_flows inner) [] in omega (arith, n)
-  args_below (Some (callees.Import j)) = let n = length-append (notes.parts_flows inner) (range_with_len s₁.flow (length (ports_of (slice_get p.imports j)))) in omega (arith, n)
+  args_below None = omega (arith, length-append (notes.parts_flows inner) [])
+  args_below (Some (callees.Import j)) = omega (arith, length-append (notes.parts_flows inner) (range_with_len s₁.flow (length (ports_of (slice_get p.imports j)))))
   args_below (Some (callees.Node j)) = let n = length-append (notes.parts_flows inner) (notes.flows_in (entered_from p levels j (next_of s₁.flow s₁.app (s₁.node + 1)))) in omega (arith, n)
 
   pub args_past : (e : ExpandFault) → IsPast (s.flow + length (notes.parts_flows inner)) e → IsPast (s.flow + length (notes.core_flows (a_core p levels (apply name place args) s))) e
@@ -287,8 +285,7 @@ module _ (p : ProgramTree) (tys : Types) (k : ℕ) (env : List given_term.Term) 
     (is : param_at p k name ≡ Some i) (at : slice_get env i ≡ Some t) where
   pub var_given : (n : NodeTree) × (slice_get p.nodes k ≡ Some n) → t.flow ∷ [] ≡ at_variable (node_at p k) (map flow_of env) name
   var_given there =
-      let node : node_at p k ≡ there.0 = ap node_or there.1 in
-      let here : param_of (node_at p k) name ≡ Some i = ap (λ n. param_of n name) node ∙ sym (param_known p k there.0 name there.1) ∙ is in
+      let here : param_of (node_at p k) name ≡ Some i = ap (λ n. param_of n name) (ap node_or there.1) ∙ sym (param_known p k there.0 name there.1) ∙ is in
       sym (ap (at_index (map flow_of env)) here ∙ ap one (get_map flow_of env i t at))
 
   pub var_types : types_of env ≡ have_types p tys k (length env) → t.ty ∷ [] ≡ all_resolved tys (types.root_flows p k (var name))

@@ -84,8 +84,7 @@ module _ (p : ProgramTree) (tys : Types) (flat : FlatProgram) where
   variables_typed label m (q ∷ qs) (x ∷ is) [] a b h j i e = absurd (omega (arith, b))
   variables_typed label m (q ∷ qs) (x ∷ is) (d ∷ ds) a b h zero i e =
       let here : m ≡ m + 0 = omega arith in
-      let same : x ≡ i = some_inner x i e in
-      subst (λ y. HasType flat (type_at tys (m + 0)) (flow_no y)) same (subst (λ k. HasType flat (type_at tys k) (flow_no x)) here (_, h.0, refl))
+      subst (λ y. HasType flat (type_at tys (m + 0)) (flow_no y)) (some_inner x i e) (subst (λ k. HasType flat (type_at tys k) (flow_no x)) here (_, h.0, refl))
   variables_typed label m (q ∷ qs) (x ∷ is) (d ∷ ds) a b h (suc j) i e =
       let moved : (m + 1) + j ≡ m + suc j = omega arith in
       subst (λ k. HasType flat (type_at tys k) (flow_no i)) moved (variables_typed label (m + 1) qs is ds (omega (arith, a)) (omega (arith, b)) h.1 j i e)
@@ -94,7 +93,7 @@ module _ (p : ProgramTree) (tys : Types) (flat : FlatProgram) where
   operators_typed ty [] [] of a b h = tt
   operators_typed ty [] (i ∷ is) of a b h = absurd (omega (arith, a))
   operators_typed ty (o ∷ os) [] of a b h = absurd (omega (arith, a))
-  operators_typed ty (o ∷ os) (i ∷ is) [] a b h = let e = b (omega arith) in absurd (omega (arith, e))
+  operators_typed ty (o ∷ os) (i ∷ is) [] a b h = absurd (omega (arith, b (omega arith)))
   operators_typed ty (o ∷ os) (i ∷ is) (x ∷ xs) a b h = ((_, h.0, refl), operators_typed ty os is (i ∷ []) (omega (arith, a)) (λ some. refl) h.1)
 
   outputs_typed : (app out : ℕ) (at : Span) (qs : List Port) (is : List ℕ) → length is ≡ length qs → AllByRecursion HasFlow (output_flows app out at qs is) → AreTyped is (flows.port_types qs)
@@ -146,7 +145,7 @@ module _ (p : ProgramTree) (tys : Types) (flat : FlatProgram) where
       within : (xs : List ℕ) (j i : ℕ) → slice_get xs j ≡ Some i → j < length xs
       within [] j i e = absurd (cc)
       within (x ∷ xs) zero i e = omega arith
-      within (x ∷ xs) (suc j) i e = let small = within xs j i e in omega (arith, small)
+      within (x ∷ xs) (suc j) i e = omega (arith, within xs j i e)
 
   variable_typed : (k : ℕ) (env : List ℕ) (o : Option ℕ) → IsSome o → IsEnvironment k env → ((j : ℕ) → o ≡ Some j → j < length env) → AreTyped (at_index env o) (parameter_or p k o ∷ [])
   variable_typed k env None h typed small = absurd (cc)
@@ -159,9 +158,8 @@ module _ (p : ProgramTree) (tys : Types) (flat : FlatProgram) where
   import_typed None app at outs call h = absurd call
   import_typed (Some (callees.Node k)) app at outs call h = absurd call
   import_typed (Some (callees.Import k)) app at outs call h =
-      let there : slice_get p.imports k ≡ Some call.0 = call.1 in
-      let flows_there = subst (λ (o : Option Import). AllByRecursion HasFlow (output_flows app 0 at (ports_of o) outs)) there h in
-      subst (λ (o : Option Import). AreTyped outs (flows.import_outputs o)) (sym there) (outputs_typed app 0 at call.0.outs outs call.2 flows_there)
+      let flows_there = subst (λ (o : Option Import). AllByRecursion HasFlow (output_flows app 0 at (ports_of o) outs)) call.1 h in
+      subst (λ (o : Option Import). AreTyped outs (flows.import_outputs o)) (sym call.1) (outputs_typed app 0 at call.0.outs outs call.2 flows_there)
 
   module _ (sound : IsSound p) where
     -- the variables of a node that is entered
@@ -222,10 +220,9 @@ module _ (p : ProgramTree) (tys : Types) (flat : FlatProgram) where
         root_typed (const v) at (notes.constant i) h known arity flow = ((_, flow.0, refl), tt)
         root_typed (var name) at notes.name h known arity flow =
             let is : param_at p k name ≡ param_of n name = param_known p k n name found in
-            let some : IsSome (param_of n name) = subst (λ (o : Option ℕ). IsSome o) is known in
             subst (λ (o : Option ℕ). AreTyped (at_index env (param_of n name)) (parameter_or p k o ∷ [])) (sym is)
-            (variable_typed k env (param_of n name) some env_typed (λ j e.
-            let small = index_within (param_names n) name j e in omega (arith, small, count, length-map (params_of n) (λ (q : Param). q.name))))
+            (variable_typed k env (param_of n name) (subst (λ (o : Option ℕ). IsSome o) is known) env_typed (λ j e.
+            omega (arith, index_within (param_names n) name j e, count, length-map (params_of n) (λ (q : Param). q.name))))
         root_typed (apply name place args) at (notes.import parts x outs) h known arity flow =
             import_typed (callee_of p name) x place outs h.0 (all_second HasFlow (all_flows p tys k n env args parts) (output_flows x 0 place (ports_of (import_at p (callee_of p name))) outs) flow)
         root_typed (apply name place args) at (notes.node parts x child) h known arity flow =

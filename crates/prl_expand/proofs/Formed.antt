@@ -56,9 +56,8 @@ all_met tys choice count are (r ∷ rules) fits meets =
 node_met : (p : ProgramTree) (tys : Types) (ns : List NodeTree) (first i k : ℕ) (n : NodeTree) → AllMet tys (nodes_rules p first ns) → slice_get ns i ≡ Some n → k ≡ first + i → AllMet tys (equations_rules p k n.eqs)
 node_met p tys [] first i k n met found at = absurd (cc)
 node_met p tys (m ∷ ns) first zero k n met found at =
-    let same : m ≡ n = some_inner m n found in
     let number : first ≡ k = omega (arith, at) in
-    subst (λ (x : NodeTree). AllMet tys (equations_rules p k x.eqs)) same
+    subst (λ (x : NodeTree). AllMet tys (equations_rules p k x.eqs)) (some_inner m n found)
     (subst (λ j. AllMet tys (equations_rules p j m.eqs)) number (all_first (Met tys) (equations_rules p first m.eqs) (nodes_rules p (first + 1) ns) met))
 node_met p tys (m ∷ ns) first (suc i) k n met found at =
     node_met p tys ns (first + 1) i k n (all_second (Met tys) (equations_rules p first m.eqs) (nodes_rules p (first + 1) ns) met) found (omega (arith, at))
@@ -113,9 +112,8 @@ app_at p tys flat first (v ∷ us) (suc i) k u h e at = app_at p tys flat (first
 pub number_at : (first : ℕ) (fs : List Numbered) (i k : ℕ) (f : Numbered) → numbers_of fs ≡ range_with_len first (length fs) → slice_get fs i ≡ Some f → k ≡ first + i → f.0 ≡ k
 number_at first [] i k f counted e at = absurd (cc)
 number_at first (g ∷ fs) zero k f counted e at =
-    let here : g.0 ≡ first = head_same g.0 first (numbers_of fs) (range_with_len (first + 1) (length fs)) counted in
     let number : first ≡ k = omega (arith, at) in
-    sym (ap (λ (x : Numbered). x.0) (some_inner g f e)) ∙ here ∙ number
+    sym (ap (λ (x : Numbered). x.0) (some_inner g f e)) ∙ (head_same g.0 first (numbers_of fs) (range_with_len (first + 1) (length fs)) counted) ∙ number
 number_at first (g ∷ fs) (suc i) k f counted e at =
     number_at (first + 1) fs i k f (tail_same g.0 first (numbers_of fs) (range_with_len (first + 1) (length fs)) counted) e (omega (arith, at))
 
@@ -141,11 +139,9 @@ wcet_range : (ds : List Device) (t : ℕ) (name : List ℕ) → slice_get (devic
 wcet_range [] t name e h = absurd (cc)
 wcet_range (d ∷ ds) zero name e h =
     let here : d.name ≡ name = some_inner d.name name e in
-    let taken : cond (bytes_eq d.name name) d.wcet (wcet_named ds name) ≡ d.wcet = ap (λ b. cond b d.wcet (wcet_named ds name)) ((bytes_decides d.name name).1 here) in
-    subst ranges.IsCount (sym taken) h.0.1
+    subst ranges.IsCount (sym (ap (λ b. cond b d.wcet (wcet_named ds name)) ((bytes_decides d.name name).1 here))) h.0.1
 wcet_range (d ∷ ds) (suc t) name e h =
-    let later : ranges.IsCount (wcet_named ds name) = wcet_range ds t name e h.1 in
-    elim (bytes_eq d.name name) as (λ b. ranges.IsCount (cond b d.wcet (wcet_named ds name))) [ true ↦ h.0.1 | false ↦ later ]
+    elim (bytes_eq d.name name) as (λ b. ranges.IsCount (cond b d.wcet (wcet_named ds name))) [ true ↦ h.0.1 | false ↦ (wcet_range ds t name e h.1) ]
 
 -- a device of a flat program has a name and a WCET
 abbrev IsDevice : flats.Device → Type 0
@@ -271,5 +267,4 @@ pub flows_there : (p : ProgramTree) (tys : List Ty) (main : ℕ) (sound : IsSoun
 flows_there p tys main sound e expansion =
     let fs : List Numbered = all_numbered p tys main e in
     let numbers : numbers_of fs ≡ flows_in e = entered_numbered p tys sound [] main (sensors_from 0 (inputs_of e)) e expansion.text (sensors_count 0 (inputs_of e)) in
-    let number : length fs ≡ length (flows_in e) = sym (length-map fs (λ (f : Numbered). f.0)) ∙ ap length numbers in
-    flows_at [] 0 fs refl (numbers ∙ expansion.flows ∙ ap (range_with_len 0) (sym number))
+    flows_at [] 0 fs refl (numbers ∙ expansion.flows ∙ ap (range_with_len 0) (sym (sym (length-map fs (λ (f : Numbered). f.0)) ∙ ap length numbers)))

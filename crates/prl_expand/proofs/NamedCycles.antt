@@ -112,14 +112,12 @@ module _ (p : ProgramTree) (asked : Option (List ℕ)) (main : ℕ) (tys : List 
   earlier i j flow found made names =
       let numbers : numbers_of fs ≡ flows_in e = entered_numbered p tys sound [] main (sensors_from 0 (inputs_of e)) e expansion.text (sensors_count 0 (inputs_of e)) in
       let number : length fs ≡ length (flows_in e) = sym (length-map fs (λ (f : Numbered). f.0)) ∙ ap length numbers in
-      let counted : numbers_of fs ≡ range_with_len 0 (length fs) = numbers ∙ expansion.flows ∙ ap (range_with_len 0) (sym number) in
       let g = mapped_from (λ (f : Numbered). f.1) fs i flow found in
-      let at : g.0.0 ≡ i = number_at 0 fs i i g.0 counted g.1 (omega arith) in
-      let step = at_place (UsesEarlier p tys flat) fs i g.0 uses g.1 in
+      let at : g.0.0 ≡ i = number_at 0 fs i i g.0 (numbers ∙ expansion.flows ∙ ap (range_with_len 0) (sym number)) g.1 (omega arith) in
       let made_there : is_made g.0.1.label ≡ true = subst (λ (f : Flow). is_made f.label ≡ true) (sym g.2) made in
       let names_there : NamesNow flat g.0.1.def j ⊎ NamesInside g.0.1.def j =
       subst (λ (f : Flow). NamesNow flat f.def j ⊎ NamesInside f.def j) (sym g.2) names in
-      subst (λ m. (j < m) ⊎ HasName flat j) at (step made_there j names_there)
+      subst (λ m. (j < m) ⊎ HasName flat j) at ((at_place (UsesEarlier p tys flat) fs i g.0 uses g.1) made_there j names_there)
 
   now_falls : Falls flat (UsesNow flat)
   now_falls i j flow found made step =

@@ -39,7 +39,7 @@ operators_numbered : (ty : Ty) (os : List PlacedOp) (is of : List ℕ) → lengt
 operators_numbered ty [] [] of a b = refl
 operators_numbered ty [] (i ∷ is) of a b = absurd (omega (arith, a))
 operators_numbered ty (o ∷ os) [] of a b = absurd (omega (arith, a))
-operators_numbered ty (o ∷ os) (i ∷ is) [] a b = let e = b (omega arith) in absurd (omega (arith, e))
+operators_numbered ty (o ∷ os) (i ∷ is) [] a b = absurd (omega (arith, b (omega arith)))
 operators_numbered ty (o ∷ os) (i ∷ is) (x ∷ xs) a b = ap (λ js. i ∷ js) (operators_numbered ty os is (i ∷ []) (omega (arith, a)) (λ h. refl))
 
 outputs_numbered : (app out : ℕ) (at : Span) (qs : List Port) (is : List ℕ) → length is ≡ length qs → numbers_of (output_flows app out at qs is) ≡ is

@@ -34,9 +34,7 @@ passing_less f g h j (suc m) below a b =
     (λ lower. omega (arith, cond_le (f m) (g m) (h m), passing_less f g h j m lower a b))
     (λ not_lower.
     (let last : m ≡ j = omega (arith, below, not_lower) in
-    let none : one_if (f m) ≡ 0 = ap one_if (ap f last ∙ a) in
-    let one : one_if (g m) ≡ 1 = ap one_if (ap g last ∙ b) in
-    omega (arith, none, one, passing_le f g h m)))
+    omega (arith, ap one_if (ap f last ∙ a), ap one_if (ap g last ∙ b), passing_le f g h m)))
     (cases_lt j m)
 
 never : (b : Bool) → (b ≡ true → ⊥) → b ≡ false

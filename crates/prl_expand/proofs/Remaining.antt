@@ -91,8 +91,7 @@ module _ (p : ProgramTree) (tys : Types) (levels k : ℕ) (env : List ℕ) where
       let left = subst (λ r. PartsLeft list m m₀ r all) is before in
       let q : Part ℕ ℕ ℕ = a_part p levels t m.next in
       let tail : Parts ℕ ℕ ℕ = all_parts p levels ts (past_part m.next q) in
-      let number : m.next.flow + length (notes.part_flows q ++ notes.parts_flows tail) ≡ m₀.next.flow + length (notes.parts_flows (all_parts p levels all m₀.next)) = ap (λ (x : Next). x.flow) left.numbers in
-      past_more _ _ e (omega (arith, length-append (notes.part_flows q) (notes.parts_flows tail), number)) h
+      past_more _ _ e (omega (arith, length-append (notes.part_flows q) (notes.parts_flows tail), ap (λ (x : Next). x.flow) left.numbers)) h
 
   abbrev right_flows_left : List EquationTree → Next → List Numbered
   right_flows_left es s = flats.right_flows p tys k node env es (the_rights p levels es s)

@@ -43,10 +43,9 @@ pub record IsSound (p : ProgramTree) : Type 0 where
 node_arity : (p : ProgramTree) (ns : List NodeTree) (first i k : ℕ) (n : NodeTree) → nodes_faults p first ns ≡ [] → slice_get ns i ≡ Some n → k ≡ first + i → equations_faults p k n.eqs ≡ []
 node_arity p [] first i k n e found at = absurd (cc)
 node_arity p (m ∷ ns) first zero k n e found at =
-    let same : m ≡ n = some_inner m n found in
     let here : equations_faults p first m.eqs ≡ [] = no_first (equations_faults p first m.eqs) (nodes_faults p (first + 1) ns) e in
     let number : first ≡ k = omega (arith, at) in
-    subst (λ (x : NodeTree). equations_faults p k x.eqs ≡ []) same (subst (λ j. equations_faults p j m.eqs ≡ []) number here)
+    subst (λ (x : NodeTree). equations_faults p k x.eqs ≡ []) (some_inner m n found) (subst (λ j. equations_faults p j m.eqs ≡ []) number here)
 node_arity p (m ∷ ns) first (suc i) k n e found at =
     node_arity p ns (first + 1) i k n (no_second (equations_faults p first m.eqs) (nodes_faults p (first + 1) ns) e) found (omega (arith, at))
 
@@ -85,7 +84,7 @@ pub variable_length : {F : Type 0} (p : ProgramTree) (k : ℕ) (n : NodeTree) (e
     → IsSome (param_at p k name) → length (at_variable n env name) ≡ 1
 variable_length p k n env name found count known =
     index_length env (param_of n name) (subst (λ (o : Option ℕ). IsSome o) (param_known p k n name found) known)
-    (λ j e. let small = index_within (param_names n) name j e in omega (arith, small, count, length-map (params_of n) (λ (q : Param). q.name)))
+    (λ j e. omega (arith, index_within (param_names n) name j e, count, length-map (params_of n) (λ (q : Param). q.name)))
 
 parameters_length : (first count : ℕ) → length (parameters_from first count) ≡ count
 parameters_length first count = length-map (range_with_len first count) terms.Parameter ∙ length-range_with_len first count

@@ -95,8 +95,7 @@ module _ (p : ProgramTree) (k : ℕ) (n : NodeTree) (env : List ℕ) (found : sl
   pairs_are : (ls : List Placed) (gs : List ℕ) → AreKnownLefts p k ls → all_same (at_lefts n env ls) gs ≡ pair_rules n env (paired ls gs)
   pairs_are [] gs known = refl
   pairs_are (l ∷ ls) [] known =
-      let x = the_one (at_variable n env l.name) (variable_length p k n env l.name found count known.0) in
-      ap (λ v. all_same (v ++ at_lefts n env ls) []) x.1
+      ap (λ v. all_same (v ++ at_lefts n env ls) []) (the_one (at_variable n env l.name) (variable_length p k n env l.name found count known.0)).1
   pairs_are (l ∷ ls) (g ∷ gs) known =
       let x = the_one (at_variable n env l.name) (variable_length p k n env l.name found count known.0) in
       pair_is l ls g gs x.0 x.1 (pairs_are ls gs known.1)
@@ -145,9 +144,8 @@ source_is (x ∷ xs) (suc t) s apart e =
     elim (bytes_eq x.0 s.0) as (λ b. bytes_eq x.0 s.0 ≡ b → cond b x.1 (source_of xs s.0) ≡ s.1) [
       | true ↦ λ f.
           (let name : x.0 ≡ s.0 = (bytes_decides x.0 s.0).0 f in
-          let there : slice_get (names_of xs) t ≡ Some s.0 = slice_get-map (λ (y : Source). y.0) xs t ∙ ap (option_map (λ (y : Source). y.0)) e in
-          absurd (omega (arith, apart 0 (suc t) s.0 (ap Some name) there)))
-      | false ↦ λ f. source_is xs t s (λ i j m a b. let up : suc i ≡ suc j = apart (suc i) (suc j) m a b in omega (arith, up)) e
+          absurd (omega (arith, apart 0 (suc t) s.0 (ap Some name) (slice_get-map (λ (y : Source). y.0) xs t ∙ ap (option_map (λ (y : Source). y.0)) e))))
+      | false ↦ λ f. source_is xs t s (λ i j m a b. omega (arith, apart (suc i) (suc j) m a b)) e
     ] refl
 
 module _ (P : Rule ℕ ℕ → Type 0) (n : NodeTree) (env : List ℕ) where
@@ -170,13 +168,11 @@ module _ (P : Rule ℕ ℕ → Type 0) (n : NodeTree) (env : List ℕ) where
       let taken : cond (bytes_eq x.0 name) x.1 (source_of xs name) ≡ x.1 = ap (λ b. cond b x.1 (source_of xs name)) ((bytes_decides x.0 name).1 here) in
       subst (λ g. P (same i g)) (sym taken) (the_same x.0 i x.1 (ap (at_variable n env) here ∙ e) first)
   source_rule (x ∷ xs) (suc t) name s i e found is h =
-      let later : P (same i (source_of xs name)) = source_rule xs t name s i e found is (all_second P (all_same (at_variable n env x.0) (x.1 ∷ [])) (pair_rules n env xs) h) in
       elim (bytes_eq x.0 name) as (λ b. bytes_eq x.0 name ≡ b → P (same i (cond b x.1 (source_of xs name)))) [
         | true ↦ λ f.
-            (let first : All (all_same (at_variable n env x.0) (x.1 ∷ [])) = all_first P (all_same (at_variable n env x.0) (x.1 ∷ [])) (pair_rules n env xs) h in
-            let at : x.0 ≡ name = (bytes_decides x.0 name).0 f in
-            the_same x.0 i x.1 (ap (at_variable n env) at ∙ e) first)
-        | false ↦ λ f. later
+            (let at : x.0 ≡ name = (bytes_decides x.0 name).0 f in
+            the_same x.0 i x.1 (ap (at_variable n env) at ∙ e) (all_first P (all_same (at_variable n env x.0) (x.1 ∷ [])) (pair_rules n env xs) h))
+        | false ↦ λ f. (source_rule xs t name s i e found is (all_second P (all_same (at_variable n env x.0) (x.1 ∷ [])) (pair_rules n env xs) h))
       ] refl
 
   -- from the rules of pairs to those of outputs and locals
@@ -209,9 +205,7 @@ module _ (P : Rule ℕ ℕ → Type 0) (n : NodeTree) (env : List ℕ) where
   definition_at ss [] is t q i e f h = absurd (cc)
   definition_at ss (x ∷ qs) [] t q i e f h = absurd (cc)
   definition_at ss (x ∷ qs) (y ∷ is) zero q i e f h =
-      let a : x ≡ q = some_inner x q e in
-      let b : y ≡ i = some_inner y i f in
-      subst (λ (z : Param). P (same i (source_of ss z.name))) a (subst (λ j. P (same j (source_of ss x.name))) b h.0)
+      subst (λ (z : Param). P (same i (source_of ss z.name))) (some_inner x q e) (subst (λ j. P (same j (source_of ss x.name))) (some_inner y i f) h.0)
   definition_at ss (x ∷ qs) (y ∷ is) (suc t) q i e f h = definition_at ss qs is t q i e f h.1
 
   -- the rules of pairs, one by one
@@ -286,9 +280,8 @@ module _ (P : Rule ℕ ℕ → Type 0) (p : ProgramTree) (k : ℕ) (n : NodeTree
 
   sources_apart : AreApart (names_of sources)
   sources_apart = λ i j name a b.
-      let first = left_place i name (ap (λ (ns : List (List ℕ)). slice_get ns i) (sym names_are) ∙ a) in
       let second = left_place j name (ap (λ (ns : List (List ℕ)). slice_get ns j) (sym names_are) ∙ b) in
-      omega (arith, all_apart (length n.ins + i) (length n.ins + j) name first second)
+      omega (arith, all_apart (length n.ins + i) (length n.ins + j) name (left_place i name (ap (λ (ns : List (List ℕ)). slice_get ns i) (sym names_are) ∙ a)) second)
 
   -- a left name is no input
   no_input : (t j : ℕ) (name : List ℕ) → slice_get (left_names n) t ≡ Some name → (q : Param) → slice_get n.ins j ≡ Some q → q.name ≡ name → ⊥

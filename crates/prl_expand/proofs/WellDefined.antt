@@ -83,13 +83,11 @@ pub source_holds : (Q : Source → Type 0) (ss : List Source) (t : ℕ) (name : 
 source_holds Q [] t name e h = absurd (cc)
 source_holds Q (s ∷ ss) zero name e h =
     let here : s.0 ≡ name = some_inner s.0 name e in
-    let taken : cond (bytes_eq s.0 name) s.1 (source_of ss name) ≡ s.1 = ap (λ b. cond b s.1 (source_of ss name)) ((bytes_decides s.0 name).1 here) in
-    subst (λ g. Q (name, g)) (sym taken) (subst (λ m. Q (m, s.1)) here h.0)
+    subst (λ g. Q (name, g)) (sym (ap (λ b. cond b s.1 (source_of ss name)) ((bytes_decides s.0 name).1 here))) (subst (λ m. Q (m, s.1)) here h.0)
 source_holds Q (s ∷ ss) (suc t) name e h =
-    let later : Q (name, source_of ss name) = source_holds Q ss t name e h.1 in
     elim (bytes_eq s.0 name) as (λ b. bytes_eq s.0 name ≡ b → Q (name, cond b s.1 (source_of ss name))) [
       | true ↦ λ f. subst (λ m. Q (m, s.1)) ((bytes_decides s.0 name).0 f) h.0
-      | false ↦ λ f. later
+      | false ↦ λ f. (source_holds Q ss t name e h.1)
     ] refl
 
 module _ (p : ProgramTree) (tys : Types) (flat : FlatProgram) where

@@ -254,7 +254,6 @@ module _ (p : ProgramTree) (tys : Types) (flat : FlatProgram) where
           let gs : List ℕ = all_given n env args parts in
           let label : List ℕ = label_of_node name x in
           let argued = argued_right p k name place args arity in
-          let enough = enough_given p k n env found count name args parts child h.0 h.1 h.2 known.1 argued in
           let a : List Numbered = all_flows p tys k n env args parts in
           let b : List Numbered = entered_flows p tys label callee (map copy_of gs) child in
           let arg_flow = all_first (HasFlow p tys flat) a b flow in
@@ -267,7 +266,7 @@ module _ (p : ProgramTree) (tys : Types) (flat : FlatProgram) where
           let inputs = applied_typed p tys flat k name args gs argued met_own kinds in
           sound_both a b (parts_imports parts) (imports_in child) (all_apps p n env args parts) (entered_apps p callee child) number
           (all_sound k n env found count typed (d + 1) args parts h.1 known.1 argued.inner range.2 met_args arg_flow arg_apps)
-          (entered_sound label callee (map copy_of gs) child h.2 enough
+          (entered_sound label callee (map copy_of gs) child h.2 (enough_given p k n env found count name args parts child h.0 h.1 h.2 known.1 argued)
           (λ j i s e f.
           let g = mapped_from copy_of gs j s f in
           subst (λ (def : Def). IsWellDefined flat i (type_at tys (first_of p callee + j)) def) g.2 (call_typed o gs h.0 inputs j g.0 g.1))

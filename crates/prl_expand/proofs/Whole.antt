@@ -1,5 +1,5 @@
 -- The flat program of the whole.
-use Rattle.std.proofs.Common.{◌≡◌, ◌<◌, ◌+◌, ◌++◌, ◌∷◌, [], ℕ, zero, suc, List, Some, map, length, slice_get, sym, ap, ◌∙◌, arith}
+use Rattle.std.proofs.Common.{◌≡◌, ◌<◌, ◌+◌, ◌++◌, ◌∷◌, [], ℕ, zero, suc, List, Some, map, length, slice_get, sym, ap, subst, ◌∙◌, arith}
 use Rattle.std.specs.List.{range_with_len}
 use Rattle.prl_base.specs.declared.numbers.FlowNo.{FlowNo}
 use Rattle.prl_base.specs.declared.values.Ty.{Ty}
@@ -66,17 +66,17 @@ module _ (p : ProgramTree) (main : ℕ) (tys : List Ty) (right : IsRight p main 
   pub expansion_is : IsExpansion p main whole
   expansion_is = is_expansion p main is_named
 
-  pub flat_is : (flows : List Flow) (apps : List App) (ins outs : List FlowNo) (in_devices out_devices : List flat_programs.Device) (d : NodeTree) → node_at p main ≡ d
-      → flows ≡ flows_of (entered_flows p tys [] main (sensors_from 0 (range_with_len 0 (length d.ins))) whole) → apps ≡ entered_apps p main whole
-      → ins ≡ map flow_no (range_with_len 0 (length d.ins)) → outs ≡ map flow_no (outputs_of whole) → in_devices ≡ devices_of p.sensors d.ins → out_devices ≡ devices_of p.actuators d.outs
-      → a_flat flows apps ins outs in_devices out_devices ≡ flat_of p tys main whole
-  flat_is flows apps ins outs in_devices out_devices d is a b c e f g =
-      ap (λ x. a_flat x apps ins outs in_devices out_devices) (a ∙ ap (λ (x : NodeTree). flows_of (entered_flows p tys [] main (sensors_from 0 (range_with_len 0 (length x.ins))) whole)) (sym is))
+  pub flat_is : (flows : List Flow) (apps : List App) (ins outs : List FlowNo) (in_devices out_devices : List flat_programs.Device)
+      → flows ≡ flows_of (entered_flows p tys [] main (sensors_from 0 (range_with_len 0 (length (node_at p main).ins))) whole) → apps ≡ entered_apps p main whole
+      → ins ≡ map flow_no (range_with_len 0 (length (node_at p main).ins)) → outs ≡ map flow_no (outputs_of whole) → in_devices ≡ devices_of p.sensors (node_at p main).ins
+      → out_devices ≡ devices_of p.actuators (node_at p main).outs → a_flat flows apps ins outs in_devices out_devices ≡ flat_of p tys main whole
+  flat_is flows apps ins outs in_devices out_devices a b c e f g =
+      ap (λ x. a_flat x apps ins outs in_devices out_devices) a
       ∙ ap (λ x. a_flat (flat_of p tys main whole).flows x ins outs in_devices out_devices) b
-      ∙ ap (λ x. a_flat (flat_of p tys main whole).flows (flat_of p tys main whole).apps x outs in_devices out_devices) (c ∙ ap (λ (x : NodeTree). map flow_no (range_with_len 0 (length x.ins))) (sym is))
+      ∙ ap (λ x. a_flat (flat_of p tys main whole).flows (flat_of p tys main whole).apps x outs in_devices out_devices) c
       ∙ ap (λ x. a_flat (flat_of p tys main whole).flows (flat_of p tys main whole).apps (flat_of p tys main whole).ins x in_devices out_devices) e
-      ∙ ap (λ x. a_flat (flat_of p tys main whole).flows (flat_of p tys main whole).apps (flat_of p tys main whole).ins (flat_of p tys main whole).outs x out_devices) (f ∙ ap (λ (x : NodeTree). devices_of p.sensors x.ins) (sym is))
-      ∙ ap (λ x. a_flat (flat_of p tys main whole).flows (flat_of p tys main whole).apps (flat_of p tys main whole).ins (flat_of p tys main whole).outs (flat_of p tys main whole).in_devices x) (g ∙ ap (λ (x : NodeTree). devices_of p.actuators x.outs) (sym is))
+      ∙ ap (λ x. a_flat (flat_of p tys main whole).flows (flat_of p tys main whole).apps (flat_of p tys main whole).ins (flat_of p tys main whole).outs x out_devices) f
+      ∙ ap (λ x. a_flat (flat_of p tys main whole).flows (flat_of p tys main whole).apps (flat_of p tys main whole).ins (flat_of p tys main whole).outs (flat_of p tys main whole).in_devices x) g
 
   pub fault_is : (e : ExpandFault) → IsPast (0 + length (flows_in whole)) e → IsExpandFault p main e
   fault_is e h = past_is p main is_named (0 + length (flows_in whole)) e (omega arith) h
@@ -84,3 +84,8 @@ module _ (p : ProgramTree) (main : ℕ) (tys : List Ty) (right : IsRight p main 
   pub inputs_fault : (e : ExpandFault) (d : NodeTree) (n : ℕ) → node_at p main ≡ d → n ≡ length d.ins → IsPast (0 + n) e → IsExpandFault p main e
   inputs_fault e d n is count h =
       fault_is e (variables_past p tys (length p.nodes) main first d e is (past_more (0 + n) (((0 + length d.ins) + length d.outs) + length d.locals) e (omega (arith, count)) h))
+
+-- main's node is there, by equal programs and numbers
+pub there_in : (checked typed : Program) (k main : ℕ) (tys : List Ty) → IsRight (program_tree typed) main tys → checked ≡ typed → k ≡ main → k < length (program_tree checked).nodes
+there_in checked typed k main tys right same is =
+    subst (λ x. k < length (program_tree x).nodes) (sym same) (subst (λ n. n < length (program_tree typed).nodes) (sym is) (main_there (program_tree typed) main tys right))

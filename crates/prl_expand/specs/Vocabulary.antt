@@ -8,7 +8,7 @@ pub use Rattle.prl_expand.specs.Flats.{devices_of, entered_apps, entered_flows, 
 pub use Rattle.prl_expand.specs.Flats.{flow_no, import_at, made_flow, operator_flows, output_flows}
 pub use Rattle.prl_expand.specs.Flats.{paired, placed, ports_of, resolved, sensors_from, source_of}
 pub use Rattle.prl_expand.specs.Flats.{type_at, variable_flow, variable_flows}
-pub use Rattle.prl_expand.specs.code.Adding.{Adds}
+pub use Rattle.prl_expand.specs.code.Adding.{Adds, IsMadeWithin}
 pub use Rattle.prl_expand.specs.code.Limits.{IsFew, IsFewBefore, IsPast}
 pub use Rattle.prl_expand.specs.code.Made.{a_call, a_core, a_node, a_part, all_parts, all_resolved}
 pub use Rattle.prl_expand.specs.code.Made.{called_apps, called_flows, called_given, first_type}

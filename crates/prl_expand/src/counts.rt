@@ -7,7 +7,7 @@ use prl_base::{Limit, What};
 use std::alloc::AllocError;
 
 /// Why a program is not expanded.
-#[derive(Clone, Copy, PartialEq, Eq)]
+#[derive(Clone, Copy)]
 pub enum ExpandFault {
     /// The expansion has more than 4,096 flows. They are not counted further than 4,097.
     Limit(Limit),

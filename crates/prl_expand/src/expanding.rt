@@ -10,14 +10,16 @@ ghost use Rattle.prl_behaviours.specs.Behaviours.{Satisfies, state_in};
 ghost use Rattle.prl_expand.specs.Correspondence.{IsOneToOne};
 ghost use Rattle.prl_expand.specs.Flats.{devices_of, flow_no, sensors_from, wcet_named};
 ghost use Rattle.prl_expand.specs.Expanding.{IsExpanded, IsExpandFault};
+ghost use Rattle.prl_expand.specs.code.Adding.{IsMadeWithin};
+ghost use Rattle.prl_expand.specs.code.Terms.{flow_of, number_of};
 ghost use Rattle.prl_expand.specs.code.Variables.{def_of};
 
 use crate::counts::{ExpandFault, FIRST, take_flows};
 use crate::laws::{behaviours_are_solutions, flats_are_well_formed};
 use crate::nodes::{Made, enter, node_at};
-use crate::terms::numbers;
+use crate::terms::{Term, numbers};
 use crate::variables::Source;
-use prl_ast::{Device, Param};
+use prl_ast::{Device, Node, Param, Program};
 use prl_base::{FlowNo, Label, Name, Seq};
 use prl_flow::Flat;
 use prl_names::Names;
@@ -75,6 +77,73 @@ fn flow_numbers(alloc: Global, count: usize) -> Result<Vec<FlowNo>, AllocError>
     Ok(list)
 }
 
+/// What is made within main, and its outputs.
+fn made_within(
+    alloc: Global,
+    typed: &Typed<'_>,
+    names: &Names<'_>,
+) -> Result<(Made, Vec<Term>), ExpandFault>
+    requires { names.now ≡ typed.now.program }
+    ensures made { IfOk result (λ made. IsMadeWithin (program_tree typed.now.program) typed.now.types typed.now.main made.0 (map flow_of made.1.items)) }
+    ensures fault { IfErr result (IsExpandFault (program_tree typed.now.program) typed.now.main) }
+{
+    let program = typed.program();
+    let main = typed.main() as usize;
+    let node = node_at(program, main);
+    let inputs = node.ins.len();
+    let mut counted = FIRST;
+    take_flows(&mut counted, inputs)?;
+    let label = Label::new(alloc, b"")?;
+    let sources = sensors(alloc, inputs)?;
+    let levels = program.nodes.len() as u32;
+    let mut made = Made {
+        flows: Vec::new(alloc),
+        apps: Vec::new(alloc),
+        next: FIRST,
+    };
+    let outs = enter(
+        alloc, typed, names, levels, main, &label, sources, &mut made,
+    )?;
+    Ok((made, outs))
+}
+
+/// The same, by the names of the program.
+fn made_of(alloc: Global, typed: &Typed<'_>) -> Result<(Made, Vec<Term>), ExpandFault>
+    ensures made { IfOk result (λ made. IsMadeWithin (program_tree typed.now.program) typed.now.types typed.now.main made.0 (map flow_of made.1.items)) }
+    ensures fault { IfErr result (IsExpandFault (program_tree typed.now.program) typed.now.main) }
+{
+    let names = Names::new(alloc, typed.program())?;
+    made_within(alloc, typed, &names)
+}
+
+/// The devices of main's inputs, and of its outputs.
+fn both_devices(
+    alloc: Global,
+    program: &Program,
+    node: &Node,
+) -> Result<(Vec<(Name, u32)>, Vec<(Name, u32)>), AllocError>
+    ensures ins { IfOk result (λ devices. devices.0.items ≡ devices_of program.now.sensors node.now.ins) }
+    ensures outs { IfOk result (λ devices. devices.1.items ≡ devices_of program.now.actuators node.now.outs) }
+{
+    let ins = devices_of(alloc, program.sensors.as_slice(), node.ins.as_slice())?;
+    let outs = devices_of(alloc, program.actuators.as_slice(), node.outs.as_slice())?;
+    Ok((ins, outs))
+}
+
+/// The flows of so many inputs, and of these outputs.
+fn both_ends(
+    alloc: Global,
+    inputs: usize,
+    outs: &[Term],
+) -> Result<(Vec<FlowNo>, Vec<FlowNo>), AllocError>
+    requires { inputs ≤ 4096 }
+    ensures ins { IfOk result (λ ends. ends.0.items ≡ map flow_no (range_with_len 0 inputs)) }
+    ensures outs { IfOk result (λ ends. ends.1.items ≡ map number_of outs.now) }
+{
+    let ins = flow_numbers(alloc, inputs)?;
+    Ok((ins, numbers(alloc, outs)?))
+}
+
 /// The flat program of the program's expansion: flows, applications and labels in the order in which they are made.
 ///
 /// - `Limit`: the expansion has more than 4,096 flows; 4,097 is told, and no further flow is looked at.
@@ -89,34 +158,17 @@ pub fn expand(alloc: Global, typed: &Typed<'_>) -> Result<Flat, ExpandFault>
     flats_are_well_formed();
     behaviours_are_solutions();
     let program = typed.program();
-    let main = typed.main() as usize;
-    let names = Names::new(alloc, program)?;
-    let node = node_at(program, main);
-    let inputs = node.ins.len();
-    let mut counted = FIRST;
-    take_flows(&mut counted, inputs)?;
-    let mut made = Made {
-        flows: Vec::new(alloc),
-        apps: Vec::new(alloc),
-        next: FIRST,
-    };
-    let label = Label::new(alloc, b"")?;
-    let sources = sensors(alloc, inputs)?;
-    let levels = program.nodes.len() as u32;
-    let outs = enter(
-        alloc, typed, &names, levels, main, &label, sources, &mut made,
-    )?;
-    let in_devices = devices_of(alloc, program.sensors.as_slice(), node.ins.as_slice())?;
-    let out_devices = devices_of(alloc, program.actuators.as_slice(), node.outs.as_slice())?;
-    let ins = flow_numbers(alloc, inputs)?;
-    let outs = numbers(alloc, outs.as_slice())?;
-    let Made { flows, apps, .. } = made;
+    let node = node_at(program, typed.main() as usize);
+    let made = made_of(alloc, typed)?;
+    let devices = both_devices(alloc, program, node)?;
+    let ends = both_ends(alloc, node.ins.len(), made.1.as_slice())?;
+    let Made { flows, apps, .. } = made.0;
     Ok(Flat::new(
         Seq::new(flows),
         Seq::new(apps),
-        Seq::new(ins),
-        Seq::new(outs),
-        in_devices,
-        out_devices,
+        Seq::new(ends.0),
+        Seq::new(ends.1),
+        devices.0,
+        devices.1,
     ))
 }

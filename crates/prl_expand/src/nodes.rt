@@ -5,20 +5,20 @@ ghost use Rattle.std.specs.List.{range_with_len};
 ghost use Rattle.prl_base.specs.Values.{type_of};
 ghost use Rattle.prl_ast.specs.Trees.{const, equation_tree, node_tree, program_tree, root_of, tree_of};
 ghost use Rattle.prl_ast.specs.declared.declarations.Port.{Port};
-ghost use Rattle.prl_names.specs.Vocabulary.{all_trees, applies, callee_of};
+ghost use Rattle.prl_names.specs.Vocabulary.{all_trees, applies, callee_of, params_of};
 ghost use Rattle.prl_types.specs.Flows as types;
 ghost use Rattle.prl_types.specs.Vocabulary.{all_flows, root_flows, first_of};
 ghost use Rattle.prl_behaviours.specs.Annotations.{flows_in, part_flows, core_flows, parts_flows, right_flows};
 ghost use Rattle.prl_behaviours.specs.Asked.{given, last_of, outputs_of, root_given};
 ghost use Rattle.prl_behaviours.specs.Texts.{node_at};
 ghost use Rattle.prl_expand.specs.Flats as flats;
-ghost use Rattle.prl_expand.specs.Flats.{arguments, constant_flows, entered_flows, equated, flow_no, output_flows, placed};
+ghost use Rattle.prl_expand.specs.Flats.{arguments, constant_flows, copies, entered_flows, equated, flow_no, output_flows, placed};
 ghost use Rattle.prl_expand.specs.code.Adding.{Adds};
 ghost use Rattle.prl_expand.specs.code.Limits.{IsFew, IsFewBefore, IsPast};
 ghost use Rattle.prl_expand.specs.code.Made.{IsInside, a_call, a_core, a_node, a_part, all_parts, all_resolved, called_apps, called_flows, called_given, first_type, head_of, operated_flows, operated_given, operated_types, the_rights, types_given, types_of};
 ghost use Rattle.prl_expand.specs.code.Numbering.{past_core, past_entered, past_part, past_parts, past_rights};
 ghost use Rattle.prl_expand.specs.code.Terms.{arg_of, flow_of, flows_of};
-ghost use Rattle.prl_expand.specs.code.Variables.{def_of, pairs_of};
+ghost use Rattle.prl_expand.specs.code.Variables.{def_of, pairs_of, variables_made};
 ghost use Rattle.prl_expand.specs.code.Within.{CallFits, EquationsFit, IsSound, MayApply, RootFits, TreeFits, TreesFit};
 
 use crate::counts::{ExpandFault, Next, take_app, take_flows, take_node};
@@ -386,10 +386,38 @@ pub(crate) fn enter(
     };
     let eqs = node.eqs.as_slice();
     let pairs = equations(alloc, typed, names, levels, number, terms, eqs, &mut inner)?;
-    let defs = sources_of(sources, pairs.as_slice(), node)?;
+    push_node(
+        alloc,
+        label,
+        node,
+        terms,
+        sources,
+        pairs.as_slice(),
+        inner,
+        made,
+    )?;
+    Ok(outs_of(alloc, terms, node)?)
+}
+
+/// Appends the flows of the node's variables, of which the inputs have these sources, and then what was made within it.
+fn push_node(
+    alloc: Global,
+    label: &Label,
+    node: &Node,
+    terms: &[Term],
+    sources: Vec<Source>,
+    pairs: &[Pair<'_>],
+    inner: Made,
+    made: &mut Made,
+) -> Result<(), AllocError>
+    ensures flows { OnOk result (made.new.flows.items ≡ (made.old.flows.items ++ flows_of (variables_made label.now (params_of (node_tree node.now)) terms.now (map def_of sources.items ++ copies (pairs_of pairs.now) (node.now.outs ++ node.now.locals)))) ++ inner.flows.items) }
+    ensures apps { OnOk result (made.new.apps.items ≡ made.old.apps.items ++ inner.apps.items) }
+    ensures next { OnOk result (made.new.next ≡ inner.next) }
+{
+    let defs = sources_of(sources, pairs, node)?;
     push_variables(alloc, &mut made.flows, label, node, terms, defs.as_slice())?;
     finish(made, inner)?;
-    Ok(outs_of(alloc, terms, node)?)
+    Ok(())
 }
 
 /// Takes numbers for the node's variables.

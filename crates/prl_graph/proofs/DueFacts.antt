@@ -1,6 +1,6 @@
 -- Where dues may stand, and what they bind.
-use Rattle.std.proofs.Common.{◌≡◌, ◌<◌, ◌≤◌, ◌+◌, ℕ, Bool, true, false, List, length, set, replicate, slice_get, Some, None, refl, sym, ◌∙◌, ap, subst, arith, ⊎_elim, length-set}
-use Rattle.std.proofs.lemmas.Bool.{cases_lt, false≢true}
+use Rattle.std.proofs.Common.{◌≡◌, ◌<◌, ◌≤◌, ◌+◌, ℕ, Bool, true, false, List, length, set, slice_get, Some, None, refl, sym, ◌∙◌, ap, subst, arith, ⊎_elim, length-set}
+use Rattle.std.proofs.lemmas.Bool.{cases_lt}
 use Rattle.std.proofs.lemmas.Option.{slice_get_within}
 use Rattle.prl_base.specs.declared.numbers.FlowNo.{FlowNo}
 use Rattle.prl_base.specs.declared.operators.Clock.{Clock}
@@ -9,15 +9,7 @@ use Rattle.prl_flow.specs.Vocabulary.{FlatProgram, clock_of}
 use Rattle.prl_flow.specs.declared.programs.Flow.{Flow}
 use Rattle.prl_graph.specs.Dues.{AllowsDue, AreDuesAllowed, AreDuesInRange, CopiesOutput, IsDueOnNonTask, IsDueOutOfRange, IsMainInput, IsMainOutput, IsWithinPeriod, NotesDue, input, output, copy}
 use Rattle.prl_graph.specs.code.Marks.{AreMarked, AreOutputMarks, IsBinding, IsLabelOf, IsMarked, IsMisplaced, IsPlaced, IsRanged, IsUnranged}
-use Rattle.prl_graph.proofs.Lists.{clear_at, clear_length, mark_cases, mark_kept, mark_set}
-
--- no output is marked
-pub none_marked : (p : FlatProgram) (n : ℕ) → n ≡ length p.flows → AreMarked p 0 (replicate n false)
-none_marked p n same = record {
-  count = clear_length n ∙ same;
-  only = λ i h. absurd (false≢true (sym (clear_at n i) ∙ h));
-  all = λ i h. (let low = h.1 in absurd (omega arith));
-}
+use Rattle.prl_graph.proofs.Lists.{mark_cases, mark_kept, mark_set}
 
 -- one output more
 pub one_marked : (p : FlatProgram) (n : ℕ) (marks : List Bool) (flow : FlowNo) → AreMarked p n marks → slice_get p.outs n ≡ Some flow → flow.0 < length p.flows → AreMarked p (n + 1) (set marks flow.0 true)

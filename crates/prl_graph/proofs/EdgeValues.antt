@@ -77,10 +77,8 @@ module _ (p : FlatProgram) (clocks : List Clock) (bodies : List CheckedBody) (ro
   walked i j ops (ways.copy k l rest g by at def way) below n before =
       let defined = subst (λ d. IsWellDefined p k g.ty d) def (flat.flows k g at) in
       let agrees = subst (λ d. AgreesClock clocks (clock_of clocks k) d) def (are.agree k g at) in
-      let same : values_of flows k ≡ values_of flows by.0 = met k g (definitions.Copy by) at def in
-      let within = slice_get_within p.flows by.0 defined.0 defined.1 in
       let early : date_at (clock_of clocks by.0) n < until = subst (λ c. date_at c n < until) agrees before in
-      ap (λ (vs : List Value). slice_get vs n) same ∙ walked by.0 l rest way within n early
+      ap (λ (vs : List Value). slice_get vs n) (met k g (definitions.Copy by) at def) ∙ walked by.0 l rest way (slice_get_within p.flows by.0 defined.0 defined.1) n early
   walked i j ops (ways.operator k l rest g op by at def way) below n before =
       let defined = subst (λ d. IsWellDefined p k g.ty d) def (flat.flows k g at) in
       let within = slice_get_within p.flows by.0 defined.0.0 defined.0.1 in

@@ -108,18 +108,13 @@ module _ (p : FlatProgram) (clocks : List Clock) (flat : IsFlat p) (g : TaskGrap
       → HaveTypes p app.outs (output_types body) → slice_get p.flows source ≡ Some flow → IsWellDefined p source flow.ty def → IsProducer p def from
       → ComesFrom from (node_no p k) → HasOutput from (output_types body) flow.ty
   output_type k source app body flow (definitions.Sensor j) from found types at defined is comes =
-      let task : from ≡ producers.Port (record { 0 = j }) 0 = is in
-      let number : j ≡ node_no p k = subst (λ (x : Producer). ComesFrom x (node_no p k)) task comes in
-      absurd (omega (arith, number, slice_get_within p.ins j (record { 0 = source }) defined))
+      absurd (omega (arith, subst (λ (x : Producer). ComesFrom x (node_no p k)) is comes, slice_get_within p.ins j (record { 0 = source }) defined))
   output_type k source app body flow (definitions.Const v) from found types at defined is comes =
       absurd (subst (λ (x : Producer). ComesFrom x (node_no p k)) is comes)
   output_type k source app body flow (definitions.Apply a out) from found types at defined is comes =
-      let number : node_no p a ≡ node_no p k = subst (λ (x : Producer). ComesFrom x (node_no p k)) is comes in
-      let same : a ≡ k = omega (arith, number) in
-      let there : slice_get p.apps k ≡ Some defined.0 = ap (slice_get p.apps) (sym same) ∙ defined.1 in
-      let its : defined.0 ≡ app = (let e : Some defined.0 ≡ Some app = sym there ∙ found in cc) in
-      let output : slice_get app.outs out ≡ Some (record { 0 = source }) = ap (λ (x : App). slice_get x.outs out) (sym its) ∙ defined.2 in
-      let typed = types_at p app.outs (output_types body) out (record { 0 = source }) types output in
+      let same : a ≡ k = omega (arith, subst (λ (x : Producer). ComesFrom x (node_no p k)) is comes) in
+      let its : defined.0 ≡ app = (let e : Some defined.0 ≡ Some app = sym (ap (slice_get p.apps) (sym same) ∙ defined.1) ∙ found in cc) in
+      let typed = types_at p app.outs (output_types body) out (record { 0 = source }) types (ap (λ (x : App). slice_get x.outs out) (sym its) ∙ defined.2) in
       let ty : typed.0 ≡ flow.ty = one_has p (record { 0 = source }) typed.0 flow.ty typed.2 (flow, at, refl) in
       subst (λ (x : Producer). HasOutput x (output_types body) flow.ty) (sym is) (typed.1 ∙ ap (λ (t : Ty). Some t) ty)
   output_type k source app body flow (definitions.Copy of) from found types at defined is comes = absurd is
@@ -146,8 +141,7 @@ module _ (p : FlatProgram) (clocks : List Clock) (flat : IsFlat p) (g : TaskGrap
       → body_of_task bodies task ≡ Some has.body
   named bodies i task is has =
       let name : task.name ≡ is.app.name ++ 64 ∷ decimal is.number = ap (λ (t : Task). t.name) is.is in
-      let word : word_of task.name ≡ is.app.name = ap word_of name ∙ word_of_node is.app.name (decimal is.number) (flat.apps is.number is.app is.found).name in
-      ap (body_named bodies) word ∙ has.named
+      ap (body_named bodies) (ap word_of name ∙ word_of_node is.app.name (decimal is.number) (flat.apps is.number is.app is.found).name) ∙ has.named
 
   pub task_bodies : (bodies : List CheckedBody) → HaveBodies p bodies → AllByRecursion IsWellTyped bodies → HaveTaskBodies g bodies
   task_bodies bodies have all = record { each = λ i k below kind. by_task i k (task_of i below) kind }
@@ -164,15 +158,13 @@ module _ (p : FlatProgram) (clocks : List Clock) (flat : IsFlat p) (g : TaskGrap
   row_type : (k source : ℕ) (flow : FlowNo) (ty : Ty) (at : Flow) (def : Def) (from : Producer) → slice_get p.ins k ≡ Some flow → HasType p ty flow
       → slice_get p.flows source ≡ Some at → IsWellDefined p source at.ty def → IsProducer p def from → ComesFrom from k → k < length p.ins → ty ≡ at.ty
   row_type k source flow ty at (definitions.Sensor j) from found types there defined is comes below =
-      let number : j ≡ k = subst (λ (x : Producer). ComesFrom x k) is comes in
-      let input : slice_get p.ins k ≡ Some (record { 0 = source }) = ap (slice_get p.ins) (sym number) ∙ defined in
+      let input : slice_get p.ins k ≡ Some (record { 0 = source }) = ap (slice_get p.ins) (sym (subst (λ (x : Producer). ComesFrom x k) is comes)) ∙ defined in
       let same : flow ≡ record { 0 = source } = (let e : Some flow ≡ Some (record { 0 = source }) = sym found ∙ input in cc) in
       one_has p (record { 0 = source }) ty at.ty (subst (HasType p ty) same types) (at, there, refl)
   row_type k source flow ty at (definitions.Const v) from found types there defined is comes below =
       absurd (subst (λ (x : Producer). ComesFrom x k) is comes)
   row_type k source flow ty at (definitions.Apply a out) from found types there defined is comes below =
-      let number : node_no p a ≡ k = subst (λ (x : Producer). ComesFrom x k) is comes in
-      absurd (omega (arith, number, below))
+      absurd (omega (arith, subst (λ (x : Producer). ComesFrom x k) is comes, below))
   row_type k source flow ty at (definitions.Copy of) from found types there defined is comes below = absurd is
   row_type k source flow ty at (definitions.Op op of) from found types there defined is comes below = absurd is
 
@@ -193,8 +185,7 @@ module _ (p : FlatProgram) (clocks : List Clock) (flat : IsFlat p) (g : TaskGrap
       by_task i k n (actuator is) kind job = absurd (let e : kinds.Actuator is.number ≡ kinds.Sensor k = sym (ap (λ (t : Task). t.kind) is.is) ∙ kind in cc)
       by_task i k n (sensor is) kind job =
           let same : i ≡ k = (let e : kinds.Sensor i ≡ kinds.Sensor k = sym (ap (λ (t : Task). t.kind) is.is) ∙ kind in cc) in
-          let date : date_at (clock_of clocks is.flow.0) n < until = subst (λ (t : Task). date_at t.clock n < until) is.is (job_date i n job) in
-          let row = element_at (rows_of rows i) n (has i is.flow is.found n date) in
+          let row = element_at (rows_of rows i) n (has i is.flow is.found n (subst (λ (t : Task). date_at t.clock n < until) is.is (job_date i n job))) in
           let edges : IsTypedFrom g i row.0 =
           λ e edge at comes.
           let its = (port_of e edge at).1 in

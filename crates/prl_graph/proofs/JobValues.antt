@@ -102,10 +102,9 @@ module _ (p : FlatProgram) (clocks : List Clock) (bodies : List CheckedBody) (ro
   producer_gives source m x flow (definitions.Sensor k) edge o found is produces from there =
       let defined = subst (λ e. IsWellDefined p source flow.ty e) is (flat.flows source flow found) in
       let task = (sensor_at p clocks flat are small g of k (record { 0 = source }) defined).1 in
-      let flow_is = get_or_from_slice_get p.ins k (record { 0 = source }) no_flow defined in
       ap (λ e. value_from (values_on_dates p clocks flows g) e (operands.From m)) produces
       ∙ ap (λ (t : Task). slice_get (map (value_or_none clocks flows m) (given_flows p t.kind)) 0) task
-      ∙ ap (λ (f : FlowNo). Some (value_or_none clocks flows m f)) flow_is
+      ∙ ap (λ (f : FlowNo). Some (value_or_none clocks flows m f)) (get_or_from_slice_get p.ins k (record { 0 = source }) no_flow defined)
       ∙ sym (told_value (value_on_date clocks flows source m) x there)
   producer_gives source m x flow (definitions.Copy by) edge o found is produces from there = absurd produces
   producer_gives source m x flow (definitions.Const c) edge o found is produces from there =
@@ -116,11 +115,9 @@ module _ (p : FlatProgram) (clocks : List Clock) (bodies : List CheckedBody) (ro
       no_instance c (operands.From l) e = cc
   producer_gives source m x flow (definitions.Apply app out) edge o found is produces from there =
       let defined = subst (λ e. IsWellDefined p source flow.ty e) is (flat.flows source flow found) in
-      let task = (node_at p clocks flat are small g of app defined.0 defined.1).1.1 in
-      let outs : outputs_of p app ≡ defined.0.outs = ap (λ (a : App). a.outs) (get_or_from_slice_get p.apps app defined.0 _ defined.1) in
       ap (λ e. value_from (values_on_dates p clocks flows g) e (operands.From m)) produces
-      ∙ ap (λ (t : Task). slice_get (map (value_or_none clocks flows m) (given_flows p t.kind)) out) task
-      ∙ ap (λ (l : List FlowNo). slice_get (map (value_or_none clocks flows m) l) out) outs
+      ∙ ap (λ (t : Task). slice_get (map (value_or_none clocks flows m) (given_flows p t.kind)) out) ((node_at p clocks flat are small g of app defined.0 defined.1).1.1)
+      ∙ ap (λ (l : List FlowNo). slice_get (map (value_or_none clocks flows m) l) out) (ap (λ (a : App). a.outs) (get_or_from_slice_get p.apps app defined.0 _ defined.1))
       ∙ slice_get-map (value_or_none clocks flows m) defined.0.outs out
       ∙ ap (λ (o : Option FlowNo). option_map (value_or_none clocks flows m) o) defined.2
       ∙ sym (told_value (value_on_date clocks flows source m) x there)
@@ -159,8 +156,7 @@ module _ (p : FlatProgram) (clocks : List Clock) (bodies : List CheckedBody) (ro
       reads_are clocks flows (values_on_dates p clocks flows g) i n (ports_of p) g.edges (match_edges p clocks flat are small g of)
       (λ e port edge at found to.
       (let clock = port_clock p clocks flat are small g of e port at in
-      let date : date_at (clock_of clocks port.flow) n < until = subst (λ (c : Clock). date_at c n < until) (ap (λ j. (task_at g j).clock) (sym to) ∙ clock) before in
-      port_reads e port edge at found n date))
+      port_reads e port edge at found n (subst (λ (c : Clock). date_at c n < until) (ap (λ j. (task_at g j).clock) (sym to) ∙ clock) before)))
 
   -- a sensor's job gives its row
   sensor_given : (i n : ℕ) (flow : FlowNo) → slice_get p.ins i ≡ Some flow → date_at (clock_of clocks flow.0) n < until
@@ -197,8 +193,7 @@ module _ (p : FlatProgram) (clocks : List Clock) (bodies : List CheckedBody) (ro
       → reads_of_job g (values_on_dates p clocks flows g) (node_no p k) n ≡ values_at (application_clock clocks app) (argument_flows flows app) n
   node_inputs k n app found before =
       let task = (node_at p clocks flat are small g of k app found).1.1 in
-      let date : date_at (task_at g (node_no p k)).clock n < until = subst (λ (t : Task). date_at t.clock n < until) (sym task) before in
-      job_reads (node_no p k) n date
+      job_reads (node_no p k) n (subst (λ (t : Task). date_at t.clock n < until) (sym task) before)
       ∙ ap (map (value_or_none clocks flows n)) (node_reads p k app found (slice_get_within p.apps k app found))
       ∙ arguments_same (application_clock clocks app) n app.args (λ j arg at. sym (application_clock_is p clocks flat are small g of k app found j arg at))
 
@@ -257,13 +252,12 @@ module _ (p : FlatProgram) (clocks : List Clock) (bodies : List CheckedBody) (ro
       → body_of_task bodies (task_at g (node_no p k)) ≡ Some body
   node_body well k app body found named =
       let at = node_at p clocks flat are small g of k app found in
-      let task = at.1.1 in
       let there = element_at g.tasks (node_no p k) at.0 in
       let is = get_or_from_slice_get g.tasks (node_no p k) there.0 no_task there.1 in
-      let name_is = subst (λ (t : Task). IsTaskName t.kind t.name) (sym is ∙ task) (well.tasks (node_no p k) there.0 there.1).name in
+      let name_is = subst (λ (t : Task). IsTaskName t.kind t.name) (sym is ∙ at.1.1) (well.tasks (node_no p k) there.0 there.1).name in
       let words : app.name ≡ name_is.0 = cancel_right app.name name_is.0 (64 ∷ decimal k) name_is.2 in
       let word : word_of (app.name ++ 64 ∷ decimal k) ≡ app.name = ap word_of name_is.2 ∙ word_of_node name_is.0 (decimal k) name_is.1 ∙ sym words in
-      ap (λ (t : Task). body_named bodies (word_of t.name)) task ∙ ap (body_named bodies) word ∙ named
+      ap (λ (t : Task). body_named bodies (word_of t.name)) at.1.1 ∙ ap (body_named bodies) word ∙ named
 
   pub job_values_are : IsWellFormed g → HaveBodies p bodies → AllByRecursion IsWellTyped bodies → AreJobValues g bodies rows until (values_on_dates p clocks flows g)
   job_values_are well have typed = record {

@@ -80,9 +80,7 @@ longer (x ∷ v) rest e = longer v rest (let f : v ≡ v ++ 64 ∷ rest = cc in 
 
 -- a word is no name of a node task
 no_node : (v w : List ℕ) (a : ℕ) → IsName v → IsName w → v ≡ w ++ 64 ∷ decimal a → ⊥
-no_node v w a is_v is_w same =
-    let words : v ≡ w = sym (word_of_name v is_v) ∙ ap word_of same ∙ word_of_node w (decimal a) is_w in
-    longer w (decimal a) (sym words ∙ same)
+no_node v w a is_v is_w same = longer w (decimal a) (sym (sym (word_of_name v is_v) ∙ ap word_of same ∙ word_of_node w (decimal a) is_w) ∙ same)
 
 -- the name of a task by its kind
 name_by : (t : Task) (k : Kind) → t.kind ≡ k → IsTaskName t.kind t.name → IsTaskName k t.name
@@ -101,9 +99,8 @@ module _ (p : FlatProgram) (clocks : List Clock) (flat : IsFlat p) where
       (sym (sensor_name i s a) ∙ same ∙ sensor_name j t b) in
       omega arith
   differ i j s t few before (sensor a) (node b) s_named t_named same =
-      let name = name_by s (kinds.Sensor i) (ap (λ (x : Task). x.kind) a.is) s_named in
       let word = name_by t (kinds.Node b.number) (ap (λ (x : Task). x.kind) b.is) t_named in
-      no_node s.name word.0 b.number name word.1 (same ∙ word.2)
+      no_node s.name word.0 b.number (name_by s (kinds.Sensor i) (ap (λ (x : Task). x.kind) a.is) s_named) word.1 (same ∙ word.2)
   differ i j s t few before (sensor a) (actuator b) s_named t_named same =
       let number = flat.devices.1 i (length p.ins + b.number) (slice_index_or p.in_devices i ([], 0)) (slice_index_or p.out_devices b.number ([], 0)) (sensor_device p flat i a.flow a.found)
       (actuator_device p flat b.number b.flow b.found) (sym (sensor_name i s a) ∙ same ∙ actuator_name j t b) in
@@ -124,8 +121,7 @@ module _ (p : FlatProgram) (clocks : List Clock) (flat : IsFlat p) where
       omega arith
   differ i j s t few before (node a) (actuator b) s_named t_named same =
       let word = name_by s (kinds.Node a.number) (ap (λ (x : Task). x.kind) a.is) s_named in
-      let name = name_by t (kinds.Actuator b.number) (ap (λ (x : Task). x.kind) b.is) t_named in
-      no_node t.name word.0 a.number name word.1 (sym same ∙ word.2)
+      no_node t.name word.0 a.number (name_by t (kinds.Actuator b.number) (ap (λ (x : Task). x.kind) b.is) t_named) word.1 (sym same ∙ word.2)
   differ i j s t few before (actuator a) (sensor b) s_named t_named same =
       let low = slice_get_within p.ins j b.flow b.found in
       let at = a.at in
@@ -157,7 +153,6 @@ module _ (p : FlatProgram) (clocks : List Clock) (flat : IsFlat p) where
   names_differ g few are i j before below same =
       let s = element_at g.tasks i (omega arith) in
       let t = element_at g.tasks j below in
-      let s_is = get_or_from_slice_get g.tasks i s.0 no_task s.1 in
       let t_is = get_or_from_slice_get g.tasks j t.0 no_task t.1 in
       differ i j s.0 t.0 few before (are.each i s.0 s.1) (are.each j t.0 t.1) (named_rightly i s.0 (are.each i s.0 s.1)) (named_rightly j t.0 (are.each j t.0 t.1))
-      (sym (ap (λ (x : Task). x.name) s_is) ∙ same ∙ ap (λ (x : Task). x.name) t_is)
+      (sym (ap (λ (x : Task). x.name) (get_or_from_slice_get g.tasks i s.0 no_task s.1)) ∙ same ∙ ap (λ (x : Task). x.name) t_is)

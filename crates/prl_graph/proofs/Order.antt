@@ -63,14 +63,12 @@ follows task port task' port' [] (edge ∷ edges) t p match follow = absurd (ome
 follows task port task' port' (next ∷ ports) [] t p match follow = absurd (omega (arith, match.0))
 follows task port task' port' (next ∷ ports) (edge ∷ edges) t p match follow =
     let here = match.1 zero next edge refl refl in
-    let to = here.0 in
-    let number = here.1 in
     let count : length edges ≡ length ports = omega (arith, match.0) in (
       ⊎_elim
-          (λ a. inl (to ∙ a.0 ∙ sym t, number ∙ a.1 ∙ ap (λ n. n + 1) (sym p)))
-          (λ b. inr ((let x = b.0 in let y = to in let l : task' < edge.to.0 = omega arith in l), number ∙ b.1))
+          (λ a. inl (here.0 ∙ a.0 ∙ sym t, here.1 ∙ a.1 ∙ ap (λ n. n + 1) (sym p)))
+          (λ b. inr ((let x = b.0 in let y = here.0 in let l : task' < edge.to.0 = omega arith in l), here.1 ∙ b.1))
           follow.0,
-      follows next.task next.port edge.to.0 edge.port ports edges to number (count, λ e x y g h. match.1 (suc e) x y g h) follow.1,
+      follows next.task next.port edge.to.0 edge.port ports edges here.0 here.1 (count, λ e x y g h. match.1 (suc e) x y g h) follow.1,
     )
 
 pub edges_in_order : (p : FlatProgram) (edges : List Edge) → Match (ports_of p) edges → AreInOrder edges

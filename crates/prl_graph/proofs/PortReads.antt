@@ -35,10 +35,9 @@ reads_are clocks flows v i n (port ∷ ports) (edge ∷ edges) match each =
         → cond (eqb edge.to.0 i) (read_on v edge n ∷ reads_over v edges i n) (reads_over v edges i n)
         ≡ map (value_or_none clocks flows n) (cond (eqb port.task i) (record { 0 = port.flow } ∷ flows_read ports i) (flows_read ports i))
     go true test rest =
-        let same : port.task ≡ i = eqb-true port.task i test in
         ap (λ x. cond (eqb x i) (read_on v edge n ∷ reads_over v edges i n) (reads_over v edges i n)) to
         ∙ ap (λ t. cond t (read_on v edge n ∷ reads_over v edges i n) (reads_over v edges i n)) test
-        ∙ ap (λ x. x ∷ reads_over v edges i n) (each zero port edge refl refl same)
+        ∙ ap (λ x. x ∷ reads_over v edges i n) (each zero port edge refl refl (eqb-true port.task i test))
         ∙ ap (λ l. value_or_none clocks flows n (record { 0 = port.flow }) ∷ l) rest
         ∙ ap (λ t. map (value_or_none clocks flows n) (cond t (record { 0 = port.flow } ∷ flows_read ports i) (flows_read ports i))) (sym test)
     go false test rest =
@@ -78,20 +77,18 @@ other_applications : (i t : ℕ) (apps : List App) → (i < t) ⊎ (t + length a
 other_applications i t [] far = refl
 other_applications i t (app ∷ apps) far =
     let apart : t ≢ i = λ e. ⊎_elim (λ a. omega arith) (λ b. omega arith) far in
-    let later : (i < t + 1) ⊎ ((t + 1) + length apps ≤ i) = ⊎_elim (λ a. inl (omega arith)) (λ b. inr (omega arith)) far in
     read_append (argument_ports t 0 app.args) (application_ports (t + 1) apps) i
     ∙ ap (λ l. l ++ flows_read (application_ports (t + 1) apps) i) (other_arguments i t 0 app.args apart)
-    ∙ other_applications i (t + 1) apps later
+    ∙ other_applications i (t + 1) apps (⊎_elim (λ a. inl (omega arith)) (λ b. inr (omega arith)) far)
 
 own_application : (t k : ℕ) (apps : List App) (app : App) → slice_get apps k ≡ Some app → flows_read (application_ports t apps) (t + k) ≡ map (λ (arg : Arg). arg.flow) app.args
 own_application t k [] app h = cc
 own_application t zero (x ∷ apps) app h =
     let same : x ≡ app = cc in
     let e : t + 0 ≡ t = omega arith in
-    let later : (t < t + 1) ⊎ ((t + 1) + length apps ≤ t) = inl (omega arith) in
     ap (flows_read (application_ports t (x ∷ apps))) e
     ∙ read_append (argument_ports t 0 x.args) (application_ports (t + 1) apps) t
-    ∙ ap (λ l. flows_read (argument_ports t 0 x.args) t ++ l) (other_applications t (t + 1) apps later)
+    ∙ ap (λ l. flows_read (argument_ports t 0 x.args) t ++ l) (other_applications t (t + 1) apps (inl (omega arith)))
     ∙ ap (λ l. l ++ []) (own_arguments t 0 x.args)
     ∙ append_nil (map (λ (arg : Arg). arg.flow) x.args)
     ∙ ap (λ (a : App). map (λ (arg : Arg). arg.flow) a.args) same

@@ -14,12 +14,11 @@ use Rattle.prl_graph.proofs.Lists.{push_cases}
 one_task : (p : FlatProgram) (clocks : List Clock) (n : ℕ) (tasks : List Task) (task : Task) → AreFirstTasks p clocks n tasks → IsTaskOf p clocks n task
     → AreFirstTasks p clocks (n + 1) (tasks ++ task ∷ [])
 one_task p clocks n tasks task are is =
-    let count = are.count in
     record {
-      count = length_push tasks task ∙ ap (λ m. m + 1) count;
+      count = length_push tasks task ∙ ap (λ m. m + 1) are.count;
       each = λ i other h. ⊎_elim
           (λ old. are.each i other old)
-          (λ last. subst (λ t. IsTaskOf p clocks i t) last.1 (subst (λ m. IsTaskOf p clocks m task) (sym (last.0 ∙ count)) is))
+          (λ last. subst (λ t. IsTaskOf p clocks i t) last.1 (subst (λ m. IsTaskOf p clocks m task) (sym (last.0 ∙ are.count)) is))
           (push_cases tasks task i other h);
     }
 

@@ -91,8 +91,7 @@ begun p i below =
 visited_one : (p : FlatProgram) → HasNoCycle p → (n i j : ℕ) → i < length p.flows → UsesInside p i j → (marks : List Bool) → AreVisited p n j marks
     → (more : List Bool) × AreVisited p (n + 1) i more
 visited_one p causal n i j below uses marks are =
-    let len = are.len in
-    let there : i < length marks = omega (arith, len) in
+    let there : i < length marks = omega (arith, are.len) in
     let not_yet : IsMarked marks i → ⊥ = λ h. causal i (inr (led p i j i uses (are.reached i h))) in
     let clear : get_or marks i false ≡ false =
     elim (get_or marks i false) as (λ b. get_or marks i false ≡ b → b ≡ false) [
@@ -101,7 +100,7 @@ visited_one p causal n i j below uses marks are =
     ] refl in (
       set marks i true,
       record {
-        len = length-set marks i true ∙ len;
+        len = length-set marks i true ∙ are.len;
         count = mark_counted marks i there clear ∙ ap (λ k. k + 1) are.count;
         reached = λ m h. ⊎_elim (λ same. inl (sym same)) (λ old. inr (led p i j m uses (are.reached m old))) (mark_cases marks i m h);
       },

@@ -55,9 +55,8 @@ operators_fit p flat i j ops (ways.copy k l rest h by found def way) ty typed m 
     operators_fit p flat by.0 l rest way ty
     (λ f there. ap (λ (x : Flow). x.ty) (same_flow p by.0 f defined.0 there defined.1) ∙ defined.2 ∙ typed h found) m op at
 operators_fit p flat i j ops (ways.operator k l rest h first by found def way) ty typed zero op at =
-    let defined = subst (λ d. IsWellDefined p k h.ty d) def (flat.flows k h found) in
     let same : first ≡ op = cc in
-    subst (λ o. IsOperatorFor ty o) same (subst (λ t. IsOperatorFor t first) (typed h found) defined.1)
+    subst (λ o. IsOperatorFor ty o) same (subst (λ t. IsOperatorFor t first) (typed h found) (subst (λ d. IsWellDefined p k h.ty d) def (flat.flows k h found)).1)
 operators_fit p flat i j ops (ways.operator k l rest h first by found def way) ty typed (suc m) op at =
     let defined = subst (λ d. IsWellDefined p k h.ty d) def (flat.flows k h found) in
     operators_fit p flat by.0 l rest way ty

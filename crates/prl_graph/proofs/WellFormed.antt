@@ -49,11 +49,10 @@ module _ (p : FlatProgram) (clocks : List Clock) (flat : IsFlat p) (are : AreClo
   device_due_within i below =
       let at = element_at p.flows i below in
       let period = (clock_of clocks i).period in
-      let positive : 1 ≤ period = are.clock i (there i below) in
       rw at.1
       (elim at.0.due as (λ o. at.0.due ≡ o → IsWithinPeriod clocks i (unwrap_or o period)) [
         | Some due ↦ λ e. of.dues.within i due (record { flow = at.0; found = at.1; noted = e })
-        | None ↦ λ e. (let e : period ≤ period = omega arith in (positive, e))
+        | None ↦ λ e. (let e : period ≤ period = omega arith in (are.clock i (there i below), e))
       ] refl)
 
   -- a clock and a due of a task
@@ -79,7 +78,7 @@ module _ (p : FlatProgram) (clocks : List Clock) (flat : IsFlat p) (are : AreClo
   node_due : (k : ℕ) (app : App) (due : ℕ) → slice_get p.apps k ≡ Some app → IsLeastDue p k (application_clock clocks app).period due → 1 ≤ due
   node_due k app due found least =
       ⊎_elim
-      (λ same. (let right = application_right k app found in let positive = right.period.0 in let e : due ≡ (application_clock clocks app).period = same in omega arith))
+      (λ same. (let positive = (application_right k app found).period.0 in let e : due ≡ (application_clock clocks app).period = same in omega arith))
       (λ (i, binds). (of.dues.within i due binds.notes).0)
       least.attained
 

@@ -15,8 +15,8 @@ pub use Rattle.prl_graph.specs.TaskGraphs.{told}
 pub use Rattle.prl_graph.specs.Tasks.{AreTasks, IsActuatorTask, IsNodeTask, IsSensorTask, IsTaskOf}
 pub use Rattle.prl_graph.specs.Tasks.{actuator, actuator_task, application_clock, device_due, node}
 pub use Rattle.prl_graph.specs.Tasks.{node_task, sensor, sensor_task}
-pub use Rattle.prl_graph.specs.code.Made.{AreFirstTasks, HavePeriods, MakesActuator, MakesNode}
-pub use Rattle.prl_graph.specs.code.Made.{MakesSensor}
+pub use Rattle.prl_graph.specs.code.Made.{AreFirstTasks, HavePeriods, IsChecked, MakesActuator}
+pub use Rattle.prl_graph.specs.code.Made.{MakesNode, MakesSensor}
 pub use Rattle.prl_graph.specs.code.Marks.{AreLeastDues, HasClock, IsBinding, IsLabelOf}
 pub use Rattle.prl_graph.specs.code.Marks.{IsLeastOfFirst, IsMarked, IsMisplaced, IsPlaced}
 pub use Rattle.prl_graph.specs.code.Marks.{IsRanged, IsUnranged}

@@ -8,13 +8,14 @@ ghost use Rattle.prl_body.specs.Bodies.{IsWellTyped};
 ghost use Rattle.prl_body.specs.declared.bodies.CheckedBody.{CheckedBody};
 ghost use Rattle.prl_flow.specs.Vocabulary.{HaveBodies, Rows, AreClocks, Solves, HasNoCycle};
 ghost use Rattle.prl_plan.specs.Graphs.{IsWellFormed};
-ghost use Rattle.prl_plan.specs.declared.limits.TheConstants.{MAX_EDGES, MAX_HYPER, MAX_TASKS};
+ghost use Rattle.prl_plan.specs.declared.limits.TheConstants.{MAX_EDGES, MAX_HYPER, MAX_PERIOD_JOBS, MAX_TASKS};
 ghost use Rattle.prl_graph.specs.declared.faults.GraphFault.TheVariants as faults;
 ghost use Rattle.prl_values.specs.JobValues.{AreJobValues};
 ghost use Rattle.prl_graph.specs.JobDates.{values_on_dates};
 ghost use Rattle.prl_graph.specs.Ports.{ports_of, task_count};
 ghost use Rattle.prl_graph.specs.TaskGraphs.{AreSmallClocks, HasDues, IsGraphFault, IsGraphOf, jobs_within, told};
-ghost use Rattle.prl_graph.specs.code.Made.{HavePeriods};
+ghost use Rattle.prl_graph.specs.code.Made.{AreFirstTasks, HavePeriods, IsChecked};
+ghost use Rattle.prl_graph.specs.code.Marks.{AreLeastDues, AreOutputMarks};
 
 use crate::GraphFault;
 use crate::dues::{check_places, check_ranges, output_marks};
@@ -84,6 +85,61 @@ fn period_jobs(tasks: &[Task], hyper: u64) -> u64
     jobs
 }
 
+/// Looks at the dues, and then at the limits on tasks, on edges and on the hyperperiod, which is told.
+fn checked(alloc: Global, flat: &Flat, clocks: &Clocks, outputs: &[bool]) -> Result<u64, GraphFault>
+    requires clocks { AreClocks flat.now clocks.now.of }
+    requires small { AreSmallClocks clocks.now.of }
+    requires outputs { AreOutputMarks flat.now outputs.now }
+    ensures { MatchResult result (IsChecked flat.now clocks.now.of) (IsGraphFault flat.now clocks.now.of) }
+{
+    check_places(alloc, flat, outputs)?;
+    check_ranges(alloc, flat, clocks)?;
+    check_counts(flat)?;
+    match hyperperiod(clocks.of.as_slice()) {
+        Ok(hyper) => Ok(hyper),
+        Err(found) => Err(limit(What::Hyperperiod, found)),
+    }
+}
+
+/// The least due of each application, and the hyperperiod.
+fn dues_and_hyper(
+    alloc: Global,
+    flat: &Flat,
+    clocks: &Clocks,
+) -> Result<(Vec<u64>, u64), GraphFault>
+    requires clocks { AreClocks flat.now clocks.now.of }
+    requires small { AreSmallClocks clocks.now.of }
+    ensures checked { MatchResult result (λ made. IsChecked flat.now clocks.now.of made.1) (IsGraphFault flat.now clocks.now.of) }
+    ensures dues { IfOk result (λ made. AreLeastDues flat.now clocks.now.of (length flat.now.flows) made.0.items) }
+{
+    let outputs = output_marks(alloc, flat)?;
+    let hyper = checked(alloc, flat, clocks, outputs.as_slice())?;
+    Ok((least_dues(alloc, flat, clocks, outputs.as_slice())?, hyper))
+}
+
+/// The tasks, and the hyperperiod.
+fn tasks_and_hyper(
+    alloc: Global,
+    flat: &Flat,
+    clocks: &Clocks,
+) -> Result<(Vec<Task>, u64), GraphFault>
+    requires clocks { AreClocks flat.now clocks.now.of }
+    requires small { AreSmallClocks clocks.now.of }
+    ensures checked { MatchResult result (λ made. IsChecked flat.now clocks.now.of made.1) (IsGraphFault flat.now clocks.now.of) }
+    ensures tasks { IfOk result (λ made. AreFirstTasks flat.now clocks.now.of (task_count flat.now) made.0.items) }
+    ensures few { IfOk result (λ made. jobs_within made.1 made.0.items ≤ MAX_PERIOD_JOBS) }
+{
+    let _flows = flat.flows();
+    let made = dues_and_hyper(alloc, flat, clocks)?;
+    let tasks = all_tasks(alloc, flat, clocks, made.0.as_slice())?;
+    let hyper = made.1;
+    let jobs = period_jobs(tasks.as_slice(), hyper);
+    if jobs > MAX_PERIOD_JOBS {
+        return Err(limit(What::PeriodJobs, jobs));
+    }
+    Ok((tasks, hyper))
+}
+
 /// The task graph of a flat program with its clocks: its tasks with their dues, its edges with the
 /// operators on the way, and the hyperperiod over all of its flows. The dues are looked at first,
 /// then the limits on tasks, on edges, on the hyperperiod and on the jobs in it, in this order.
@@ -99,24 +155,11 @@ pub fn graph(alloc: Global, flat: &Flat, clocks: &Clocks) -> Result<TaskGraph, G
         AreJobValues g bodies rows until (values_on_dates flat.now clocks.now.of flows g)) }
 {
     let _flows = flat.flows();
-    let outputs = output_marks(alloc, flat)?;
-    check_places(alloc, flat, outputs.as_slice())?;
-    check_ranges(alloc, flat, clocks)?;
-    check_counts(flat)?;
-    let hyper = match hyperperiod(clocks.of.as_slice()) {
-        Ok(hyper) => hyper,
-        Err(found) => return Err(limit(What::Hyperperiod, found)),
-    };
-    let dues = least_dues(alloc, flat, clocks, outputs.as_slice())?;
-    let tasks = all_tasks(alloc, flat, clocks, dues.as_slice())?;
-    let jobs = period_jobs(tasks.as_slice(), hyper);
-    if jobs > MAX_PERIOD_JOBS {
-        return Err(limit(What::PeriodJobs, jobs));
-    }
+    let made = tasks_and_hyper(alloc, flat, clocks)?;
     let edges = all_edges(alloc, flat, clocks)?;
     Ok(TaskGraph {
-        tasks: Seq::new(tasks),
+        tasks: Seq::new(made.0),
         edges: Seq::new(edges),
-        hyper,
+        hyper: made.1,
     })
 }

@@ -50,15 +50,15 @@ pub last_end : (xs : List Action) → Each GoesOn xs → (place later : ℕ) →
     get_or (xs ++ actions.End ∷ []) later actions.End ≡ actions.End
 last_end [] on place zero ends before = refl
 last_end [] on place (suc later) ends before = refl
-last_end (x ∷ xs) on zero later ends before = absurd (subst (λ (a : Action). GoesOn a) (let e : x ≡ actions.End = ends in e) (on 0 (omega arith)))
+last_end (x ∷ xs) on zero later ends before = absurd (subst (λ (a : Action). GoesOn a) (ends) (on 0 (omega arith)))
 last_end (x ∷ xs) on (suc place) zero ends before = absurd (omega arith)
 last_end (x ∷ xs) on (suc place) (suc later) ends before = last_end xs (λ n h. on (suc n) (omega (arith, h))) place later ends (omega arith)
 
 -- the end stands after all that goes on
 end_after : (xs : List Action) → Each GoesOn xs → (place : ℕ) → get_or (xs ++ actions.End ∷ []) place actions.End ≡ actions.End → length xs ≤ place
 end_after [] on place ends = omega arith
-end_after (x ∷ xs) on zero ends = absurd (subst (λ (a : Action). GoesOn a) (let e : x ≡ actions.End = ends in e) (on 0 (omega arith)))
-end_after (x ∷ xs) on (suc place) ends = (let r = end_after xs (λ n h. on (suc n) (omega (arith, h))) place ends in omega (arith, r))
+end_after (x ∷ xs) on zero ends = absurd (subst (λ (a : Action). GoesOn a) (ends) (on 0 (omega arith)))
+end_after (x ∷ xs) on (suc place) ends = omega (arith, end_after xs (λ n h. on (suc n) (omega (arith, h))) place ends)
 
 -- what stands in the first list only
 none_second : (P : Action → Type 0) → (xs ys : List Action) → NoneOf P ys → (k : ℕ) → P (get_or (xs ++ ys) k actions.End) → P (get_or xs k actions.End)
@@ -85,14 +85,14 @@ pub record Stands (xs : List Action) (x : Action) : Type 0 where
 pub stands_first : (xs ys : List Action) (x : Action) → Stands xs x → Stands (xs ++ ys) x
 stands_first xs ys x s = record {
   place = s.place;
-  inside = (let a = s.inside in let b = length-append xs ys in omega (arith, a, b));
+  inside = omega (arith, s.inside, length-append xs ys);
   is = get_or_append_left xs ys actions.End s.place s.inside ∙ s.is;
 }
 
 pub stands_second : (xs ys : List Action) (x : Action) → Stands ys x → Stands (xs ++ ys) x
 stands_second xs ys x s = record {
   place = length xs + s.place;
-  inside = (let a = s.inside in let b = length-append xs ys in omega (arith, a, b));
+  inside = omega (arith, s.inside, length-append xs ys);
   is = get_or-append-add xs ys s.place actions.End ∙ s.is;
 }
 
@@ -183,9 +183,9 @@ module _ (plan : PlanView) (i n : ℕ) where
   -- the two writes are to different halves
   both_once : (f h e : ℕ) → Unique (WritesTo f h) (both_writes plan e n)
   both_once f h e zero zero x y = refl
-  both_once f h e zero (suc zero) x y = absurd (let a : 2 * cell_of plan e n ≡ h = x.1 in let b : 2 * cell_of plan e n + 1 ≡ h = y.1 in omega (arith, a, b))
+  both_once f h e zero (suc zero) x y = absurd (omega (arith, x.1, y.1))
   both_once f h e zero (suc (suc l)) x y = absurd y
-  both_once f h e (suc zero) zero x y = absurd (let a : 2 * cell_of plan e n + 1 ≡ h = x.1 in let b : 2 * cell_of plan e n ≡ h = y.1 in omega (arith, a, b))
+  both_once f h e (suc zero) zero x y = absurd (omega (arith, x.1, y.1))
   both_once f h e (suc zero) (suc zero) x y = refl
   both_once f h e (suc zero) (suc (suc l)) x y = absurd y
   both_once f h e (suc (suc k)) l x y = absurd x
@@ -223,9 +223,7 @@ module _ (plan : PlanView) (i n : ℕ) where
       let after = end_after (reads_of plan i n 0 plan.graph.edges ++ writes_of plan i n 0 plan.graph.edges)
       (each_both GoesOn (reads_of plan i n 0 plan.graph.edges) (writes_of plan i n 0 plan.graph.edges)
       (reads_on 0 plan.graph.edges) (writes_on 0 plan.graph.edges)) place ends in
-      let whole : length (actions_of plan i n) ≡ length (reads_of plan i n 0 plan.graph.edges ++ writes_of plan i n 0 plan.graph.edges) + 1 =
-      length-append (reads_of plan i n 0 plan.graph.edges ++ writes_of plan i n 0 plan.graph.edges) (actions.End ∷ []) in
-      omega (arith, after, whole)
+      omega (arith, after, length-append (reads_of plan i n 0 plan.graph.edges ++ writes_of plan i n 0 plan.graph.edges) (actions.End ∷ []))
 
   pub ends_last : (place later : ℕ) → get_or (actions_of plan i n) place actions.End ≡ actions.End → place < later →
       get_or (actions_of plan i n) later actions.End ≡ actions.End

@@ -10,16 +10,14 @@ ceil_most p n k some h =
     let e : k * (p / k) + p % k ≡ p = omega arith in
     elim (cases_lt n (p / k)) [
       | inl below ↦ absurd
-          (let up : k * (n + 1) ≤ k * (p / k) = mul-le-mul_left k (let g : n + 1 ≤ p / k = omega arith in g) in
-          let d : k * (n + 1) ≡ k * n + k = omega arith in
-          omega (arith, e, up, d, some, h))
+          (let d : k * (n + 1) ≡ k * n + k = omega arith in
+          omega (arith, e, mul-le-mul_left k (let g : n + 1 ≤ p / k = omega arith in g), d, some, h))
       | inr above ↦
           elim (cases_lt (p / k) n) [
             | inl under ↦ omega (arith, under)
             | inr over ↦
                 (let same : p / k ≡ n = omega (arith, above, over) in
-                let f : k * (p / k) ≡ k * n = ap (λ (x : ℕ). k * x) same in
-                omega (arith, e, f, h, same))
+                omega (arith, e, ap (λ (x : ℕ). k * x) same, h, same))
           ]
     ]
 
@@ -29,12 +27,10 @@ ceil_least p n k some h =
     let b : p % k < k = omega (arith, some) in
     elim (cases_lt (p / k) n) [
       | inl below ↦
-          (let up : k * (p / k + 1) ≤ k * n = mul-le-mul_left k (let g : p / k + 1 ≤ n = omega arith in g) in
-          let d : k * (p / k + 1) ≡ k * (p / k) + k = omega arith in
-          omega (arith, e, b, up, d))
+          (let d : k * (p / k + 1) ≡ k * (p / k) + k = omega arith in
+          omega (arith, e, b, mul-le-mul_left k (let g : p / k + 1 ≤ n = omega arith in g), d))
       | inr above ↦
           (let same : p / k ≡ n = omega (arith, above, h) in
           let none : p % k ≡ 0 = omega (arith, above, h) in
-          let f : k * (p / k) ≡ k * n = ap (λ (x : ℕ). k * x) same in
-          omega (arith, e, f, none))
+          omega (arith, e, ap (λ (x : ℕ). k * x) same, none))
     ]

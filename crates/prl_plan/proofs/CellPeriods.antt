@@ -32,8 +32,7 @@ module _ (graph : TaskGraph) (good : IsWellFormed graph) (edge : Edge) (is : IsE
       go (producers.Constant value) from = absurd (subst (λ (f : Producer). ComesFrom f i) from comes)
       go (producers.Port task out) from =
           let source : IsSource graph edge is.clocks.0 (producers.Port task out) = subst (λ (f : Producer). IsSource graph edge is.clocks.0 f) from is.clocks.2 in
-          let at : task.0 ≡ i = subst (λ (f : Producer). ComesFrom f i) from comes in
-          sym is.clocks.1 ∙ ap (λ (c : Clock). c.period) (source.3 ∙ ap (λ (x : ℕ). (task_at graph x).clock) at)
+          sym is.clocks.1 ∙ ap (λ (c : Clock). c.period) (source.3 ∙ ap (λ (x : ℕ). (task_at graph x).clock) (subst (λ (f : Producer). ComesFrom f i) from comes))
 
   pub spans : graph.hyper ≡ span_of graph edge * (task_at graph i).clock.period
   spans =
@@ -75,15 +74,14 @@ module _ (graph : TaskGraph) (good : IsWellFormed graph) (edge : Edge) (is : IsE
       ap (λ (z : ℤ). preceding edge.ops z) e ∙ (omega (arith, ints, b, once (n +ℤ pos (q * turn)), often q n))
 
   pub here : IsAskedFrom edge.ops (first_instance edge.ops) 0
-  here = (pos (first_reader edge.ops), (let e = first_precedes edge.ty edge.ops is.operators in omega (arith, ints, e)))
+  here = (pos (first_reader edge.ops), omega (arith, ints, first_precedes edge.ty edge.ops is.operators))
 
   pub again : (x : ℕ) → IsAskedFrom edge.ops (first_instance edge.ops) x ↔ IsAskedFrom edge.ops (first_instance edge.ops) (x + span_of graph edge)
   again x = (
-    (λ h. (h.0 +ℤ pos turn, (let o = once h.0 in let at = h.1 in omega (arith, ints, o, at)))),
+    (λ h. (h.0 +ℤ pos turn, omega (arith, ints, once h.0, h.1))),
     (λ h.
         (let back : (h.0 -ℤ pos turn) +ℤ pos turn ≡ h.0 = omega (arith, ints) in
-        let b = ap (λ (z : ℤ). preceding edge.ops z) back in
-        (h.0 -ℤ pos turn, omega (arith, ints, once (h.0 -ℤ pos turn), b, h.1)))),
+        (h.0 -ℤ pos turn, omega (arith, ints, once (h.0 -ℤ pos turn), ap (λ (z : ℤ). preceding edge.ops z) back, h.1)))),
   )
 
   module _ (gaps : List ℕ) (lists : ListsGaps (IsAskedFrom edge.ops (first_instance edge.ops)) (span_of graph edge) gaps) where
@@ -97,18 +95,18 @@ module _ (graph : TaskGraph) (good : IsWellFormed graph) (edge : Edge) (is : IsE
     enumerates = record {
       rising = λ k.
           (let a = used_offset k in let b = used_offset (k + 1) in
-          let up = offset_rises (IsAskedFrom edge.ops (first_instance edge.ops)) (span_of graph edge) gaps some_span here again lists k in omega (arith, a, b, up));
+          omega (arith, a, b, offset_rises (IsAskedFrom edge.ops (first_instance edge.ops)) (span_of graph edge) gaps some_span here again lists k));
       each = λ k.
           (let a = used_offset k in
           let asked = offset_each (IsAskedFrom edge.ops (first_instance edge.ops)) (span_of graph edge) gaps some_span here again lists k in
-          (used_is edge i comes is.operators (used_at used k)).1 ((omega (arith, a)), (subst (λ (x : ℕ). IsAsked edge.ops (pos x)) (sym a) asked)));
+          (used_is edge i comes is.operators (used_at used k)).1 (omega (arith, a), (subst (λ (x : ℕ). IsAsked edge.ops (pos x)) (sym a) asked)));
       all = λ m h.
           (let r = (used_is edge i comes is.operators m).0 h in
           let x : ℕ = m - first_instance edge.ops in
           let e : first_instance edge.ops + (m - first_instance edge.ops) ≡ m = omega (arith, r.0) in
           let at = offset_all (IsAskedFrom edge.ops (first_instance edge.ops)) (span_of graph edge) gaps some_span here again lists (m - first_instance edge.ops)
           (subst (λ (x : ℕ). IsAsked edge.ops (pos x)) (sym e) r.1) in
-          (at.0, (let a = used_offset at.0 in let o = at.1 in omega (arith, a, o, e))));
+          (at.0, (let a = used_offset at.0 in omega (arith, a, at.1, e))));
     }
 
     pub used_shift : (k q : ℕ) → used_at used (k + q * length gaps) ≡ used_at used k + q * span_of graph edge
@@ -195,5 +193,4 @@ module _ (graph : TaskGraph) (good : IsWellFormed graph) (edge : Edge) (is : IsE
           let b = ap (λ (z : ℤ). preceding edge.ops z) f.2 in
           let later : preceding edge.ops (pos job) ≡ pos (used_at used (k + q * length gaps)) = omega (arith, ints, at, often q n, b, used_shift k q) in
           let reads = (reads_is edge i comes is.operators job (used_at used (k + q * length gaps))).1 (f.3, later) in
-          let x = ap (λ (z : ℤ). deadline edge.to.0 z) f.2 in
-          (moved k q n).1 (omega (arith, ints, fits (k + q * length gaps) job reads, x))
+          (moved k q n).1 (omega (arith, ints, fits (k + q * length gaps) job reads, ap (λ (z : ℤ). deadline edge.to.0 z) f.2))

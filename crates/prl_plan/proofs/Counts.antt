@@ -10,10 +10,8 @@ use Rattle.prl_plan.specs.Vocabulary.{TaskGraph, task_at, job_count, IsHorizonJo
 pub count_below : (s T until n : ℕ) → 1 ≤ T → n < (until - s + (T - 1)) / T → s + n * T < until
 count_below s T until n some h =
     let x : ℕ = until - s + (T - 1) in
-    let q : ℕ = x / T in
-    let up : (n + 1) * T ≤ q * T = mul-le-mul_right T (let g : n + 1 ≤ q = omega arith in g) in
     let e : (n + 1) * T ≡ n * T + T = omega arith in
-    omega (arith, up, div-mul-le_self x T, e)
+    omega (arith, mul-le-mul_right T (let g : n + 1 ≤ (x / T) = omega arith in g), div-mul-le_self x T, e)
 
 pub below_count : (s T until n : ℕ) → 1 ≤ T → s + n * T < until → n < (until - s + (T - 1)) / T
 below_count s T until n some h =
@@ -37,5 +35,5 @@ pub job_count_horizon : (graph : TaskGraph) (until i n : ℕ) → 1 ≤ (task_at
     IsHorizonJob graph until i n → n < job_count (task_at graph i) until
 job_count_horizon graph until i n some is =
     let c = (task_at graph i).clock in
-    let below : c.start + n * c.period < until = (let e : (pos c.start +ℤ (pos n *ℤ pos c.period)) <ℤ pos until = is.early in omega (arith, ints, e)) in
+    let below : c.start + n * c.period < until = omega (arith, ints, is.early) in
     below_count c.start c.period until n some below

@@ -39,14 +39,14 @@ module _ (graph : TaskGraph) (good : IsWellFormed graph) where
 
   moved_releases : (by : ℕ → ℤ) (ticks : ℤ) → Moves by ticks → (date : Family) → AreReleases graph date → AreReleases graph (moved by ticks date)
   moved_releases by ticks moves date is = record {
-    above = λ i m inside. (let a = is.above i (m +ℤ by i) inside in let r = moves.release i m inside in omega (arith, ints, a, r));
-    along = λ before after precedes. (let a = is.along (moved_job by before) (moved_job by after) (moves.precede before after precedes) in omega (arith, ints, a));
+    above = λ i m inside. omega (arith, ints, is.above i (m +ℤ by i) inside, moves.release i m inside);
+    along = λ before after precedes. omega (arith, ints, is.along (moved_job by before) (moved_job by after) (moves.precede before after precedes));
   }
 
   moved_deadlines : (by : ℕ → ℤ) (ticks : ℤ) → Moves by ticks → (date : Family) → AreDeadlines graph date → AreDeadlines graph (moved by ticks date)
   moved_deadlines by ticks moves date is = record {
-    below = λ i m inside. (let a = is.below i (m +ℤ by i) inside in let r = moves.release i m inside in omega (arith, ints, a, r));
-    along = λ before after precedes. (let a = is.along (moved_job by before) (moved_job by after) (moves.precede before after precedes) in omega (arith, ints, a));
+    below = λ i m inside. omega (arith, ints, is.below i (m +ℤ by i) inside, moves.release i m inside);
+    along = λ before after precedes. omega (arith, ints, is.along (moved_job by before) (moved_job by after) (moves.precede before after precedes));
   }
 
   -- the edge's jobs a hyperperiod later
@@ -62,12 +62,10 @@ module _ (graph : TaskGraph) (good : IsWellFormed graph) where
     precede = λ before after h.
         (let edge : Edge = h.1 in
         let along : PrecedesAlong graph edge before after = h.3 in
-        let is : IsEdge graph edge = good.edges h.0 edge h.2 in
         let step : preceding edge.ops (after.number +ℤ pos (jobs_of after.task)) ≡ preceding edge.ops after.number +ℤ pos (jobs_of before.task) =
         subst (λ (k : ℕ). preceding edge.ops (after.number +ℤ pos (jobs_of k)) ≡ preceding edge.ops after.number +ℤ pos (jobs_of before.task)) along.to
-        (later_along edge is before.task along.from after.number) in
-        let same : before.number ≡ preceding edge.ops after.number = along.number in
-        (h.0, edge, h.2, record { from = along.from; to = along.to; number = ap (λ (z : ℤ). z +ℤ pos (jobs_of before.task)) same ∙ sym step }));
+        (later_along edge (good.edges h.0 edge h.2) before.task along.from after.number) in
+        (h.0, edge, h.2, record { from = along.from; to = along.to; number = ap (λ (z : ℤ). z +ℤ pos (jobs_of before.task)) along.number ∙ sym step }));
   }
 
   moves_down : Moves (λ i. neg_ℤ (pos (jobs_of i))) (neg_ℤ (pos graph.hyper))
@@ -79,12 +77,11 @@ module _ (graph : TaskGraph) (good : IsWellFormed graph) where
     precede = λ before after h.
         (let edge : Edge = h.1 in
         let along : PrecedesAlong graph edge before after = h.3 in
-        let is : IsEdge graph edge = good.edges h.0 edge h.2 in
         let early : ℤ = after.number +ℤ neg_ℤ (pos (jobs_of after.task)) in
         let back : early +ℤ pos (jobs_of after.task) ≡ after.number = omega (arith, ints) in
         let step : preceding edge.ops (early +ℤ pos (jobs_of after.task)) ≡ preceding edge.ops early +ℤ pos (jobs_of before.task) =
         subst (λ (k : ℕ). preceding edge.ops (early +ℤ pos (jobs_of k)) ≡ preceding edge.ops early +ℤ pos (jobs_of before.task)) along.to
-        (later_along edge is before.task along.from early) in
+        (later_along edge (good.edges h.0 edge h.2) before.task along.from early) in
         let here : preceding edge.ops after.number ≡ preceding edge.ops early +ℤ pos (jobs_of before.task) =
         ap (λ (z : ℤ). preceding edge.ops z) (sym back) ∙ step in
         (h.0, edge, h.2, record { from = along.from; to = along.to; number = omega (arith, ints, here, along.number) }));
@@ -114,7 +111,7 @@ module _ (graph : TaskGraph) (good : IsWellFormed graph) where
       omega (arith, ints, up, down, back)))
 
   some_jobs : (jobs period : ℕ) → graph.hyper ≡ jobs * period → 1 ≤ jobs
-  some_jobs zero period is = absurd (let z : 0 * period ≡ 0 = omega arith in let h = good.hyper in omega (arith, z, is, h))
+  some_jobs zero period is = absurd (let z : 0 * period ≡ 0 = omega arith in omega (arith, z, is, good.hyper))
   some_jobs (suc jobs) period is = omega arith
 
   -- two families that repeat and agree over a hyperperiod agree
@@ -123,12 +120,12 @@ module _ (graph : TaskGraph) (good : IsWellFormed graph) where
   families_agree one other first second i jobs inside times base =
       everywhere (λ (m : ℤ). one i m ≡ other i m) jobs (some_jobs jobs (task_at graph i).clock.period times) base
       (λ m same. first.again i jobs inside times m ∙ ap (λ (z : ℤ). z +ℤ pos graph.hyper) same ∙ sym (second.again i jobs inside times m))
-      (λ m same. (let a = first.again i jobs inside times m in let b = second.again i jobs inside times m in omega (arith, ints, a, b, same)))
+      (λ m same. omega (arith, ints, first.again i jobs inside times m, second.again i jobs inside times m, same))
 
   -- and so with their order
   pub family_below : (one other : Family) → RepeatsByHyper graph one → RepeatsByHyper graph other → (i jobs : ℕ) → i < length graph.tasks →
       graph.hyper ≡ jobs * (task_at graph i).clock.period → ((n : ℕ) → n < jobs → one i (pos n) ≤ℤ other i (pos n)) → (m : ℤ) → one i m ≤ℤ other i m
   family_below one other first second i jobs inside times base =
       everywhere (λ (m : ℤ). one i m ≤ℤ other i m) jobs (some_jobs jobs (task_at graph i).clock.period times) base
-      (λ m below. (let a = first.again i jobs inside times m in let b = second.again i jobs inside times m in omega (arith, ints, a, b, below)))
-      (λ m below. (let a = first.again i jobs inside times m in let b = second.again i jobs inside times m in omega (arith, ints, a, b, below)))
+      (λ m below. omega (arith, ints, first.again i jobs inside times m, second.again i jobs inside times m, below))
+      (λ m below. omega (arith, ints, first.again i jobs inside times m, second.again i jobs inside times m, below))

@@ -96,14 +96,12 @@ module _ (graph : TaskGraph) (good : IsWellFormed graph) (date : Family) (is : A
   pub releases_rise : (i : ℕ) (a b : ℤ) → i < length graph.tasks → a ≤ℤ b → date i a ≤ℤ date i b
   releases_rise i a b inside le =
       let by = later_by a b le in
-      let low = lower i inside a by.0 by.0 (omega arith) in
-      let same = ap (λ (z : ℤ). date i z) by.1 in
-      omega (arith, ints, is.least least_from least_are i a inside, low, same)
+      omega (arith, ints, is.least least_from least_are i a inside, lower i inside a by.0 by.0 (omega arith), ap (λ (z : ℤ). date i z) by.1)
 
 module _ (graph : TaskGraph) (good : IsWellFormed graph) (windows : List (List Window)) (dates : AreEncodedDates graph windows) where
   next_deadline : (i : ℕ) (a : ℤ) (y : ℕ) → i < length graph.tasks → encoded_deadline graph windows i a ≤ℤ encoded_deadline graph windows i (a +ℤ pos y)
   next_deadline i a zero inside =
-      (let e : a +ℤ pos 0 ≡ a = omega (arith, ints) in let s = ap (λ (z : ℤ). encoded_deadline graph windows i z) e in omega (arith, ints, s))
+      (let e : a +ℤ pos 0 ≡ a = omega (arith, ints) in omega (arith, ints, ap (λ (z : ℤ). encoded_deadline graph windows i z) e))
   next_deadline i a (suc y) inside =
       let times : suc y * (task_at graph i).clock.period ≡ y * (task_at graph i).clock.period + (task_at graph i).clock.period = omega arith in
       omega (arith, ints, dates.deadlines.deadlines.below i a inside, (task_is graph good i inside).due.1, plus_mul a (suc y) (task_at graph i).clock.period, times)
@@ -111,5 +109,4 @@ module _ (graph : TaskGraph) (good : IsWellFormed graph) (windows : List (List W
   pub deadlines_rise : (i : ℕ) (a b : ℤ) → i < length graph.tasks → a ≤ℤ b → encoded_deadline graph windows i a ≤ℤ encoded_deadline graph windows i b
   deadlines_rise i a b inside le =
       let by = later_by a b le in
-      let same = ap (λ (z : ℤ). encoded_deadline graph windows i z) by.1 in
-      omega (arith, ints, next_deadline i a by.0 inside, same)
+      omega (arith, ints, next_deadline i a by.0 inside, ap (λ (z : ℤ). encoded_deadline graph windows i z) by.1)

@@ -40,30 +40,26 @@ plan_ends_last plan on h i n job =
 
 sum_most : (f g : ℕ → ℕ) (n : ℕ) → ((j : ℕ) → j < n → f j ≤ g j) → sum_below f n ≤ sum_below g n
 sum_most f g zero most = omega arith
-sum_most f g (suc n) most =
-    (let a = sum_most f g n (λ j below. most j (omega (arith, below))) in let b = most n (omega arith) in omega (arith, a, b))
+sum_most f g (suc n) most = omega (arith, sum_most f g n (λ j below. most j (omega (arith, below))), most n (omega arith))
 
 sum_grows : (f g : ℕ → ℕ) (i n : ℕ) → i < n → f i < g i → ((j : ℕ) → j ≢ i → f j ≤ g j) → sum_below f n < sum_below g n
 sum_grows f g i zero inside grows most = absurd (omega (arith, inside))
 sum_grows f g i (suc n) inside grows most = elim (cases_eq n i) [
   | inl last ↦
-      (let a = sum_most f g n (λ j below. most j (λ e. omega (arith, e, below, last))) in
-      let b : f n < g n = subst (λ (k : ℕ). f k < g k) (sym last) grows in
-      omega (arith, a, b))
+      omega (arith, sum_most f g n (λ j below. most j (λ e. omega (arith, e, below, last))), subst (λ (k : ℕ). f k < g k) (sym last) grows)
   | inr other ↦
-      (let a = sum_grows f g i n (omega (arith, inside, other)) grows most in
-      omega (arith, a, most n other))
+      omega (arith, sum_grows f g i n (omega (arith, inside, other)) grows most, most n other)
 ]
 
 sum_none : (f : ℕ → ℕ) (n : ℕ) → ((k : ℕ) → k < n → f k ≡ 0) → sum_below f n ≡ 0
 sum_none f zero each = refl
-sum_none f (suc n) each = (let rest = sum_none f n (λ k below. each k (omega (arith, below))) in let e = each n (omega arith) in omega (arith, rest, e))
+sum_none f (suc n) each = omega (arith, sum_none f n (λ k below. each k (omega (arith, below))), each n (omega arith))
 
 sum_more : (f : ℕ → ℕ) (a b : ℕ) → a ≤ b → sum_below f a ≤ sum_below f b
-sum_more f a zero most = (let same : a ≡ 0 = omega (arith, most) in let e = ap (sum_below f) same in omega (arith, e))
+sum_more f a zero most = (let same : a ≡ 0 = omega (arith, most) in omega (arith, ap (sum_below f) same))
 sum_more f a (suc b) most = elim (cases_eq a (suc b)) [
-  | inl same ↦ (let e = ap (sum_below f) same in omega (arith, e))
-  | inr other ↦ (let r = sum_more f a b (omega (arith, most, other)) in omega (arith, r))
+  | inl same ↦ omega (arith, ap (sum_below f) same)
+  | inr other ↦ omega (arith, sum_more f a b (omega (arith, most, other)))
 ]
 
 module _ (c : RunConstants) (ends : EndsLast c) where
@@ -77,7 +73,7 @@ module _ (c : RunConstants) (ends : EndsLast c) where
     over : (i : ℕ) → i < c.tasks → get_or s.ended i 0 ≡ c.jobs i → get_or s.places i 0 ≡ 0
 
   long : (i n : ℕ) → IsJob c i n → 0 < length (c.actions i n)
-  long i n job = (let e = ends i n job in let l = e.1 in omega (arith, l))
+  long i n job = omega (arith, (ends i n job).1)
 
   zero_at : (i : ℕ) → i < c.tasks → get_or (opening c).ended i 0 ≡ 0
   zero_at i inside = get_or-replicate c.tasks i 0 0 inside
@@ -87,10 +83,10 @@ module _ (c : RunConstants) (ends : EndsLast c) where
     ended = length-replicate c.tasks 0;
     places = length-replicate c.tasks 0;
     within = omega arith;
-    counted = λ i inside. (let e = zero_at i inside in omega (arith, e));
+    counted = λ i inside. omega (arith, zero_at i inside);
     inside = λ i inside some.
         (let job : IsJob c i (get_or (opening c).ended i 0) = record { task = inside; job = some } in
-        let l = long i (get_or (opening c).ended i 0) job in omega (arith, zero_at i inside, l));
+        omega (arith, zero_at i inside, long i (get_or (opening c).ended i 0) job));
     over = λ i inside all. zero_at i inside;
   }
 
@@ -99,15 +95,14 @@ module _ (c : RunConstants) (ends : EndsLast c) where
       let each : (i : ℕ) → i < c.tasks → actions_before c i (get_or (opening c).ended i 0) + get_or (opening c).ended i 0 ≡ 0 = λ i inside.
       (let e = zero_at i inside in
       let b = ap (actions_before c i) e in omega (arith, e, b)) in
-      let all : sum_below (λ i. actions_before c i (get_or (opening c).ended i 0) + get_or (opening c).ended i 0) c.tasks ≡ 0 = sum_none (λ i. actions_before c i (get_or (opening c).ended i 0) + get_or (opening c).ended i 0) c.tasks each in
-      omega (arith, all)
+      omega (arith, sum_none (λ i. actions_before c i (get_or (opening c).ended i 0) + get_or (opening c).ended i 0) c.tasks each)
 
   module _ (s : ExecState) (fits : Fits s) (i : ℕ) (has : HasJob c s i) where
     in_places : i < length s.places
-    in_places = (let l = fits.places in let t = has.task in omega (arith, l, t))
+    in_places = omega (arith, fits.places, has.task)
 
     in_ended : i < length s.ended
-    in_ended = (let l = fits.ended in let t = has.task in omega (arith, l, t))
+    in_ended = omega (arith, fits.ended, has.task)
 
     its_job : IsJob c i (get_or s.ended i 0)
     its_job = record { task = has.task; job = has.job }
@@ -115,12 +110,10 @@ module _ (c : RunConstants) (ends : EndsLast c) where
     -- an action that is no end is not the last one
     more : (next_action c s i ≡ actions.End → ⊥) → get_or s.places i 0 + 1 < length (c.actions i (get_or s.ended i 0))
     more none =
-        let at : get_or s.places i 0 < length (c.actions i (get_or s.ended i 0)) = fits.inside i has.task has.job in
         let last = ends i (get_or s.ended i 0) its_job in
-        let long : length (c.actions i (get_or s.ended i 0)) ≡ last.0 + 1 = last.1 in
         elim (cases_eq (get_or s.places i 0) last.0) [
           | inl same ↦ absurd (none (ap (action_at c i (get_or s.ended i 0)) same ∙ last.2))
-          | inr other ↦ omega (arith, at, long, other)
+          | inr other ↦ omega (arith, fits.inside i has.task has.job, last.1, other)
         ]
 
     module _ (t : ExecState) (now : t.now ≡ s.now) (ended : t.ended ≡ s.ended) (places : t.places ≡ set s.places i (get_or s.places i 0 + 1))
@@ -146,13 +139,11 @@ module _ (c : RunConstants) (ends : EndsLast c) where
             elim (cases_eq j i) [
               | inl same ↦
                   (let p : get_or t.places j 0 ≡ get_or s.places i 0 + 1 = ap (λ (k : ℕ). get_or t.places k 0) same ∙ here_place in
-                  let l : length (c.actions j (get_or t.ended j 0)) ≡ length (c.actions i (get_or s.ended i 0)) = long ∙ ap (λ (k : ℕ). length (c.actions k (get_or s.ended k 0))) same in
-                  omega (arith, more none, p, l))
-              | inr other ↦ (let p = other_place j other in let at = fits.inside j inside below in omega (arith, p, at, long))
+                  omega (arith, more none, p, long ∙ ap (λ (k : ℕ). length (c.actions k (get_or s.ended k 0))) same))
+              | inr other ↦ (let p = other_place j other in omega (arith, p, fits.inside j inside below, long))
             ]);
         over = λ j inside all. (let e = same_ended j in elim (cases_eq j i) [
-          | inl same ↦ absurd (let b = has.job in let f : get_or s.ended j 0 ≡ get_or s.ended i 0 = ap (λ (k : ℕ). get_or s.ended k 0) same in
-              let g : c.jobs j ≡ c.jobs i = ap c.jobs same in omega (arith, b, e, all, f, g))
+          | inl same ↦ absurd (omega (arith, has.job, e, all, ap (λ (k : ℕ). get_or s.ended k 0) same, ap c.jobs same))
           | inr other ↦ other_place j other ∙ fits.over j inside (sym e ∙ all)
         ]);
       }
@@ -187,15 +178,14 @@ module _ (c : RunConstants) (ends : EndsLast c) where
       places = length-set s.places i 0 ∙ fits.places;
       within = fits.within;
       counted = λ j inside. (elim (cases_eq j i) [
-        | inl same ↦ (let b = has.job in let e : get_or after_end.ended j 0 ≡ get_or s.ended i 0 + 1 = ap (λ (k : ℕ). get_or after_end.ended k 0) same ∙ end_ended in
-            let g : c.jobs j ≡ c.jobs i = ap c.jobs same in omega (arith, b, e, g))
-        | inr other ↦ (let e = else_ended j other in let k = fits.counted j inside in omega (arith, e, k))
+        | inl same ↦ omega (arith, has.job, ap (λ (k : ℕ). get_or after_end.ended k 0) same ∙ end_ended, ap c.jobs same)
+        | inr other ↦ omega (arith, else_ended j other, fits.counted j inside)
       ]);
       inside = λ j inside some. (elim (cases_eq j i) [
         | inl same ↦ (let p : get_or after_end.places j 0 ≡ 0 = ap (λ (k : ℕ). get_or after_end.places k 0) same ∙ end_place in
-            let l = long j (get_or after_end.ended j 0) (record { task = inside; job = some }) in omega (arith, p, l))
+            omega (arith, p, long j (get_or after_end.ended j 0) (record { task = inside; job = some })))
         | inr other ↦ (let e = else_ended j other in let p = else_place j other in
-            let at = fits.inside j inside (omega (arith, e, some)) in let l = ap (λ (n : ℕ). length (c.actions j n)) e in omega (arith, p, at, l))
+            omega (arith, p, fits.inside j inside (omega (arith, e, some)), ap (λ (n : ℕ). length (c.actions j n)) e))
       ]);
       over = λ j inside all. (elim (cases_eq j i) [
         | inl same ↦ ap (λ (k : ℕ). get_or after_end.places k 0) same ∙ end_place
@@ -219,10 +209,10 @@ module _ (c : RunConstants) (ends : EndsLast c) where
         let none : next_action c s i ≡ actions.End → ⊥ = λ e. let f = sym is ∙ e in cc f in
         (moved_fits (after_action s i (actions.ReadConst port value)) refl refl refl none, moved_more (after_action s i (actions.ReadConst port value)) refl refl refl none)
     act_counts (actions.Read port e m slot) is =
-        let none : next_action c s i ≡ actions.End → ⊥ = λ e. let f = sym is ∙ e in cc f in
+        let none : next_action c s i ≡ actions.End → ⊥ = λ e. cc (sym is ∙ e) in
         (moved_fits (after_action s i (actions.Read port e m slot)) refl refl refl none, moved_more (after_action s i (actions.Read port e m slot)) refl refl refl none)
     act_counts (actions.Write e m slot) is =
-        let none : next_action c s i ≡ actions.End → ⊥ = λ e. let f = sym is ∙ e in cc f in
+        let none : next_action c s i ≡ actions.End → ⊥ = λ e. cc (sym is ∙ e) in
         (moved_fits (after_action s i (actions.Write e m slot)) refl refl refl none, moved_more (after_action s i (actions.Write e m slot)) refl refl refl none)
     act_counts actions.End is = (end_fits, end_more)
 
@@ -238,22 +228,19 @@ module _ (c : RunConstants) (ends : EndsLast c) where
   list_counts (event ∷ list) s fits free =
       let one = event_counts s fits event free.0 in
       let rest = list_counts list (after_event c s event) one.0 free.1 in
-      (rest.0, (let a = one.1 in let b = rest.1 in omega (arith, a, b)))
+      (rest.0, omega (arith, one.1, rest.1))
 
   fits_within : (s : ExecState) → Fits s → events_in c s ≤ all_events c
   fits_within s fits =
       let each : (i : ℕ) → i < c.tasks → actions_before c i (get_or s.ended i 0) + get_or s.places i 0 ≤ actions_before c i (c.jobs i) = λ i inside.
-      (let k = fits.counted i inside in
-      elim (cases_lt (get_or s.ended i 0) (c.jobs i)) [
+      (elim (cases_lt (get_or s.ended i 0) (c.jobs i)) [
         | inl some ↦
-            (let one = sum_more (λ m. length (c.actions i m)) (suc (get_or s.ended i 0)) (c.jobs i) some in
-            omega (arith, fits.inside i inside some, one))
+            omega (arith, fits.inside i inside some, sum_more (λ m. length (c.actions i m)) (suc (get_or s.ended i 0)) (c.jobs i) some)
         | inr none ↦
-            (let all : get_or s.ended i 0 ≡ c.jobs i = omega (arith, k, none) in
-            let p = fits.over i inside all in let e = ap (actions_before c i) all in omega (arith, p, e))
+            (let all : get_or s.ended i 0 ≡ c.jobs i = omega (arith, fits.counted i inside, none) in
+            omega (arith, fits.over i inside all, ap (actions_before c i) all))
       ]) in
-      let sums = sum_most (λ i. actions_before c i (get_or s.ended i 0) + get_or s.places i 0) (λ i. actions_before c i (c.jobs i)) c.tasks each in
-      omega (arith, sums, fits.within)
+      omega (arith, sum_most (λ i. actions_before c i (get_or s.ended i 0) + get_or s.places i 0) (λ i. actions_before c i (c.jobs i)) c.tasks each, fits.within)
 
   -- a free list from the opening has no more events than the horizon
   pub list_is_short : (list : List Event) → IsFree c (opening c) list → length list ≤ all_events c

@@ -19,19 +19,19 @@ pred_is (negsuc n) = omega (arith, ints)
 -- a product with a natural number keeps the order
 pub mono : (k : ℕ) (a b : ℤ) → a ≤ℤ b → (pos k *ℤ a) ≤ℤ (pos k *ℤ b)
 mono zero a b h = rw (zero-*ℤ a, zero-*ℤ b) (omega (arith, ints))
-mono (suc k) a b h = rw (suc_ℤ-*ℤ (pos k) a, suc_ℤ-*ℤ (pos k) b) (let g = mono k a b h in omega (arith, ints, g, h))
+mono (suc k) a b h = rw (suc_ℤ-*ℤ (pos k) a, suc_ℤ-*ℤ (pos k) b) (omega (arith, ints, mono k a b h, h))
 
 mul_next : (k : ℕ) (a : ℤ) → pos k *ℤ (a +ℤ pos 1) ≡ (pos k *ℤ a) +ℤ pos k
 mul_next zero a = rw (zero-*ℤ (a +ℤ pos 1), zero-*ℤ a) refl
-mul_next (suc k) a = rw (suc_ℤ-*ℤ (pos k) (a +ℤ pos 1), suc_ℤ-*ℤ (pos k) a) (let g = mul_next k a in omega (arith, ints, g))
+mul_next (suc k) a = rw (suc_ℤ-*ℤ (pos k) (a +ℤ pos 1), suc_ℤ-*ℤ (pos k) a) (omega (arith, ints, mul_next k a))
 
 mul_neg : (k : ℕ) (a : ℤ) → pos k *ℤ neg_ℤ a ≡ neg_ℤ (pos k *ℤ a)
 mul_neg zero a = rw (zero-*ℤ (neg_ℤ a), zero-*ℤ a) refl
-mul_neg (suc k) a = rw (suc_ℤ-*ℤ (pos k) (neg_ℤ a), suc_ℤ-*ℤ (pos k) a) (let g = mul_neg k a in omega (arith, ints, g))
+mul_neg (suc k) a = rw (suc_ℤ-*ℤ (pos k) (neg_ℤ a), suc_ℤ-*ℤ (pos k) a) (omega (arith, ints, mul_neg k a))
 
 -- what is left of n after the quotient
 floor_rest : (n : ℤ) (k : ℕ) → 1 ≤ k → (r : ℕ) × (r < k) × (n ≡ (pos k *ℤ floor_div n k) +ℤ pos r)
-floor_rest (pos n) k some = (n % k, omega arith, (let e : k * (n / k) + n % k ≡ n = omega arith in let z = pos-*ℤ-pos k (n / k) in omega (arith, ints, e, z)))
+floor_rest (pos n) k some = (n % k, omega arith, (let e : k * (n / k) + n % k ≡ n = omega arith in omega (arith, ints, e, pos-*ℤ-pos k (n / k))))
 floor_rest (negsuc n) k some = (
   k - 1 - n % k,
   omega arith,
@@ -45,9 +45,8 @@ pub floor_least : (n x : ℤ) (k : ℕ) → 1 ≤ k → (x ≤ℤ floor_div n k)
 floor_least n x k some =
     let rest = floor_rest n k some in
     let q : ℤ = floor_div n k in (
-      (λ h. (let g = mono k x q h in omega (arith, ints, g, rest.2))),
+      (λ h. omega (arith, ints, mono k x q h, rest.2)),
       (λ h. by_lt_z q x
-          (λ below. (let g : (pos k *ℤ (q +ℤ pos 1)) ≤ℤ (pos k *ℤ x) = mono k (q +ℤ pos 1) x (omega (arith, ints, below)) in
-          absurd (omega (arith, ints, g, mul_next k q, h, rest.1, rest.2))))
+          (λ below. (absurd (omega (arith, ints, mono k (q +ℤ pos 1) x (omega (arith, ints, below)), mul_next k q, h, rest.1, rest.2))))
           (λ above. above)),
     )

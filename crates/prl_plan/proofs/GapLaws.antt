@@ -18,10 +18,8 @@ module _ (R : ℕ → Type 0) (span : ℕ) (gaps : List ℕ) (some : 1 ≤ span)
   -- the differences fill the span
   pub full : sum gaps ≡ span
   full =
-      let at : R span = subst R (let e : 0 + span ≡ span = omega arith in e) ((again 0).0 here) in
-      let found = lists.all span (omega arith) at in
-      let small : sum (take found.0 gaps) ≤ sum gaps = sum_by-take-le (λ y. y) gaps found.0 in
-      omega (arith, small, found.2, lists.within)
+      let found = lists.all span (omega arith) (subst R (let e : 0 + span ≡ span = omega arith in e) ((again 0).0 here)) in
+      omega (arith, sum_by-take-le (λ y. y) gaps found.0, found.2, lists.within)
 
   pub some_gaps : 1 ≤ length gaps
   some_gaps = go gaps full
@@ -39,7 +37,7 @@ module _ (R : ℕ → Type 0) (span : ℕ) (gaps : List ℕ) (some : 1 ≤ span)
   split k = (let e : length gaps * (k / length gaps) + k % length gaps ≡ k = omega arith in let f : length gaps * (k / length gaps) ≡ k / length gaps * length gaps = omega arith in omega (arith, e, f))
 
   pub inside : (k : ℕ) → k % length gaps < length gaps
-  inside k = (let s = some_gaps in omega (arith, s))
+  inside k = omega (arith, some_gaps)
 
   -- so many places on, the number is a span higher
   pub offset_shift : (k q : ℕ) → offset gaps (k + q * length gaps) ≡ offset gaps k + q * span
@@ -85,9 +83,8 @@ module _ (R : ℕ → Type 0) (span : ℕ) (gaps : List ℕ) (some : 1 ≤ span)
   offset_each k =
       let p = k / length gaps in
       let r = k % length gaps in
-      let b : offset gaps k ≡ p * span + sum (take r gaps) = ap (offset gaps) (split k) ∙ at_pair p r (inside k) in
-      subst R (let e : sum (take r gaps) + p * span ≡ offset gaps k = omega (arith, b) in e)
-      (up_again p (sum (take r gaps)) (lists.each r (let i = inside k in omega (arith, i))))
+      subst R (let e : sum (take r gaps) + p * span ≡ offset gaps k = omega (arith, ap (offset gaps) (split k) ∙ at_pair p r (inside k)) in e)
+      (up_again p (sum (take r gaps)) (lists.each r (omega (arith, inside k))))
 
   pub offset_all : (x : ℕ) → R x → (k : ℕ) × (offset gaps k ≡ x)
   offset_all x is =

@@ -45,7 +45,7 @@ paired_if true xs is = is
 paired_if false xs is = paired_none
 
 not_odd : (cell : ℕ) → (other : ℕ) × (low cell ≡ high other) → ⊥
-not_odd cell is = (let e : 2 * cell ≡ 2 * is.0 + 1 = is.1 in omega (arith, e))
+not_odd cell is = omega (arith, is.1)
 
 module _ (plan : PlanView) (i n : ℕ) where
   paired_reading : (e : ℕ) (edge : Edge) (operand : Operand) → IsPaired (reading plan e edge operand)

@@ -42,9 +42,8 @@ pub one_horizon : (plan : PlanView) (until : ℕ) (a b : Horizon) → IsHorizon 
 one_horizon plan until a b ha hb ea eb =
     let until_is : a.until ≡ b.until = ea ∙ sym eb in
     let end_is : a.end ≡ b.end = one_end plan b.until a.end b.end (subst (λ (u : ℕ). IsEnd plan u a.end) until_is ha.end) hb.end in
-    let jobs_is : a.jobs ≡ b.jobs = ha.jobs ∙ ap (jobs_up_to plan) until_is ∙ sym hb.jobs in
     let events_is : a.events ≡ b.events = ha.events ∙ ap (λ u. actions_up_to plan u + a.end) until_is ∙ ap (λ e. actions_up_to plan b.until + e) end_is ∙ sym hb.events in
-    same_fields a b until_is end_is jobs_is events_is
+    same_fields a b until_is end_is (ha.jobs ∙ ap (jobs_up_to plan) until_is ∙ sym hb.jobs) events_is
 
 no_past : (plan : PlanView) (until end found : ℕ) (what : What) → IsEnd plan until end → jobs_up_to plan until ≤ 200000 → actions_up_to plan until + end ≤ 1000000
     → IsPast plan until what found → ⊥
@@ -63,8 +62,7 @@ one_past : (plan : PlanView) (until a b : ℕ) (x y : What) → IsPast plan unti
 one_past plan until a b whats.Jobs whats.Jobs p q = (refl, p.0 ∙ sym q.0)
 one_past plan until a b whats.Jobs whats.Events p q = absurd (omega (arith, p.0, p.1, q.0))
 one_past plan until a b whats.Events whats.Jobs p q = absurd (omega (arith, q.0, q.1, p.0))
-one_past plan until a b whats.Events whats.Events p q =
-    let e = one_end plan until p.1.0 q.1.0 p.1.1 q.1.1 in (refl, omega (arith, e, p.1.2, q.1.2))
+one_past plan until a b whats.Events whats.Events p q = (refl, omega (arith, one_end plan until p.1.0 q.1.0 p.1.1 q.1.1, p.1.2, q.1.2))
 one_past plan until a b whats.Jobs _ p q = absurd q
 one_past plan until a b whats.Events _ p q = absurd q
 one_past plan until a b _ y p q = absurd p
@@ -94,14 +92,14 @@ more f n top h = elim (cases_lt top (f n)) [
   where
     higher_above : top < f n → (k : ℕ) → k < n + 1 → f k ≤ f n
     higher_above higher k lt = elim (cases_lt k n) [
-      | inl below ↦ let le = h.above k below in omega (arith, le, higher)
-      | inr past ↦ let same : k ≡ n = omega arith in let e : f k ≡ f n = ap f same in omega (arith, e)
+      | inl below ↦ omega (arith, h.above k below, higher)
+      | inr past ↦ let same : k ≡ n = omega arith in omega (arith, ap f same)
     ]
 
     lower_above : f n ≤ top → (k : ℕ) → k < n + 1 → f k ≤ top
     lower_above lower k lt = elim (cases_lt k n) [
       | inl below ↦ h.above k below
-      | inr past ↦ let same : k ≡ n = omega arith in let e : f k ≡ f n = ap f same in omega (arith, e, lower)
+      | inr past ↦ let same : k ≡ n = omega arith in omega (arith, ap f same, lower)
     ]
 
     attained : ((top ≡ 0) ⊎ ((k : ℕ) × (k < n) × (top ≡ f k))) → (top ≡ 0) ⊎ ((k : ℕ) × (k < n + 1) × (top ≡ f k))
@@ -131,7 +129,7 @@ module _ (plan : PlanView) (until : ℕ) (good : IsWellFormed plan.graph) where
       above : (end : ℕ) → IsGreatest task_end (length plan.graph.tasks) end → (i n : ℕ) → IsHorizonJob plan.graph until i n → deadline_at plan i n ≤ end
       above end h i n job =
           let lt = job_count_horizon plan.graph until i n (task_period i job.task) job in
-          let all = h.above i job.task in omega (arith, (greatest (deadline_at plan i) (count i)).1.above n lt, all)
+          omega (arith, (greatest (deadline_at plan i) (count i)).1.above n lt, h.above i job.task)
 
       of_task : (end i : ℕ) → i < length plan.graph.tasks → end ≡ task_end i → (end ≡ 0) ⊎ ((j : ℕ) × (n : ℕ) × IsHorizonJob plan.graph until j n × (end ≡ deadline_at plan j n))
       of_task end i task e = elim (greatest (deadline_at plan i) (count i)).1.attained [

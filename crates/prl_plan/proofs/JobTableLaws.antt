@@ -14,8 +14,7 @@ pub reads_earlier : (plan : PlanView) → IsPlan plan → (until : ℕ) (table :
 reads_earlier plan is until table made k row at e i m inside to comes reads =
     let job : IsHorizonJob plan.graph until (edge_at plan.graph e).to.0 row.job =
     subst (λ (t : ℕ). IsHorizonJob plan.graph until t row.job) (sym to) (made.jobs k row at) in
-    let given : IsHorizonJob plan.graph until i m = operand_horizon plan.graph is.graph until e i row.job m inside comes job reads in
-    let found = made.all i m given in
+    let found = made.all i m (operand_horizon plan.graph is.graph until e i row.job m inside comes job reads) in
     let l : ℕ = found.0 in
     let earlier : TableRow = found.1 in
     let dates : release_at plan i m < release_at plan (edge_at plan.graph e).to.0 row.job =
@@ -31,13 +30,12 @@ reads_earlier plan is until table made k row at e i m inside to comes reads =
             | inl below ↦
                 elim (made.order k l row earlier below at found.2) [
                   | inl less ↦ omega (arith, less, mine, same)
-                  | inr equal ↦ (let q = equal.0 in omega (arith, q, mine, same))
+                  | inr equal ↦ omega (arith, equal.0, mine, same)
                 ]
             | inr under ↦
                 (let one : l ≡ k = omega (arith, above, under) in
                 let is_row : earlier ≡ row = cc in
-                let r : release_at plan earlier.task earlier.job ≡ release_at plan row.task row.job = ap (λ (x : TableRow). release_at plan x.task x.job) is_row in
-                omega (arith, r, mine, same))
+                omega (arith, ap (λ (x : TableRow). release_at plan x.task x.job) is_row, mine, same))
           ])
     ] in
     (l, earlier, before, found.2, found.3, found.4)

@@ -24,8 +24,7 @@ last_all : (slot tag : ℕ) (xs : List Action) (p : ℕ) → ((k : ℕ) → p �
 last_all slot tag [] zero ends = refl
 last_all slot tag [] (suc p) ends = refl
 last_all slot tag (x ∷ xs) zero ends =
-    let e : x ≡ actions.End = ends 0 (omega arith) in
-    ap (λ (t : ℕ). last_in slot t xs) (ap (tag_after slot tag) e) ∙ last_all slot tag xs 0 (λ k h. ends (suc k) (omega arith))
+    ap (λ (t : ℕ). last_in slot t xs) (ap (tag_after slot tag) (ends 0 (omega arith))) ∙ last_all slot tag xs 0 (λ k h. ends (suc k) (omega arith))
 last_all slot tag (x ∷ xs) (suc p) ends = last_all slot (tag_after slot tag x) xs p (λ k h. ends (suc k) (omega (arith, h)))
 
 module _ (c : RunConstants) (facts : HasPlanFacts c) where
@@ -51,10 +50,10 @@ module _ (c : RunConstants) (facts : HasPlanFacts c) where
 
   left_action : (s : ExecState) → IsTagged c s → IsLeft c s → (j : ℕ) → HasJob c s j → (action : Action) → next_action c s j ≡ action → IsLeft c (after_action s j action)
   left_action s tagged left j has (actions.ReadConst port value) is =
-      let inside : j < length s.places = (let l = tagged.places in let t = has.task in omega (arith, l, t)) in
+      let inside : j < length s.places = omega (arith, tagged.places, has.task) in
       record { left = λ i slot writer. moved_left s left j inside s.tags i slot writer (λ e. sym (ap (tag_after slot (get_or s.tags slot 0)) is)) (λ e. refl) }
   left_action s tagged left j has (actions.Read port e m h) is =
-      let inside : j < length s.places = (let l = tagged.places in let t = has.task in omega (arith, l, t)) in
+      let inside : j < length s.places = omega (arith, tagged.places, has.task) in
       record { left = λ i slot writer. moved_left s left j inside s.tags i slot writer (λ e. sym (ap (tag_after slot (get_or s.tags slot 0)) is)) (λ e. refl) }
   left_action s tagged left j has (actions.Write e m h) is =
       let inside : j < length s.places = (let l = tagged.places in let t = has.task in omega (arith, l, t)) in

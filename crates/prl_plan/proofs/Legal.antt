@@ -25,18 +25,17 @@ module _ (c : RunConstants) (facts : HasPlanFacts c) where
       let j : ℕ = before.0 in
       let k : ℕ = before.1 in
       let provides : Provides c m cell i n j k (before.2) = before.3 in
-      let early : c.release j k ≤ s.now = (let a : c.release j k < c.release i n = provides.release in let b : c.release i n ≤ s.now = released in omega (arith, a, b)) in
+      let early : c.release j k ≤ s.now = omega (arith, provides.release, released) in
       elim (cases_lt k (get_or s.ended j 0)) [
         | inl ended ↦
-            (let lower : m + 1 ≤ get_or s.tags cell 0 = sound.tagged.written j k (before.2) m cell provides.writes (inl ended) in omega (arith, upper, lower))
+            omega (arith, upper, sound.tagged.written j k (before.2) m cell provides.writes (inl ended))
         | inr left ↦ absurd
             (elim (facts.across i n place m j k (before.2) cell reads provides.writes) [
               | inl together ↦
                   (let unfinished : IsUnfinished c s j k = record { task = provides.writes.job.task; job = provides.writes.job.job; unfinished = left } in
                   omega (arith, first j k together unfinished early, provides.deadline))
               | inr due ↦
-                  (let kept : k < get_or s.ended j 0 = sound.kept j k provides.writes.job (let b : c.release i n ≤ s.now = released in omega (arith, due, b)) in
-                  omega (arith, kept, left))
+                  omega (arith, sound.kept j k provides.writes.job (omega (arith, due, released)), left)
             ])
       ]
 

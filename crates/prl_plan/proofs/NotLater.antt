@@ -15,7 +15,7 @@ use Rattle.prl_plan.proofs.WalkLaws.{shift_later}
 use Rattle.prl_plan.proofs.RoundPeriods.{edge_takes}
 
 sum_times : (m n : ℕ) (a : ℤ) → pos (m + n) *ℤ a ≡ (pos m *ℤ a) +ℤ (pos n *ℤ a)
-sum_times zero n a = (let z = zero-*ℤ a in let e : 0 + n ≡ n = omega arith in ap (λ (k : ℕ). pos k *ℤ a) e ∙ omega (arith, ints, z))
+sum_times zero n a = (let e : 0 + n ≡ n = omega arith in ap (λ (k : ℕ). pos k *ℤ a) e ∙ omega (arith, ints, zero-*ℤ a))
 sum_times (suc m) n a =
     let e : suc m + n ≡ suc (m + n) = omega arith in
     ap (λ (k : ℕ). pos k *ℤ a) e ∙ omega (arith, ints, sum_times m n a, suc_ℤ-*ℤ (pos (m + n)) a, suc_ℤ-*ℤ (pos m) a)
@@ -37,7 +37,7 @@ times_next p n =
 
 times_before : (p : ℕ) (n : ℤ) → (pos p *ℤ pred_ℤ n) +ℤ pos p ≡ pos p *ℤ n
 times_before p n =
-    let back : suc_ℤ (pred_ℤ n) ≡ n = (let a = suc_is (pred_ℤ n) in let b = pred_is n in omega (arith, ints, a, b)) in
+    let back : suc_ℤ (pred_ℤ n) ≡ n = omega (arith, ints, suc_is (pred_ℤ n), pred_is n) in
     sym (times_next p (pred_ℤ n)) ∙ ap (λ (z : ℤ). pos p *ℤ z) back
 
 pub not_later : (ty : Ty) (hyper : ℕ) (ops : List Op) → ((k : ℕ) (op : Op) → slice_get ops k ≡ Some op → IsOperatorFor ty op) →
@@ -55,10 +55,9 @@ not_later ty hyper (operators.Up k ∷ ops) are producer consumer takes n =
     omega (arith, ints, rest, mono consumer.period (pos k *ℤ floor_div n k) n ((floor_least n (floor_div n k) k (are 0 (operators.Up k) refl).0).0 (le_self (floor_div n k))), p, s)
 not_later ty hyper (operators.Down k ∷ ops) are producer consumer takes n =
     let x : Clock = takes.2.0 in
-    let rest = not_later ty hyper ops (λ j o is. are (suc j) o is) producer x takes.2.2 (pos k *ℤ n) in
     let p : pos consumer.period *ℤ n ≡ pos x.period *ℤ (pos k *ℤ n) =
     ap (λ (c : ℕ). pos c *ℤ n) (takes.2.1.0 ∙ (let e : k * x.period ≡ x.period * k = omega arith in e)) ∙ product_times x.period k n in
-    omega (arith, ints, rest, p, takes.2.1.1)
+    omega (arith, ints, not_later ty hyper ops (λ j o is. are (suc j) o is) producer x takes.2.2 (pos k *ℤ n), p, takes.2.1.1)
 not_later ty hyper (operators.Shift q ∷ ops) are producer consumer takes n =
     let x : Clock = takes.2.0 in
     let rest = not_later ty hyper ops (λ j o is. are (suc j) o is) producer x takes.2.2 n in
@@ -66,19 +65,16 @@ not_later ty hyper (operators.Shift q ∷ ops) are producer consumer takes n =
     omega (arith, ints, rest, p, shift_later q.den x.start consumer.start (nat_abs q.num * x.period) (are 0 (operators.Shift q) refl).0 takes.2.1.1)
 not_later ty hyper (operators.Tail ∷ ops) are producer consumer takes n =
     let x : Clock = takes.2.0 in
-    let rest = not_later ty hyper ops (λ j o is. are (suc j) o is) producer x takes.2.2 (suc_ℤ n) in
     let p : pos consumer.period *ℤ n ≡ pos x.period *ℤ n = ap (λ (c : ℕ). pos c *ℤ n) takes.2.1.0 in
-    omega (arith, ints, rest, p, times_next x.period n, takes.2.1.1)
+    omega (arith, ints, not_later ty hyper ops (λ j o is. are (suc j) o is) producer x takes.2.2 (suc_ℤ n), p, times_next x.period n, takes.2.1.1)
 not_later ty hyper (operators.Cons c ∷ ops) are producer consumer takes n =
     let x : Clock = takes.2.0 in
-    let rest = not_later ty hyper ops (λ j o is. are (suc j) o is) producer x takes.2.2 (pred_ℤ n) in
     let p : pos consumer.period *ℤ n ≡ pos x.period *ℤ n = ap (λ (c : ℕ). pos c *ℤ n) takes.2.1.0 in
-    omega (arith, ints, rest, p, times_before x.period n, takes.2.1.1)
+    omega (arith, ints, not_later ty hyper ops (λ j o is. are (suc j) o is) producer x takes.2.2 (pred_ℤ n), p, times_before x.period n, takes.2.1.1)
 not_later ty hyper (operators.Fby c ∷ ops) are producer consumer takes n =
     let x : Clock = takes.2.0 in
-    let rest = not_later ty hyper ops (λ j o is. are (suc j) o is) producer x takes.2.2 (pred_ℤ n) in
     let p : pos consumer.period *ℤ n ≡ pos x.period *ℤ n = ap (λ (c : ℕ). pos c *ℤ n) takes.2.1.0 in
-    omega (arith, ints, rest, p, times_before x.period n, takes.2.1.1)
+    omega (arith, ints, not_later ty hyper ops (λ j o is. are (suc j) o is) producer x takes.2.2 (pred_ℤ n), p, times_before x.period n, takes.2.1.1)
 
 -- a job that precedes another is not released later
 pub released_first : (graph : TaskGraph) → IsWellFormed graph → (before after : Job) → Precedes graph before after →

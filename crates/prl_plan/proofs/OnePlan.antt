@@ -40,8 +40,8 @@ module _ (graph : TaskGraph) (a b : List (List Window)) (of_a : AreEncodedDates 
 
   same_list : AreShortWindows a → AreShortWindows b → (i : ℕ) → i < length graph.tasks → slice_index_or a i [] ≡ slice_index_or b i []
   same_list short_a short_b i inside =
-      let some_a : 1 ≤ length (slice_index_or a i []) = (let s = of_a.some i inside in omega (arith, s)) in
-      let some_b : 1 ≤ length (slice_index_or b i []) = (let s = of_b.some i inside in omega (arith, s)) in
+      let some_a : 1 ≤ length (slice_index_or a i []) = omega (arith, of_a.some i inside) in
+      let some_b : 1 ≤ length (slice_index_or b i []) = omega (arith, of_b.some i inside) in
       one_repeat (slice_index_or a i []) (slice_index_or b i []) some_a some_b
       (λ n. slice_get-get_or (slice_index_or a i []) (n % length (slice_index_or a i [])) no_window (mod_below n (length (slice_index_or a i [])) some_a)
       ∙ ap (λ (w : Window). Some w) (same_window i (pos n) inside)
@@ -102,13 +102,12 @@ module _ (graph : TaskGraph) (windows : List (List Window)) (bases counts bases'
 
 pub one_plan : (a b : PlanView) → IsPlan a → IsPlan b → a.graph ≡ b.graph → a ≡ b
 one_plan a b of_a of_b same =
-    let words : AreWords a.graph b.words = subst (λ (g : TaskGraph). AreWords g b.words) (sym same) of_b.words in
     let dates : AreEncodedDates a.graph b.windows = subst (λ (g : TaskGraph). AreEncodedDates g b.windows) (sym same) of_b.dates in
     let windows : a.windows ≡ b.windows = windows_are_one a.graph a.windows b.windows of_a.dates dates of_a.short_windows of_b.short_windows in
     let cells : AreLeastCells a.graph a.windows b.bases b.counts b.used =
     subst (λ (w : List (List Window)). AreLeastCells a.graph w b.bases b.counts b.used) (sym windows)
     (subst (λ (g : TaskGraph). AreLeastCells g b.windows b.bases b.counts b.used) (sym same) of_b.cells) in
-    plan_is a b same (words_are_one a.graph a.words b.words of_a.words words) windows
+    plan_is a b same (words_are_one a.graph a.words b.words of_a.words (subst (λ (g : TaskGraph). AreWords g b.words) (sym same) of_b.words)) windows
     (bases_are_one a.graph a.windows a.bases a.counts b.bases b.counts a.used b.used of_a.cells cells of_a.short_gaps of_b.short_gaps)
     (counts_are_one a.graph a.windows a.bases a.counts b.bases b.counts a.used b.used of_a.cells cells of_a.short_gaps of_b.short_gaps)
     (used_are_one a.graph a.windows a.bases a.counts b.bases b.counts a.used b.used of_a.cells cells of_a.short_gaps of_b.short_gaps)

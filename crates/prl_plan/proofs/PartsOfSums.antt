@@ -7,6 +7,6 @@ pub part_of_sum : (f : ℕ → ℕ) (n i : ℕ) → i < n → f i ≤ sum_below 
 part_of_sum f zero i below = absurd (omega (arith, below))
 part_of_sum f (suc n) i below =
     elim (cases_lt i n) [
-      | inl less ↦ (let rest = part_of_sum f n i less in omega (arith, rest))
-      | inr past ↦ (let same : i ≡ n = omega (arith, below, past) in let e : f i ≡ f n = ap f same in omega (arith, e))
+      | inl less ↦ omega (arith, part_of_sum f n i less)
+      | inr past ↦ (let same : i ≡ n = omega (arith, below, past) in omega (arith, ap f same))
     ]

@@ -18,7 +18,7 @@ pub mul_plus : (k c : ℕ) (a : ℤ) → pos k *ℤ (a +ℤ pos c) ≡ (pos k *�
 mul_plus zero c a = rw (zero-*ℤ (a +ℤ pos c), zero-*ℤ a) (let e : 0 * c ≡ 0 = omega arith in omega (arith, ints, e))
 mul_plus (suc k) c a =
     rw (suc_ℤ-*ℤ (pos k) (a +ℤ pos c), suc_ℤ-*ℤ (pos k) a)
-    (let g = mul_plus k c a in let e : suc k * c ≡ k * c + c = omega arith in omega (arith, ints, g, e))
+    (let e : suc k * c ≡ k * c + c = omega arith in omega (arith, ints, mul_plus k c a, e))
 
 pub plus_mul : (a : ℤ) (c t : ℕ) → (a +ℤ pos c) *ℤ pos t ≡ (a *ℤ pos t) +ℤ pos (c * t)
 plus_mul a c t =
@@ -33,27 +33,24 @@ floor_shift n k c some =
     let q : ℤ = floor_div n k in
     let p : ℤ = floor_div (n +ℤ pos (k * c)) k in
     let a : (pos k *ℤ q) ≤ℤ n = (floor_least n q k some).0 (le_self q) in
-    let up : (q +ℤ pos c) ≤ℤ p = (floor_least (n +ℤ pos (k * c)) (q +ℤ pos c) k some).1 (let g = mul_plus k c q in omega (arith, ints, a, g)) in
+    let up : (q +ℤ pos c) ≤ℤ p = (floor_least (n +ℤ pos (k * c)) (q +ℤ pos c) k some).1 (omega (arith, ints, a, mul_plus k c q)) in
     let back : (p -ℤ pos c) +ℤ pos c ≡ p = omega (arith, ints) in
     let down : (p -ℤ pos c) ≤ℤ q =
     (floor_least n (p -ℤ pos c) k some).1
-    (let g : pos k *ℤ p ≡ (pos k *ℤ (p -ℤ pos c)) +ℤ pos (k * c) = ap (λ (z : ℤ). pos k *ℤ z) (sym back) ∙ mul_plus k c (p -ℤ pos c) in
-    omega (arith, ints, (floor_least (n +ℤ pos (k * c)) p k some).0 (le_self p), g)) in
+    (omega (arith, ints, (floor_least (n +ℤ pos (k * c)) p k some).0 (le_self p), ap (λ (z : ℤ). pos k *ℤ z) (sym back) ∙ mul_plus k c (p -ℤ pos c))) in
     omega (arith, ints, up, down)
 
 pub cancel_right : (a b p : ℕ) → 1 ≤ p → a * p ≡ b * p → a ≡ b
 cancel_right a b p some same =
     elim (cases_lt a b) [
       | inl below ↦ absurd
-          (let up : (a + 1) * p ≤ b * p = mul-le-mul_right p (let g : a + 1 ≤ b = omega arith in g) in
-          let e : (a + 1) * p ≡ a * p + p = omega arith in
-          omega (arith, up, e, some, same))
+          (let e : (a + 1) * p ≡ a * p + p = omega arith in
+          omega (arith, mul-le-mul_right p (let g : a + 1 ≤ b = omega arith in g), e, some, same))
       | inr above ↦
           elim (cases_lt b a) [
             | inl below ↦ absurd
-                (let up : (b + 1) * p ≤ a * p = mul-le-mul_right p (let g : b + 1 ≤ a = omega arith in g) in
-                let e : (b + 1) * p ≡ b * p + p = omega arith in
-                omega (arith, up, e, some, same))
+                (let e : (b + 1) * p ≡ b * p + p = omega arith in
+                omega (arith, mul-le-mul_right p (let g : b + 1 ≤ a = omega arith in g), e, some, same))
             | inr under ↦ omega (arith, above, under)
           ]
     ]
@@ -64,10 +61,10 @@ clock_divides hyper [] producer consumer takes = (takes.0, takes.1)
 clock_divides hyper (op ∷ ops) producer consumer takes = (takes.0, takes.1)
 
 suc_plus : (n : ℤ) (c : ℕ) → suc_ℤ (n +ℤ pos c) ≡ suc_ℤ n +ℤ pos c
-suc_plus n c = (let a = suc_is (n +ℤ pos c) in let b = suc_is n in omega (arith, ints, a, b))
+suc_plus n c = omega (arith, ints, suc_is (n +ℤ pos c), suc_is n)
 
 pred_plus : (n : ℤ) (c : ℕ) → pred_ℤ (n +ℤ pos c) ≡ pred_ℤ n +ℤ pos c
-pred_plus n c = (let a = pred_is (n +ℤ pos c) in let b = pred_is n in omega (arith, ints, a, b))
+pred_plus n c = omega (arith, ints, pred_is (n +ℤ pos c), pred_is n)
 
 -- how often the clock on the other side of an operator repeats
 times_same : (hyper c d y x : ℕ) → 1 ≤ y → hyper ≡ c * y → hyper ≡ d * x → y ≡ x → c ≡ d
@@ -86,22 +83,19 @@ preceding_shift ty hyper [] are producer consumer takes c d hc hd n =
 preceding_shift ty hyper (operators.Up k ∷ ops) are producer consumer takes c d hc hd n =
     let x : Clock = takes.2.0 in
     let div = clock_divides hyper ops producer x takes.2.2 in
-    let e : c ≡ k * div.1.0 = times_up hyper c div.1.0 consumer.period x.period k takes.0 hc div.1.1 takes.2.1.0 in
-    ap (λ (z : ℕ). preceding ops (floor_div (n +ℤ pos z) k)) e
+    ap (λ (z : ℕ). preceding ops (floor_div (n +ℤ pos z) k)) (times_up hyper c div.1.0 consumer.period x.period k takes.0 hc div.1.1 takes.2.1.0)
     ∙ ap (λ (z : ℤ). preceding ops z) (floor_shift n k div.1.0 (are 0 (operators.Up k) refl).0)
     ∙ preceding_shift ty hyper ops (λ j o is. are (suc j) o is) producer x takes.2.2 div.1.0 d div.1.1 hd (floor_div n k)
 preceding_shift ty hyper (operators.Down k ∷ ops) are producer consumer takes c d hc hd n =
     let x : Clock = takes.2.0 in
     let div = clock_divides hyper ops producer x takes.2.2 in
-    let e : div.1.0 ≡ k * c = times_up hyper div.1.0 c x.period consumer.period k div.0 div.1.1 hc (sym takes.2.1.0) in
     ap (λ (z : ℤ). preceding ops z) (mul_plus k c n)
-    ∙ ap (λ (z : ℕ). preceding ops ((pos k *ℤ n) +ℤ pos z)) (sym e)
+    ∙ ap (λ (z : ℕ). preceding ops ((pos k *ℤ n) +ℤ pos z)) (sym (times_up hyper div.1.0 c x.period consumer.period k div.0 div.1.1 hc (sym takes.2.1.0)))
     ∙ preceding_shift ty hyper ops (λ j o is. are (suc j) o is) producer x takes.2.2 div.1.0 d div.1.1 hd (pos k *ℤ n)
 preceding_shift ty hyper (operators.Shift q ∷ ops) are producer consumer takes c d hc hd n =
     let x : Clock = takes.2.0 in
     let div = clock_divides hyper ops producer x takes.2.2 in
-    let e : c ≡ div.1.0 = times_same hyper c div.1.0 consumer.period x.period takes.0 hc div.1.1 takes.2.1.0 in
-    ap (λ (z : ℕ). preceding ops (n +ℤ pos z)) e
+    ap (λ (z : ℕ). preceding ops (n +ℤ pos z)) (times_same hyper c div.1.0 consumer.period x.period takes.0 hc div.1.1 takes.2.1.0)
     ∙ preceding_shift ty hyper ops (λ j o is. are (suc j) o is) producer x takes.2.2 div.1.0 d div.1.1 hd n
 preceding_shift ty hyper (operators.Tail ∷ ops) are producer consumer takes c d hc hd n =
     let x : Clock = takes.2.0 in

@@ -26,8 +26,7 @@ module _ (edge : Edge) (used : Used) (all : EnumeratesUsed edge used) where
 
   pub some_sum : 1 ≤ sum used.gaps
   some_sum =
-      let up = rising_to edge used all (0 + 1) 0 (omega arith) in
-      omega (arith, next_gap used some 0, up, sum_all used.gaps (0 % length used.gaps) (mod_below 0 (length used.gaps) some))
+      omega (arith, next_gap used some 0, rising_to edge used all (0 + 1) 0 (omega arith), sum_all used.gaps (0 % length used.gaps) (mod_below 0 (length used.gaps) some))
 
   at_place : (q r : ℕ) → r < length used.gaps → used_at used (q * length used.gaps + r) ≡ used.first + q * sum used.gaps + sum (take r used.gaps)
   at_place q r below =
@@ -37,19 +36,18 @@ module _ (edge : Edge) (used : Used) (all : EnumeratesUsed edge used) where
   not_below : (j k : ℕ) → j ≤ k → used_at used j ≤ used_at used k
   not_below j k order =
       elim (cases_lt j k) [
-        | inl less ↦ (let up = rising_to edge used all k j less in omega (arith, up))
-        | inr past ↦ (let same : j ≡ k = omega (arith, order, past) in let e = ap (λ (x : ℕ). used_at used x) same in omega (arith, e))
+        | inl less ↦ omega (arith, rising_to edge used all k j less)
+        | inr past ↦ (let same : j ≡ k = omega (arith, order, past) in omega (arith, ap (λ (x : ℕ). used_at used x) same))
       ]
 
   pub place_before : (m : ℕ) → m < used.first → place_of used m ≡ None
-  place_before m less =
-      no_place used m (λ k is. (let a = first_number used some in let b = not_below 0 k (omega arith) in omega (arith, a, b, is, less)))
+  place_before m less = no_place used m (λ k is. omega (arith, first_number used some, not_below 0 k (omega arith), is, less))
 
   pub place_at : (m q r : ℕ) → r < length used.gaps → m ≡ used.first + q * sum used.gaps + sum (take r used.gaps) → place_of used m ≡ Some (q * length used.gaps + r)
   place_at m q r below is = place_found edge used all m (q * length used.gaps + r) (at_place q r below ∙ sym is)
 
   pub place_small : (m q r : ℕ) → r < length used.gaps → m ≡ used.first + q * sum used.gaps + sum (take r used.gaps) → q * length used.gaps + r ≤ m
-  place_small m q r below is = (let a = at_least edge used all (q * length used.gaps + r) in let b = at_place q r below in omega (arith, a, b, is))
+  place_small m q r below is = omega (arith, at_least edge used all (q * length used.gaps + r), at_place q r below, is)
 
   pub place_between : (m q r : ℕ) → r < length used.gaps → used.first + q * sum used.gaps + sum (take r used.gaps) < m →
       m < used.first + q * sum used.gaps + sum (take (r + 1) used.gaps) → place_of used m ≡ None
@@ -105,11 +103,10 @@ pub known : (used now : Used) (m gaps total : ℕ) → now ≡ used → IsOrdere
 known used now m gaps total same is long some first whole =
     let gaps_long : gaps ≡ length used.gaps = long ∙ ap (λ (u : Used). length u.gaps) same in
     let e = enumerated used gaps is gaps_long some in
-    let f = ap (λ (u : Used). u.first) same in
     record {
       edge = e.0;
       all = e.1;
-      first = omega (arith, f, first);
+      first = omega (arith, ap (λ (u : Used). u.first) same, first);
       long = gaps_long;
       whole = whole ∙ ap sum (take_all gaps used.gaps (omega (arith, gaps_long)));
     }
@@ -119,14 +116,13 @@ module _ (used : Used) (m gaps total : ℕ) (k : Known used m gaps total) where
   split = mod-add-div' (m - used.first) total
 
   pub some_total : 1 ≤ total
-  some_total = (let s = some_sum k.edge used k.all in let w = k.whole in omega (arith, s, w))
+  some_total = omega (arith, some_sum k.edge used k.all, k.whole)
 
   pub rest_below : (m - used.first) % total < sum used.gaps
-  rest_below = (let b = mod_below (m - used.first) total some_total in let w = k.whole in omega (arith, b, w))
+  rest_below = omega (arith, mod_below (m - used.first) total some_total, k.whole)
 
   pub number : (rest : ℕ) → (m - used.first) % total ≡ rest → m ≡ used.first + (m - used.first) / total * sum used.gaps + rest
-  number rest is =
-      (let s = split in let f = k.first in let e : (m - used.first) / total * total ≡ (m - used.first) / total * sum used.gaps = ap (λ (x : ℕ). (m - used.first) / total * x) k.whole in omega (arith, s, f, e, is))
+  number rest is = (let s = split in let f = k.first in omega (arith, s, f, ap (λ (x : ℕ). (m - used.first) / total * x) k.whole, is))
 
   pub is_at : (last : ℕ) → last < length used.gaps → sum (take last used.gaps) ≡ (m - used.first) % total →
       (Some ((m - used.first) / total * gaps + last) ≡ place_of used m) × ((m - used.first) / total * gaps + last ≤ m)

@@ -1,5 +1,6 @@
--- Lists of numbers with a place set.
-use Rattle.std.proofs.Common.{◌≡◌, ◌≢◌, ◌<◌, ◌⊎◌, ℕ, List, length, get_or, set, inl, inr, get_or-set_other}
+-- Lists of numbers with a place set, and the elements of two lists.
+use Rattle.std.proofs.Common.{◌≡◌, ◌≢◌, ◌+◌, ◌++◌, ◌<◌, ◌⊎◌, ℕ, zero, suc, List, [], ◌∷◌, Some, length, get_or, set, inl, inr, ap, arith, get_or-set_other}
+use Rattle.std.specs.Prelude.{slice_get}
 use Rattle.std.proofs.lemmas.Bool.{cases_eq}
 use Rattle.std.proofs.lemmas.Grind.{get_or-set_at}
 
@@ -11,3 +12,14 @@ get_set xs i v j h =
       | inl same ↦ inl (same, get_or-set_at xs i j v 0 same h)
       | inr other ↦ inr (other, get_or-set_other xs i j v 0 other)
     ]
+
+-- an element of the first of two lists, and one of the second
+pub get_left : {A : Type 0} (xs ys : List A) (k : ℕ) (a : A) → slice_get xs k ≡ Some a → slice_get (xs ++ ys) k ≡ Some a
+get_left [] ys k a h = cc
+get_left (x ∷ xs) ys zero a h = h
+get_left (x ∷ xs) ys (suc k) a h = get_left xs ys k a h
+
+pub get_right : {A : Type 0} (xs ys : List A) (k j : ℕ) → k ≡ length xs + j → slice_get (xs ++ ys) k ≡ slice_get ys j
+get_right [] ys k j is = ap (λ (n : ℕ). slice_get ys n) (let e : k ≡ j = omega (arith, is) in e)
+get_right (x ∷ xs) ys zero j is = absurd (omega (arith, is))
+get_right (x ∷ xs) ys (suc k) j is = get_right xs ys k j (omega (arith, is))

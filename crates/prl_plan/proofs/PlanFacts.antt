@@ -42,8 +42,7 @@ operand_horizon graph good until e i n m inside comes job reads =
     let to : IsTask graph.hyper (task_at graph (edge_at graph e).to.0) =
     good.tasks (edge_at graph e).to.0 (task_at graph (edge_at graph e).to.0) (slice_get-get_or graph.tasks (edge_at graph e).to.0 no_task job.task) in
     let made = operand_job graph good until e i n m inside comes (job_count_horizon graph until (edge_at graph e).to.0 n to.period.0 job) w.2 in
-    let from : IsTask graph.hyper (task_at graph i) = good.tasks i (task_at graph i) (slice_get-get_or graph.tasks i no_task made.0) in
-    IsHorizonJob_count graph until i m made.0 from.period.0 made.1
+    IsHorizonJob_count graph until i m made.0 (good.tasks i (task_at graph i) (slice_get-get_or graph.tasks i no_task made.0)).period.0 made.1
 
 comes_one : (from : Producer) (i j : ℕ) → ComesFrom from i → ComesFrom from j → i ≡ j
 comes_one (producers.Constant value) i j a b = absurd a
@@ -56,24 +55,22 @@ mod_apart a b k before same =
     let y : k * (b / k) + b % k ≡ b = div-add-mod b k in
     elim (cases_lt (a / k) (b / k)) [
       | inl below ↦
-          (let up : k * (a / k + 1) ≤ k * (b / k) = mul-le-mul_left k (let g : a / k + 1 ≤ b / k = omega arith in g) in
-          let e : k * (a / k + 1) ≡ k * (a / k) + k = omega arith in
-          omega (arith, up, e, x, y, same))
+          (let e : k * (a / k + 1) ≡ k * (a / k) + k = omega arith in
+          omega (arith, mul-le-mul_left k (let g : a / k + 1 ≤ b / k = omega arith in g), e, x, y, same))
       | inr above ↦ absurd
-          (let up : k * (b / k) ≤ k * (a / k) = mul-le-mul_left k above in
-          omega (arith, up, x, y, same, before))
+          omega (arith, mul-le-mul_left k above, x, y, same, before)
     ]
 
 -- a half of a cell below a number is below its double; the cell is known by its half
 half_below : (cell slot n : ℕ) → IsHalfOf cell slot → cell < n → slot < 2 * n
-half_below cell slot n (inl is) below = (let e : slot ≡ 2 * cell = is in omega (arith, e, below))
-half_below cell slot n (inr is) below = (let e : slot ≡ 2 * cell + 1 = is in omega (arith, e, below))
+half_below cell slot n (inl is) below = omega (arith, is, below)
+half_below cell slot n (inr is) below = omega (arith, is, below)
 
 half_cell : (a b slot : ℕ) → IsHalfOf a slot → IsHalfOf b slot → a ≡ b
-half_cell a b slot (inl x) (inl y) = (let e : slot ≡ 2 * a = x in let f : slot ≡ 2 * b = y in omega (arith, e, f))
-half_cell a b slot (inl x) (inr y) = (let e : slot ≡ 2 * a = x in let f : slot ≡ 2 * b + 1 = y in omega (arith, e, f))
-half_cell a b slot (inr x) (inl y) = (let e : slot ≡ 2 * a + 1 = x in let f : slot ≡ 2 * b = y in omega (arith, e, f))
-half_cell a b slot (inr x) (inr y) = (let e : slot ≡ 2 * a + 1 = x in let f : slot ≡ 2 * b + 1 = y in omega (arith, e, f))
+half_cell a b slot (inl x) (inl y) = omega (arith, x, y)
+half_cell a b slot (inl x) (inr y) = omega (arith, x, y)
+half_cell a b slot (inr x) (inl y) = omega (arith, x, y)
+half_cell a b slot (inr x) (inr y) = omega (arith, x, y)
 
 module _ (plan : PlanView) (is : IsPlan plan) where
   pub task_fact : (i : ℕ) → i < length plan.graph.tasks → IsTask plan.graph.hyper (task_at plan.graph i)
@@ -83,22 +80,20 @@ module _ (plan : PlanView) (is : IsPlan plan) where
   edge_stands e inside = slice_get-get_or plan.graph.edges e no_edge inside
 
   pub room_at : (i n : ℕ) → i < length plan.graph.tasks → release_at plan i n + (task_at plan.graph i).wcet ≤ deadline_at plan i n
-  room_at i n inside = (let r = is.room.room i (pos n) inside in omega (arith, ints, r))
+  room_at i n inside = omega (arith, ints, is.room.room i (pos n) inside)
 
   pub apart_at : (i m n : ℕ) → i < length plan.graph.tasks → m < n → deadline_at plan i m ≤ release_at plan i n
   apart_at i m n inside before =
       let t = task_at plan.graph i in
-      let below : encoded_deadline plan.graph plan.windows i (pos m) ≤ℤ deadline_of (task_at plan.graph i) (pos m) =
-      is.dates.deadlines.deadlines.below i (pos m) inside in
       let up : (m + 1) * t.clock.period ≤ n * t.clock.period = mul-le-mul_right t.clock.period (let g : m + 1 ≤ n = omega arith in g) in
       let e : (m + 1) * t.clock.period ≡ m * t.clock.period + t.clock.period = omega arith in
-      omega (arith, ints, below, (task_fact i inside).due.1, up, e)
+      omega (arith, ints, is.dates.deadlines.deadlines.below i (pos m) inside, (task_fact i inside).due.1, up, e)
 
   -- a later job is not released earlier
   pub later_at : (i m n : ℕ) → i < length plan.graph.tasks → m ≤ n → release_at plan i m ≤ release_at plan i n
   later_at i m n inside after =
       elim (cases_lt m n) [
-        | inl before ↦ (let a = apart_at i m n inside before in let b = room_at i m inside in omega (arith, a, b))
+        | inl before ↦ omega (arith, apart_at i m n inside before, room_at i m inside)
         | inr above ↦ subst (λ (x : ℕ). release_at plan i m ≤ release_at plan i x) (let e : m ≡ n = omega arith in e) (omega arith)
       ]
 
@@ -129,12 +124,11 @@ module _ (plan : PlanView) (is : IsPlan plan) where
           (slice_index_or plan.used e no_used) (slice_index plan.counts e)
       go (producers.Constant value) from = absurd (subst (λ (f : Producer). ComesFrom f i) from comes)
       go (producers.Port task out) from =
-          let has = cells_from plan is e inside (producers.Port task out) from in
-          let at : task.0 ≡ i = subst (λ (f : Producer). ComesFrom f i) from comes in (
+          let has = cells_from plan is e inside (producers.Port task out) from in (
             has.0,
             has.1,
             subst (λ (x : ℕ). IsLeastCount (edge_at plan.graph e) x (encoded_release plan.graph plan.windows) (encoded_deadline plan.graph plan.windows)
-                (slice_index_or plan.used e no_used) (slice_index plan.counts e)) at has.2,
+                (slice_index_or plan.used e no_used) (slice_index plan.counts e)) (subst (λ (f : Producer). ComesFrom f i) from comes) has.2,
           )
 
   -- the cell of an instance that has a place
@@ -152,24 +146,22 @@ module _ (plan : PlanView) (is : IsPlan plan) where
 
   within_cells : (e i m : ℕ) → e < length plan.graph.edges → ComesFrom (edge_at plan.graph e).from i → cell_of plan e m < sum plan.counts
   within_cells e i m inside comes =
-      let s = sum_all plan.counts e (omega (arith, is.cells.lengths.1, inside)) in
-      omega (arith, (cell_range e i m inside comes).1, s)
+      omega (arith, (cell_range e i m inside comes).1, sum_all plan.counts e (omega (arith, is.cells.lengths.1, inside)))
 
   -- the cells of two edges are apart
   before_edge : (e f i j m l : ℕ) → e < length plan.graph.edges → f < length plan.graph.edges → ComesFrom (edge_at plan.graph e).from i →
       ComesFrom (edge_at plan.graph f).from j → e < f → cell_of plan e m < cell_of plan f l
   before_edge e f i j m l in_e in_f from_e from_f before =
-      let up = sum_up_to plan.counts e f before (omega (arith, is.cells.lengths.1, in_e)) in
-      omega (arith, (cell_range e i m in_e from_e).1, (cell_range f j l in_f from_f).0, up)
+      omega (arith, (cell_range e i m in_e from_e).1, (cell_range f j l in_f from_f).0, sum_up_to plan.counts e f before (omega (arith, is.cells.lengths.1, in_e)))
 
   same_edge : (e f i j m l : ℕ) → e < length plan.graph.edges → f < length plan.graph.edges → ComesFrom (edge_at plan.graph e).from i →
       ComesFrom (edge_at plan.graph f).from j → cell_of plan e m ≡ cell_of plan f l → e ≡ f
   same_edge e f i j m l in_e in_f from_e from_f same =
       elim (cases_lt e f) [
-        | inl below ↦ absurd (let h = before_edge e f i j m l in_e in_f from_e from_f below in omega (arith, h, same))
+        | inl below ↦ absurd (omega (arith, before_edge e f i j m l in_e in_f from_e from_f below, same))
         | inr above ↦
             elim (cases_lt f e) [
-              | inl below ↦ absurd (let h = before_edge f e j i l m in_f in_e from_f from_e below in omega (arith, h, same))
+              | inl below ↦ absurd (omega (arith, before_edge f e j i l m in_f in_e from_f from_e below, same))
               | inr under ↦ omega (arith, above, under)
             ]
       ]
@@ -183,25 +175,24 @@ module _ (plan : PlanView) (is : IsPlan plan) where
       let count : ℕ = slice_index plan.counts e in
       let c = cells_of_edge e i inside comes in
       let edge : Edge = edge_at plan.graph e in
-      let fact : IsEdge plan.graph edge = is.graph.edges e edge (edge_stands e inside) in
-      let task : i < length plan.graph.tasks = source_inside plan.graph edge fact edge.from refl i comes in
+      let task : i < length plan.graph.tasks = source_inside plan.graph edge (is.graph.edges e edge (edge_stands e inside)) edge.from refl i comes in
       let order : a < b =
       elim (cases_lt a b) [
         | inl below ↦ below
         | inr above ↦ absurd
             (elim (cases_lt b a) [
-              | inl below ↦ (let up = rising_to edge u c.1 a b below in omega (arith, up, at_a, at_b, before))
+              | inl below ↦ omega (arith, rising_to edge u c.1 a b below, at_a, at_b, before)
               | inr under ↦
                   (let one : a ≡ b = omega (arith, above, under) in
-                  let f : m ≡ l = sym at_a ∙ ap (λ (x : ℕ). used_at u x) one ∙ at_b in omega (arith, f, before))
+                  omega (arith, sym at_a ∙ ap (λ (x : ℕ). used_at u x) one ∙ at_b, before))
             ])
       ] in
       let next : used_at u (a + count) ≤ l =
       elim (cases_lt (a + count) b) [
-        | inl below ↦ (let up = rising_to edge u c.1 b (a + count) below in omega (arith, up, at_b))
+        | inl below ↦ omega (arith, rising_to edge u c.1 b (a + count) below, at_b)
         | inr above ↦
             (let one : a + count ≡ b = omega (arith, mod_apart a b count order same, above) in
-            let f : used_at u (a + count) ≡ l = ap (λ (x : ℕ). used_at u x) one ∙ at_b in omega (arith, f))
+            omega (arith, ap (λ (x : ℕ). used_at u x) one ∙ at_b))
       ] in
       let fits = c.2.fits a k (subst (λ (x : ℕ). operand_of (edge_at plan.graph e) k ≡ operands.From x) (sym at_a) reads) in
       omega (arith, ints, fits, later_at i (used_at u (a + count)) l task next)
@@ -232,14 +223,12 @@ module _ (plan : PlanView) (is : IsPlan plan) (h : Horizon) (horizon : IsHorizon
   read_in i n place m cell reads =
       let r = read_fits i n place m cell reads in
       let w = operand_walks (edge_at plan.graph reads.action.1.0) n m r.3 in
-      let c = within_cells plan is reads.action.1.0 w.0 m r.0 w.1 in
-      half_below (cell_of plan reads.action.1.0 m) cell (sum plan.counts) r.4 c
+      half_below (cell_of plan reads.action.1.0 m) cell (sum plan.counts) r.4 (within_cells plan is reads.action.1.0 w.0 m r.0 w.1)
 
   write_in : (i n place m cell : ℕ) → WritesAt (constants_of plan h) i n place m cell → cell < 2 * sum plan.counts
   write_in i n place m cell writes =
       let w = write_fits i n place m cell writes in
-      let c = within_cells plan is writes.action.0.0 i n w.0 w.1 in
-      half_below (cell_of plan writes.action.0.0 n) cell (sum plan.counts) w.4 c
+      half_below (cell_of plan writes.action.0.0 n) cell (sum plan.counts) w.4 (within_cells plan is writes.action.0.0 i n w.0 w.1)
 
   one_edge : (i n place m j k other l cell : ℕ) (first : WritesAt (constants_of plan h) i n place m cell) (second : WritesAt (constants_of plan h) j k other l cell) →
       first.action.0.0 ≡ second.action.0.0
@@ -264,9 +253,8 @@ module _ (plan : PlanView) (is : IsPlan plan) (h : Horizon) (horizon : IsHorizon
 
   one_place : (i n place m other l cell : ℕ) → WritesAt (constants_of plan h) i n place m cell → WritesAt (constants_of plan h) i n other l cell → place ≡ other
   one_place i n place m other l cell first second =
-      let e = one_edge i n place m i n other l cell first second in
       once_on plan i n second.action.0.0 cell place other
-      (subst (λ (a : Action). WritesTo second.action.0.0 cell a) (sym first.action.1) (e, refl))
+      (subst (λ (a : Action). WritesTo second.action.0.0 cell a) (sym first.action.1) (one_edge i n place m i n other l cell first second, refl))
       (subst (λ (a : Action). WritesTo second.action.0.0 cell a) (sym second.action.1) (refl, refl))
 
   provider : (j k place m cell : ℕ) → ReadsAt (constants_of plan h) j k place m cell →
@@ -308,7 +296,6 @@ module _ (plan : PlanView) (is : IsPlan plan) (h : Horizon) (horizon : IsHorizon
       let same : reads.action.1.0 ≡ e = read_edge j k place m i n written l cell reads writes in
       let operand : operand_of (edge_at plan.graph e) k ≡ operands.From m =
       subst (λ (x : ℕ). operand_of (edge_at plan.graph x) k ≡ operands.From m) same r.3 in
-      let to : (edge_at plan.graph e).to.0 ≡ j = subst (λ (x : ℕ). (edge_at plan.graph x).to.0 ≡ j) same r.1 in
       let read_cell : cell_of plan e m ≡ cell_of plan e n =
       half_cell (cell_of plan e m) (cell_of plan e n) cell (subst (λ (x : ℕ). IsHalfOf (cell_of plan x m) cell) same r.4) w.4 in
       let c = cells_of_edge plan is e i w.0 w.1 in
@@ -317,8 +304,8 @@ module _ (plan : PlanView) (is : IsPlan plan) (h : Horizon) (horizon : IsHorizon
       some_place (place_on plan e n) refl w.3 (λ b at_b.
       let equal : a.0 % slice_index plan.counts e ≡ b % slice_index plan.counts e = omega (arith, cell_at plan is e m a.0 at, cell_at plan is e n b at_b, read_cell) in
       let over = over_at plan is e i k m n w.0 w.1 operand a.0 b a.1 (place_stands (slice_index_or plan.used e no_used) n b at_b) equal
-      (let own : l ≡ n = w.2 in omega (arith, own, before)) in
-      subst (λ (x : ℕ). deadline_at plan x k ≤ release_at plan i n) to over)
+      (omega (arith, w.2, before)) in
+      subst (λ (x : ℕ). deadline_at plan x k ≤ release_at plan i n) (subst (λ (x : ℕ). (edge_at plan.graph x).to.0 ≡ j) same r.1) over)
     where
       some_place : (o : Option ℕ) → place_on plan writes.action.0.0 n ≡ o → IsSome (place_on plan writes.action.0.0 n) →
           ((b : ℕ) → place_on plan writes.action.0.0 n ≡ Some b → deadline_at plan j k ≤ release_at plan i n) → deadline_at plan j k ≤ release_at plan i n
@@ -337,12 +324,12 @@ module _ (plan : PlanView) (is : IsPlan plan) (h : Horizon) (horizon : IsHorizon
 
   pub plan_has_facts : HasPlanFacts (constants_of plan h)
   plan_has_facts = record {
-    few = (let t = is.graph.few_tasks in omega (arith, t));
+    few = omega (arith, is.graph.few_tasks);
     positive = λ i n job. positive_at i n job.task;
     within = λ i n job. horizon.end.above i n (IsHorizonJob_count plan.graph h.until i n job.task (task_fact plan is i job.task).period.0 job.job);
     window = λ i n job. window_of_job i n job.task;
     apart = λ i m n job before. apart_at plan is i m n job.task before;
-    short = λ i n job. (let a = length_actions plan i n in let e = is.graph.few_edges in omega (arith, a, e));
+    short = λ i n job. omega (arith, length_actions plan i n, is.graph.few_edges);
     last = λ i n place later job ends before. ends_last plan i n place later ends before;
     read_cell = read_in;
     write_cell = write_in;

@@ -14,7 +14,7 @@ use Rattle.prl_plan.proofs.WalkNumbers.{divisor_within}
 use Rattle.prl_plan.proofs.RoundPeriods.{task_is}
 
 times_more : (n p : ℕ) → 1 ≤ p → n ≤ n * p
-times_more n p some = (let up : n * 1 ≤ n * p = mul-le-mul_left n some in omega (arith, up))
+times_more n p some = omega (arith, mul-le-mul_left n some)
 
 -- the producer's clock has a period of at least 1
 first_period : (hyper : ℕ) (ops : List Op) (producer consumer : Clock) → TakeClock hyper ops producer consumer → 1 ≤ producer.period
@@ -45,8 +45,7 @@ window_within graph windows dates room i m inside =
 pub operand_within : (plan : PlanView) → IsPlan plan → (e n m : ℕ) → e < length plan.graph.edges → operand_of (edge_at plan.graph e) n ≡ operands.From m →
     m ≤ release_at plan (edge_at plan.graph e).to.0 n
 operand_within plan is e n m inside reads =
-    let w = operand_walks (edge_at plan.graph e) n m reads in
-    omega (arith, walked_within plan.graph is.graph e n m inside w.2)
+    omega (arith, walked_within plan.graph is.graph e n m inside (operand_walks (edge_at plan.graph e) n m reads).2)
 
 -- the dates of a horizon job
 pub horizon_dates : (plan : PlanView) → IsPlan plan → (until i n : ℕ) → until < 2 ^ 32 → IsHorizonJob plan.graph until i n →

@@ -35,7 +35,7 @@ module _ (plan : PlanView) (is : IsPlan plan) (e : ℕ) (inside : e < length pla
   used = slice_index_or plan.used e no_used
 
   used_inside : e < length plan.used
-  used_inside = (let l = is.cells.lengths.2 in omega (arith, l, inside))
+  used_inside = omega (arith, is.cells.lengths.2, inside)
 
   pub used_ordered : IsOrdered (slice_index_or plan.used e no_used)
   used_ordered = go (edge_at plan.graph e).from refl
@@ -74,15 +74,11 @@ module _ (plan : PlanView) (is : IsPlan plan) (e : ℕ) (inside : e < length pla
       go : (from : Producer) → (edge_at plan.graph e).from ≡ from → IsUsed (edge_at plan.graph e) m × (1 ≤ slice_index plan.counts e)
           × (slice_index plan.bases e + slice_index plan.counts e ≤ sum plan.counts)
       go (producers.Constant value) is_from =
-          (let c = cells_from (producers.Constant value) is_from in
-          let none = none_without_gaps (slice_index_or plan.used e no_used) m (ap length c.3) in
+          (let none = none_without_gaps (slice_index_or plan.used e no_used) m (ap length (cells_from (producers.Constant value) is_from).3) in
           absurd (let s : ◌≡◌ {A = Option ℕ} None (Some k) = sym none ∙ h in cc))
       go (producers.Port task out) is_from =
-          (let c = cells_from (producers.Port task out) is_from in
-          let stands = place_stands (slice_index_or plan.used e no_used) m k h in
-          let all = sum_all plan.counts e (let l = is.cells.lengths.1 in omega (arith, l, inside)) in
-          let base = c.0 in (
-            subst (λ (x : ℕ). IsUsed (edge_at plan.graph e) x) stands (c.1.each k),
+          (let c = cells_from (producers.Port task out) is_from in (
+            subst (λ (x : ℕ). IsUsed (edge_at plan.graph e) x) (place_stands (slice_index_or plan.used e no_used) m k h) (c.1.each k),
             c.2.some,
-            omega (arith, base, all),
+            omega (arith, c.0, sum_all plan.counts e (omega (arith, is.cells.lengths.1, inside))),
           ))

@@ -31,14 +31,14 @@ both (actions.End ∷ xs) ys q first second = both xs ys q first (move ys (q + (
 -- so a read at a place is at the port that is the number of operands before it
 at_port : (xs : List Action) (q r place : ℕ) → PortsFrom q xs → IsAtPort r (get_or xs place actions.End) → r ≡ q + operands_before xs place
 at_port [] q r place h is = absurd is
-at_port (actions.ReadConst port value ∷ xs) q r zero h is = (let e : port ≡ q = h.0 in let f : port ≡ r = is in omega (arith, e, f))
-at_port (actions.Read port edge m slot ∷ xs) q r zero h is = (let e : port ≡ q = h.0 in let f : port ≡ r = is in omega (arith, e, f))
+at_port (actions.ReadConst port value ∷ xs) q r zero h is = omega (arith, h.0, is)
+at_port (actions.Read port edge m slot ∷ xs) q r zero h is = omega (arith, h.0, is)
 at_port (actions.Write edge m slot ∷ xs) q r zero h is = absurd is
 at_port (actions.End ∷ xs) q r zero h is = absurd is
-at_port (actions.ReadConst port value ∷ xs) q r (suc place) h is = (let e = at_port xs (q + 1) r place h.1 is in omega (arith, e))
-at_port (actions.Read port edge m slot ∷ xs) q r (suc place) h is = (let e = at_port xs (q + slot.0 % 2) r place h.1 is in omega (arith, e))
-at_port (actions.Write edge m slot ∷ xs) q r (suc place) h is = (let e = at_port xs q r place h is in omega (arith, e))
-at_port (actions.End ∷ xs) q r (suc place) h is = (let e = at_port xs q r place h is in omega (arith, e))
+at_port (actions.ReadConst port value ∷ xs) q r (suc place) h is = omega (arith, at_port xs (q + 1) r place h.1 is)
+at_port (actions.Read port edge m slot ∷ xs) q r (suc place) h is = omega (arith, at_port xs (q + slot.0 % 2) r place h.1 is)
+at_port (actions.Write edge m slot ∷ xs) q r (suc place) h is = omega (arith, at_port xs q r place h is)
+at_port (actions.End ∷ xs) q r (suc place) h is = omega (arith, at_port xs q r place h is)
 
 module _ (plan : PlanView) (i n : ℕ) where
   even : (c : ℕ) → low c % 2 ≡ 0
@@ -49,11 +49,11 @@ module _ (plan : PlanView) (i n : ℕ) where
 
   reading_ports : (e : ℕ) (edge : Edge) (operand : Operand) (q : ℕ) → edge.port ≡ q → PortsFrom q (reading plan e edge operand)
   reading_ports e edge (operands.Const c) q at = (at, tt)
-  reading_ports e edge (operands.From m) q at = (at, ((let z = even (cell_of plan e m) in omega (arith, at, z)), tt))
+  reading_ports e edge (operands.From m) q at = (at, (omega (arith, at, even (cell_of plan e m)), tt))
 
   reading_one : (e : ℕ) (edge : Edge) (operand : Operand) → operands_in (reading plan e edge operand) ≡ 1
   reading_one e edge (operands.Const c) = refl
-  reading_one e edge (operands.From m) = (let y = even (cell_of plan e m) in let z = odd (cell_of plan e m) in omega (arith, y, z))
+  reading_one e edge (operands.From m) = omega (arith, even (cell_of plan e m), odd (cell_of plan e m))
 
   -- the reads of one edge, before those of the others
   one_edge : (e : ℕ) (x : Edge) (edges : List Edge) (q : ℕ) → (x.to.0 ≡ i → q ≡ x.port) → (x.to.0 < i → q ≡ 0) →
@@ -77,12 +77,12 @@ module _ (plan : PlanView) (i n : ℕ) where
   rest_ports e x (y ∷ edges) follow q same less =
       one_edge e y edges q
       (λ at. elim follow.0 [
-        | inl next ↦ (let t = next.0 in let p = next.1 in let s = same (omega (arith, t, at)) in omega (arith, s, p))
-        | inr later ↦ (let t = later.0 in let p = later.1 in let s = less (omega (arith, t, at)) in omega (arith, s, p))
+        | inl next ↦ omega (arith, same (omega (arith, next.0, at)), next.1)
+        | inr later ↦ omega (arith, less (omega (arith, later.0, at)), later.1)
       ])
       (λ under. elim follow.0 [
-        | inl next ↦ (let t = next.0 in less (omega (arith, t, under)))
-        | inr later ↦ (let t = later.0 in less (omega (arith, t, under)))
+        | inl next ↦ less (omega (arith, next.0, under))
+        | inr later ↦ less (omega (arith, later.0, under))
       ])
       (λ r. rest_ports (e + 1) y edges follow.1 r)
 
@@ -114,5 +114,4 @@ module _ (plan : PlanView) (i n : ℕ) where
 -- each read is at the port that is the number of operands which the actions before it complete
 pub ports_in_order : (plan : PlanView) → IsWellFormed plan.graph → (i n place port : ℕ) → IsAtPort port (get_or (actions_of plan i n) place actions.End) →
     operands_before (actions_of plan i n) place ≡ port
-ports_in_order plan good i n place port is =
-    (let e = at_port (actions_of plan i n) 0 port place (actions_ports plan i n good.order) is in omega (arith, e))
+ports_in_order plan good i n place port is = omega (arith, at_port (actions_of plan i n) 0 port place (actions_ports plan i n good.order) is)

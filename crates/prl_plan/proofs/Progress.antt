@@ -12,20 +12,17 @@ module _ (c : RunConstants) (facts : HasPlanFacts c) where
   first_earlier s j n left =
       elim (cases_lt (get_or s.ended j 0) n) [
         | inl before ↦
-            (let first : IsJob c j (get_or s.ended j 0) = record { task = left.task; job = (let h = left.job in omega (arith, h, before)) } in
-            let after : c.deadline j (get_or s.ended j 0) ≤ c.release j n = facts.apart j (get_or s.ended j 0) n (record { task = left.task; job = left.job }) before in
-            omega (arith, facts.window j (get_or s.ended j 0) first, after))
+            (let first : IsJob c j (get_or s.ended j 0) = record { task = left.task; job = (omega (arith, left.job, before)) } in
+            omega (arith, facts.window j (get_or s.ended j 0) first, facts.apart j (get_or s.ended j 0) n (record { task = left.task; job = left.job }) before))
         | inr not_before ↦
-            (let u : get_or s.ended j 0 ≤ n = left.unfinished in
-            let same : get_or s.ended j 0 ≡ n = omega (arith, u, not_before) in
-            let e : c.release j (get_or s.ended j 0) ≡ c.release j n = ap (λ x. c.release j x) same in
-            omega (arith, e))
+            (let same : get_or s.ended j 0 ≡ n = omega (arith, left.unfinished, not_before) in
+            omega (arith, ap (λ x. c.release j x) same))
       ]
 
   first_left : (s : ExecState) (j n : ℕ) → IsUnfinished c s j n → HasJob c s j
   first_left s j n left = record {
     task = left.task;
-    job = (let h = left.job in let u : get_or s.ended j 0 ≤ n = left.unfinished in let z : get_or s.ended j 0 < c.jobs j = omega (arith, h, u) in z);
+    job = (let z : get_or s.ended j 0 < c.jobs j = omega (arith, left.job, left.unfinished) in z);
     unfinished = (let z : get_or s.ended j 0 ≤ get_or s.ended j 0 = omega arith in z);
   }
 
@@ -48,13 +45,11 @@ module _ (c : RunConstants) (facts : HasPlanFacts c) where
       let earlier : c.release j k < c.release i n = provides.release in
       elim (cases_lt k (get_or s.ended j 0)) [
         | inl ended ↦
-            (let lower : m + 1 ≤ get_or s.tags slot 0 = sound.tagged.written j k (before.2) m slot provides.writes (inl ended) in omega (arith, upper, lower))
+            omega (arith, upper, sound.tagged.written j k (before.2) m slot provides.writes (inl ended))
         | inr left ↦ absurd
             (let unfinished : IsUnfinished c s j k = record { task = provides.writes.job.task; job = provides.writes.job.job; unfinished = left } in
             let first : c.release j (first_unfinished s j) ≤ c.release j k = first_earlier s j k unfinished in
-            let not_before : c.release i n ≤ c.release j (first_unfinished s j) =
-            least.least j (first_left s j k unfinished) (omega (arith, first, earlier, least.released)) in
-            omega (arith, first, not_before, earlier))
+            omega (arith, first, least.least j (first_left s j k unfinished) (omega (arith, first, earlier, least.released)), earlier))
       ]
 
   pub least_release_may_act : (s : ExecState) → IsSound c s → (i : ℕ) → IsLeastReleased c s i → KeepsGated c s (events.Act (record { 0 = i }))
@@ -66,13 +61,10 @@ module _ (c : RunConstants) (facts : HasPlanFacts c) where
     where
       ended : (i k : ℕ) → IsUnfinished c s i k → s.now + 1 < c.deadline i k
       ended i k unfinished =
-          let wide : c.release i k < c.deadline i k = facts.window i k (record { task = unfinished.task; job = unfinished.job }) in
-          omega (arith, none i (first_left s i k unfinished), first_earlier s i k unfinished, wide)
+          omega (arith, none i (first_left s i k unfinished), first_earlier s i k unfinished, facts.window i k (record { task = unfinished.task; job = unfinished.job }))
 
       within : s.now + 1 ≤ c.end
-      within =
-          let last : c.deadline j n ≤ c.end = facts.within j n (record { task = left.task; job = left.job }) in
-          omega (arith, ended j n left, last)
+      within = omega (arith, ended j n left, facts.within j n (record { task = left.task; job = left.job }))
 
   -- task i may act, as far as the tasks below k are looked at
   record LeastBelow (s : ExecState) (k i : ℕ) : Type 0 where
@@ -87,10 +79,10 @@ module _ (c : RunConstants) (facts : HasPlanFacts c) where
   ready_or : (s : ExecState) (k : ℕ) → k < c.tasks → Ready s k ⊎ (Ready s k → ⊥)
   ready_or s k inside =
       elim (cases_lt (get_or s.ended k 0) (c.jobs k)) [
-        | inr over ↦ inr (λ ready. let h : get_or s.ended k 0 < c.jobs k = ready.0.job in omega (arith, over, h))
+        | inr over ↦ inr (λ ready. omega (arith, over, ready.0.job))
         | inl some ↦
             (elim (cases_lt s.now (c.release k (get_or s.ended k 0))) [
-              | inl early ↦ inr (λ ready. let h : c.release k (get_or s.ended k 0) ≤ s.now = ready.1 in omega (arith, early, h))
+              | inl early ↦ inr (λ ready. omega (arith, early, ready.1))
               | inr now ↦ inl (
                 record { task = inside; job = some; unfinished = (let z : get_or s.ended k 0 ≤ get_or s.ended k 0 = omega arith in z) },
                 (let z : c.release k (get_or s.ended k 0) ≤ s.now = omega (arith, now) in z),

@@ -75,8 +75,7 @@ constant_typed graph good e n c inside reads = go (edge_at graph e).from refl (w
         let e1 : operands.Const value ≡ operands.Const c =
         sym (ap (λ (x : Producer). operand_from x (walk (edge_at graph e).ops n)) f ∙ ap (λ (x : Operand). operand_from (producers.Constant value) x) w) ∙ reads in
         let one : value ≡ c = cc in
-        let source : IsSource graph (edge_at graph e) is.clocks.0 (producers.Constant value) = subst (λ (x : Producer). IsSource graph (edge_at graph e) is.clocks.0 x) f is.clocks.2 in
-        subst (λ (x : Value). IsOfType (edge_at graph e).ty x) one source
+        subst (λ (x : Value). IsOfType (edge_at graph e).ty x) one (subst (λ (x : Producer). IsSource graph (edge_at graph e) is.clocks.0 x) f is.clocks.2)
 
 -- an instance that a horizon job reads is one that a horizon job gives
 pub read_of_horizon : (graph : TaskGraph) → IsWellFormed graph → (until e i n m : ℕ) → e < length graph.edges → ComesFrom (edge_at graph e).from i →

@@ -28,9 +28,8 @@ module _ (plan : PlanView) (i n : ℕ) where
   reads_split e [] k edge is to j p x h at = cc
   reads_split e (y ∷ edges) zero edge is to j p x h at =
       let one : y ≡ edge = cc in
-      let here : y.to.0 ≡ i = ap (λ (z : Edge). z.to.0) one ∙ to in
       get_first (cond (eqb y.to.0 i) (reading plan e y (operand_of y n)) []) (reads_of plan i n (e + 1) edges) p x
-      (get_if (eqb y.to.0 i) (test_same y.to.0 i here) (reading plan e y (operand_of y n)) p x
+      (get_if (eqb y.to.0 i) (test_same y.to.0 i (ap (λ (z : Edge). z.to.0) one ∙ to)) (reading plan e y (operand_of y n)) p x
       (subst (λ (q : ℕ). slice_get (reading plan e y (operand_of y n)) q ≡ Some x) (let z : j ≡ p = omega (arith, at) in z)
       (subst (λ (z : Edge). slice_get (reading plan e z (operand_of z n)) j ≡ Some x) (sym one)
       (subst (λ (f : ℕ). slice_get (reading plan f edge (operand_of edge n)) j ≡ Some x) (let z : e + 0 ≡ e = omega arith in z) h))))

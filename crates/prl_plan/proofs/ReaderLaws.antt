@@ -70,14 +70,11 @@ never_before ty (operators.Up k ∷ ops) are n m h =
 never_before ty (operators.Down k ∷ ops) are n m h =
     ceil_most (first_reader ops) n k (are 0 (operators.Down k) refl).0 (never_before ty ops (λ j o is. are (suc j) o is) (k * n) m h)
 never_before ty (operators.Shift q ∷ ops) are n m h = never_before ty ops (λ j o is. are (suc j) o is) n m h
-never_before ty (operators.Tail ∷ ops) are n m h =
-    (let g = never_before ty ops (λ j o is. are (suc j) o is) (n + 1) m h in omega (arith, g))
+never_before ty (operators.Tail ∷ ops) are n m h = omega (arith, never_before ty ops (λ j o is. are (suc j) o is) (n + 1) m h)
 never_before ty (operators.Cons c ∷ ops) are zero m h = cc
-never_before ty (operators.Cons c ∷ ops) are (suc n) m h =
-    (let g = never_before ty ops (λ j o is. are (suc j) o is) n m h in omega (arith, g))
+never_before ty (operators.Cons c ∷ ops) are (suc n) m h = omega (arith, never_before ty ops (λ j o is. are (suc j) o is) n m h)
 never_before ty (operators.Fby c ∷ ops) are zero m h = cc
-never_before ty (operators.Fby c ∷ ops) are (suc n) m h =
-    (let g = never_before ty ops (λ j o is. are (suc j) o is) n m h in omega (arith, g))
+never_before ty (operators.Fby c ∷ ops) are (suc n) m h = omega (arith, never_before ty ops (λ j o is. are (suc j) o is) n m h)
 
 pub is_first_reader : (ty : Ty) (ops : List Op) → AreOperators ty ops → IsFirstReader ops (first_reader ops)
 is_first_reader ty ops are = record { reads = reads_from ty ops are; first = never_before ty ops are }
@@ -87,8 +84,7 @@ pub first_precedes : (ty : Ty) (ops : List Op) → AreOperators ty ops → prece
 first_precedes ty ops are =
     let r = reads_from ty ops are (first_reader ops) (omega arith) in
     let e : preceding ops (pos (first_reader ops)) ≡ pos r.0 = walk_preceding ops (first_reader ops) r.0 r.1 in
-    let f : first_instance ops ≡ r.0 = ap natural e in
-    e ∙ ap (λ (x : ℕ). pos x) (sym f)
+    e ∙ ap (λ (x : ℕ). pos x) (sym (ap natural e))
 
 module _ (edge : Edge) (i : ℕ) (comes : ComesFrom edge.from i) (are : AreOperators edge.ty edge.ops) where
   from_walk : (from : Producer) → ComesFrom from i → (o : Operand) → operand_from from o ≡ o
@@ -111,7 +107,7 @@ module _ (edge : Edge) (i : ℕ) (comes : ComesFrom edge.from i) (are : AreOpera
   used_is m = (
     (λ h.
         (let r = (reads_is h.0 m).0 h.1 in
-        let up = preceding_rises edge.ty edge.ops are (pos (first_reader edge.ops)) (pos h.0) (let g = r.0 in omega (arith, ints, g)) in
+        let up = preceding_rises edge.ty edge.ops are (pos (first_reader edge.ops)) (pos h.0) (omega (arith, ints, r.0)) in
         (omega (arith, ints, up, first_precedes edge.ty edge.ops are, r.1), (pos h.0, r.1)))),
     (λ h. go h.0 h.1.0 h.1.1),
   )

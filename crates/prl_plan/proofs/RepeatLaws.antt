@@ -31,8 +31,7 @@ no_longer one other some same short =
 pub one_repeat : {A : Type 0} (one other : List A) → 1 ≤ length one → 1 ≤ length other → ((n : ℕ) → repeated one n ≡ repeated other n) →
     IsShortestRepeat one → IsShortestRepeat other → one ≡ other
 one_repeat one other some_one some_other same short_one short_other =
-    let up = no_longer other one some_other (λ n. sym (same n)) short_one in
-    let long : length one ≡ length other = omega (arith, no_longer one other some_one same short_other, up) in
+    let long : length one ≡ length other = omega (arith, no_longer one other some_one same short_other, no_longer other one some_other (λ n. sym (same n)) short_one) in
     same_lists one other long
     (λ k d below.
     (let here : slice_get one (k % length one) ≡ Some (get_or one k d) =
@@ -70,7 +69,7 @@ module _ (ops : List Op) (a b : Word) (of_a : IsWordOf ops a) (of_b : IsWordOf o
       ]
     where
       go : (p : List Value) → b.prefix ≡ p → length a.prefix < length b.prefix → ⊥
-      go [] is below = absurd (let e : length b.prefix ≡ 0 = ap length is in omega (arith, e, below))
+      go [] is below = absurd (omega (arith, ap length is, below))
       go (c ∷ rest) is below =
           never (get_or b.prefix (length a.prefix) c) (number_at a (length a.prefix - length a.prefix))
           (sym (in_prefix b (length a.prefix) c below) ∙ sym (same_at (length a.prefix)) ∙ after_prefix a (length a.prefix) (omega arith))
@@ -81,21 +80,17 @@ module _ (ops : List Op) (a b : Word) (of_a : IsWordOf ops a) (of_b : IsWordOf o
       let here : number_at a (n - length a.prefix) ≡ m = same_instance (number_at a (n - length a.prefix)) m (sym (after_prefix a n past) ∙ of_a.at n ∙ reads) in
       let place : n - length a.prefix + 1 * a.step_in ≡ n + a.step_in - length a.prefix = omega (arith, past) in
       let there : number_at a (n + a.step_in - length a.prefix) ≡ m + a.step_out =
-      (let e = ap (λ (k : ℕ). number_at a k) place in omega (arith, here, next_turns a of_a.word.some (n - length a.prefix) 1, e)) in
+      (omega (arith, here, next_turns a of_a.word.some (n - length a.prefix) 1, ap (λ (k : ℕ). number_at a k) place)) in
       sym (of_a.at (n + a.step_in)) ∙ after_prefix a (n + a.step_in) (omega (arith, past)) ∙ ap (λ (k : ℕ). operands.From k) there
 
 -- the number in the first turn
 number_first : (w : Word) (i : ℕ) → i < w.step_in → number_at w i ≡ slice_index w.repeat i
 number_first w i within =
-    let none : i / w.step_in * w.step_out ≡ 0 * w.step_out = ap (λ (x : ℕ). x * w.step_out) (div-eq_of_lt within) in
-    let first : slice_index w.repeat (i % w.step_in) ≡ slice_index w.repeat i = ap (λ (k : ℕ). slice_index w.repeat k) (small_mod i w.step_in within) in
-    omega (arith, none, first)
+    omega (arith, ap (λ (x : ℕ). x * w.step_out) (div-eq_of_lt within), ap (λ (k : ℕ). slice_index w.repeat k) (small_mod i w.step_in within))
 
 -- the step is the rise over one turn
 step_is : (w : Word) → 1 ≤ w.step_in → number_at w w.step_in ≡ number_at w 0 + w.step_out
-step_is w some =
-    let same : number_at w (0 + 1 * w.step_in) ≡ number_at w w.step_in = ap (λ (k : ℕ). number_at w k) (let e : 0 + 1 * w.step_in ≡ w.step_in = omega arith in e) in
-    omega (arith, next_turns w some 0 1, same)
+step_is w some = omega (arith, next_turns w some 0 1, ap (λ (k : ℕ). number_at w k) (let e : 0 + 1 * w.step_in ≡ w.step_in = omega arith in e))
 
 -- operators have one word
 pub one_word : (ops : List Op) (a b : Word) → IsWordOf ops a → IsWordOf ops b → a ≡ b
@@ -141,26 +136,21 @@ next_gap used some k =
     let q : ℕ = k / length used.gaps in
     let r : ℕ = k % length used.gaps in
     let below : k % length used.gaps < length used.gaps = mod_below k (length used.gaps) some in
-    let whole : k ≡ q * l + r = (let e : k % length used.gaps + k / length used.gaps * length used.gaps ≡ k = mod-add-div' k (length used.gaps) in omega (arith, e)) in
+    let whole : k ≡ q * l + r = omega (arith, mod-add-div' k (length used.gaps)) in
     let more : sum (take (r + 1) gaps) ≡ sum (take r gaps) + get_or gaps r 0 = sum_by_more (λ (x : ℕ). x) gaps r 0 below in
     elim (cases_lt (r + 1) l) [
       | inl inside ↦
           (let at : k + 1 ≡ q * l + (r + 1) = omega (arith, whole) in
           let d : (k + 1) / length used.gaps ≡ q = ap (λ (x : ℕ). x / length used.gaps) at ∙ div-mul-add q l (r + 1) inside in
           let m : (k + 1) % length used.gaps ≡ r + 1 = ap (λ (x : ℕ). x % length used.gaps) at ∙ mod-mul-add q l (r + 1) inside in
-          let a : (k + 1) / length used.gaps * sum gaps ≡ q * sum gaps = ap (λ (x : ℕ). x * sum gaps) d in
-          let b : sum (take ((k + 1) % length used.gaps) gaps) ≡ sum (take (r + 1) gaps) = ap (λ (x : ℕ). sum (take x gaps)) m in
-          omega (arith, a, b, more))
+          omega (arith, ap (λ (x : ℕ). x * sum gaps) d, ap (λ (x : ℕ). sum (take x gaps)) m, more))
       | inr full ↦
           (let at : k + 1 ≡ (q + 1) * l + 0 = (let e : (q + 1) * l ≡ q * l + l = omega arith in omega (arith, whole, e, full, below)) in
           let d : (k + 1) / length used.gaps ≡ q + 1 = ap (λ (x : ℕ). x / length used.gaps) at ∙ div-mul-add (q + 1) l 0 some in
           let m : (k + 1) % length used.gaps ≡ 0 = ap (λ (x : ℕ). x % length used.gaps) at ∙ mod-mul-add (q + 1) l 0 some in
-          let a : (k + 1) / length used.gaps * sum gaps ≡ (q + 1) * sum gaps = ap (λ (x : ℕ). x * sum gaps) d in
-          let b : sum (take ((k + 1) % length used.gaps) gaps) ≡ sum (take 0 gaps) = ap (λ (x : ℕ). sum (take x gaps)) m in
           let z : sum (take 0 gaps) ≡ 0 = refl in
-          let w : sum (take (r + 1) gaps) ≡ sum gaps = ap sum (take_all (r + 1) gaps full) in
           let t : (q + 1) * sum gaps ≡ q * sum gaps + sum gaps = omega arith in
-          omega (arith, a, b, z, w, t, more))
+          omega (arith, ap (λ (x : ℕ). x * sum gaps) d, ap (λ (x : ℕ). sum (take x gaps)) m, z, ap sum (take_all (r + 1) gaps full), t, more))
     ]
 
 pub first_number : (used : Used) → 1 ≤ length used.gaps → used_at used 0 ≡ used.first
@@ -168,10 +158,7 @@ first_number used some =
     let l : ℕ = length used.gaps in
     let at : 0 ≡ 0 * l + 0 = omega arith in
     let d : 0 / length used.gaps ≡ 0 = ap (λ (x : ℕ). x / length used.gaps) at ∙ div-mul-add 0 l 0 some in
-    let m : 0 % length used.gaps ≡ 0 = ap (λ (x : ℕ). x % length used.gaps) at ∙ mod-mul-add 0 l 0 some in
-    let a : 0 / length used.gaps * sum used.gaps ≡ 0 * sum used.gaps = ap (λ (x : ℕ). x * sum used.gaps) d in
-    let b : sum (take (0 % length used.gaps) used.gaps) ≡ 0 = ap (λ (x : ℕ). sum (take x used.gaps)) m in
-    omega (arith, a, b)
+    omega (arith, ap (λ (x : ℕ). x * sum used.gaps) d, ap (λ (x : ℕ). sum (take x used.gaps)) (ap (λ (x : ℕ). x % length used.gaps) at ∙ mod-mul-add 0 l 0 some))
 
 -- two enumerations of the same numbers agree
 no_later : (edge : Edge) (a b : Used) → EnumeratesUsed edge a → EnumeratesUsed edge b → (k : ℕ) → ((j : ℕ) → j < k → used_at a j ≡ used_at b j) → used_at b k ≤ used_at a k
@@ -182,11 +169,10 @@ no_later edge a b all_a all_b k same =
           omega (arith, rising_to edge a all_a k found.0 below, same found.0 below, found.1)
       | inr above ↦
           elim (cases_lt k found.0) [
-            | inl past ↦ (let up = rising_to edge b all_b found.0 k past in let at = found.1 in omega (arith, up, at))
+            | inl past ↦ omega (arith, rising_to edge b all_b found.0 k past, found.1)
             | inr under ↦
                 (let e : found.0 ≡ k = omega (arith, above, under) in
-                let f : used_at b found.0 ≡ used_at b k = ap (λ (x : ℕ). used_at b x) e in
-                let at = found.1 in omega (arith, f, at))
+                omega (arith, ap (λ (x : ℕ). used_at b x) e, found.1))
           ]
     ]
 
@@ -195,8 +181,7 @@ pub agree_below : (edge : Edge) (a b : Used) → EnumeratesUsed edge a → Enume
 agree_below edge a b all_a all_b zero j below = absurd (omega (arith, below))
 agree_below edge a b all_a all_b (suc n) j below =
     let before : (i : ℕ) → i < j → used_at a i ≡ used_at b i = λ i less. agree_below edge a b all_a all_b n i (omega (arith, less, below)) in
-    let up = no_later edge b a all_b all_a j (λ i less. sym (before i less)) in
-    omega (arith, no_later edge a b all_a all_b j before, up)
+    omega (arith, no_later edge a b all_a all_b j before, no_later edge b a all_b all_a j (λ i less. sym (before i less)))
 
 used_is : (a b : Used) → a.first ≡ b.first → a.gaps ≡ b.gaps → a ≡ b
 used_is a b f g =

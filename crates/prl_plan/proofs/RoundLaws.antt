@@ -7,5 +7,4 @@ use Rattle.prl_plan.specs.declared.graphs.Producer.TheVariants as producers
 pub source_inside : (graph : TaskGraph) (edge : Edge) → IsEdge graph edge → (from : Producer) → edge.from ≡ from → (i : ℕ) → ComesFrom from i → i < length graph.tasks
 source_inside graph edge is (producers.Constant value) from i comes = absurd comes
 source_inside graph edge is (producers.Port task out) from i comes =
-    let source : IsSource graph edge is.clocks.0 (producers.Port task out) = subst (λ (p : Producer). IsSource graph edge is.clocks.0 p) from is.clocks.2 in
-    subst (λ (x : ℕ). x < length graph.tasks) comes source.0
+    subst (λ (x : ℕ). x < length graph.tasks) comes (subst (λ (p : Producer). IsSource graph edge is.clocks.0 p) from is.clocks.2).0

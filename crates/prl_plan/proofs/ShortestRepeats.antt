@@ -52,7 +52,7 @@ module _ {A : Type 0} (list : List A) where
 
       times_before : (q s : ℕ) → 1 ≤ q → (q - 1) * s + s ≡ q * s
       times_before zero s some = absurd (omega (arith, some))
-      times_before (suc q) s some = (let e : suc q * s ≡ q * s + s = omega arith in let f : suc q - 1 ≡ q = omega arith in let g : (suc q - 1) * s ≡ q * s = ap (λ (k : ℕ). k * s) f in omega (arith, e, g))
+      times_before (suc q) s some = (let e : suc q * s ≡ q * s + s = omega arith in let f : suc q - 1 ≡ q = omega arith in omega (arith, e, ap (λ (k : ℕ). k * s) f))
 
       within : (s q l : ℕ) → 1 ≤ q → q * s ≡ l → s ≤ l
       within s zero l some is = absurd (omega (arith, some))
@@ -77,9 +77,7 @@ module _ {A : Type 0} (list : List A) where
   -- and a step that serves without end serves within the list
   stays_within : (step : ℕ) → ComesAgain list step → ComesWithin list step
   stays_within step again i inside =
-      let a : (i + step) % length list ≡ i + step = mod-eq_of_lt inside in
-      let b : i % length list ≡ i = mod-eq_of_lt (omega (arith, inside)) in
-      ap (λ (k : ℕ). slice_get list k) (sym a) ∙ again i ∙ ap (λ (k : ℕ). slice_get list k) b
+      ap (λ (k : ℕ). slice_get list k) (sym (mod-eq_of_lt inside)) ∙ again i ∙ ap (λ (k : ℕ). slice_get list k) (mod-eq_of_lt (omega (arith, inside)))
 
   module _ (shortest : ℕ) (some : 1 ≤ shortest) (fits : shortest ≤ length list) (divides : length list % shortest ≡ 0) (serves : ComesWithin list shortest)
       (none_less : (d : ℕ) → 1 ≤ d → d < shortest → length list % d ≡ 0 → ComesWithin list d → ⊥) where
@@ -91,8 +89,7 @@ module _ {A : Type 0} (list : List A) where
               elim (cases_lt 0 (length list % step)) [
                 | inl left ↦
                     (let part : length list % step < step = mod_below (length list) step positive in
-                    let down = least_step most (length list % step) (omega (arith, part, bound)) left (rest_serves step again) in
-                    omega (arith, down, part))
+                    omega (arith, least_step most (length list % step) (omega (arith, part, bound)) left (rest_serves step again), part))
                 | inr done ↦ absurd (none_less step positive less (omega (arith, done)) (stays_within step again))
               ]
           | inr above ↦ above
@@ -138,7 +135,7 @@ module _ {A : Type 0} (list : List A) where
 
     serves_or_not : (step : ℕ) → (Serves step → ⊥) ⊎ Serves step
     serves_or_not step = elim (cases_lt 0 step) [
-      | inr none ↦ inl (λ serves. absurd (let s = serves.0 in omega (arith, none, s)))
+      | inr none ↦ inl (λ serves. absurd (omega (arith, none, serves.0)))
       | inl some ↦ elim (cases_eq (length list % step) 0) [
         | inr apart ↦ inl (λ serves. apart serves.1)
         | inl divides ↦ elim (within_or_not step) [
@@ -153,7 +150,7 @@ module _ {A : Type 0} (list : List A) where
       | inl none ↦ (length list, whole_repeat some (λ d positive less divides comes. none d less (positive, divides, comes)))
       | inr least ↦ (
         least.0,
-        (let serves = least.1.is in let below = least.1.below in least_repeat least.0 serves.0 (omega (arith, below)) serves.1 serves.2
+        (let serves = least.1.is in least_repeat least.0 serves.0 (omega (arith, least.1.below)) serves.1 serves.2
             (λ d positive less divides comes. least.1.earlier d less (positive, divides, comes))),
       )
     ]
@@ -162,18 +159,15 @@ module _ {A : Type 0} (list : List A) where
     -- the list cut there repeats as the whole does
     pub cut_repeats : (n : ℕ) → repeated (take step list) n ≡ repeated list n
     cut_repeats n =
-        let long : length (take step list) ≡ step = length-take-le step list is.within in
         let below : n % step < step = mod_below n step is.some in
-        let whole : n % step + n / step * step ≡ n = mod-add-div' n step in
-        ap (λ (k : ℕ). slice_get (take step list) (n % k)) long ∙ get_take list step (n % step) below
-        ∙ ap (λ (k : ℕ). slice_get list k) (sym (mod-eq_of_lt (let e : n % step < length list = (let w = is.within in omega (arith, below, w)) in e)))
-        ∙ sym (again_often step is.again (n / step) (n % step)) ∙ ap (λ (k : ℕ). repeated list k) whole
+        ap (λ (k : ℕ). slice_get (take step list) (n % k)) (length-take-le step list is.within) ∙ get_take list step (n % step) below
+        ∙ ap (λ (k : ℕ). slice_get list k) (sym (mod-eq_of_lt (let e : n % step < length list = omega (arith, below, is.within) in e)))
+        ∙ sym (again_often step is.again (n / step) (n % step)) ∙ ap (λ (k : ℕ). repeated list k) (mod-add-div' n step)
 
     -- and no shorter one does
     pub cut_is_shortest : IsShortestRepeat (take step list)
     cut_is_shortest = record {
       least = λ other positive again.
-          (let long : length (take step list) ≡ step = length-take-le step list is.within in
-          let mine : ComesAgain list other = λ n. sym (cut_repeats (n + other)) ∙ again n ∙ cut_repeats n in
-          omega (arith, long, is.shortest.least other positive mine));
+          (let mine : ComesAgain list other = λ n. sym (cut_repeats (n + other)) ∙ again n ∙ cut_repeats n in
+          omega (arith, length-take-le step list is.within, is.shortest.least other positive mine));
     }

@@ -15,7 +15,7 @@ module _ (c : RunConstants) (facts : HasPlanFacts c) where
   ended_grows : (s : ExecState) (i j : ℕ) → i < length s.ended → get_or s.ended j 0 ≤ get_or (set s.ended i (get_or s.ended i 0 + 1)) j 0
   ended_grows s i j inside =
       elim (get_set s.ended i (get_or s.ended i 0 + 1) j inside) [
-        | inl same ↦ (let at : get_or s.ended j 0 ≡ get_or s.ended i 0 = ap (λ x. get_or s.ended x 0) same.0 in omega (arith, same.1, at))
+        | inl same ↦ omega (arith, same.1, ap (λ x. get_or s.ended x 0) same.0)
         | inr other ↦ omega (arith, other.1)
       ]
 
@@ -43,11 +43,11 @@ module _ (c : RunConstants) (facts : HasPlanFacts c) where
               | inl earlier ↦
                   (let here : ReadsAt c j k place l slot = subst (λ x. ReadsAt c j k place l x) same.0 reads in
                   let over : c.deadline j k ≤ c.release i n = facts.over j k place l i n (get_or s.places i 0) m slot here now_written earlier in
-                  let ended : k < get_or s.ended j 0 = sound.kept j k reads.job (let r : c.release i n ≤ s.now = released in omega (arith, over, r)) in
-                  absurd (let u : get_or s.ended j 0 ≤ k = unfinished.unfinished in omega (arith, u, ended)))
+                  let ended : k < get_or s.ended j 0 = sound.kept j k reads.job (omega (arith, over, released)) in
+                  absurd (omega (arith, unfinished.unfinished, ended)))
               | inr not_earlier ↦ omega (arith, same.1, not_earlier)
             ])
-        | inr differs ↦ (let h : get_or s.tags other 0 ≤ l + 1 = sound.held j k place l other reads unfinished in omega (arith, differs.1, h))
+        | inr differs ↦ omega (arith, differs.1, sound.held j k place l other reads unfinished)
       ]
 
   held_action : (s : ExecState) → IsSound c s → (i : ℕ) → HasJob c s i → ActsReleased c s i → (action : Action) → next_action c s i ≡ action →
@@ -57,11 +57,11 @@ module _ (c : RunConstants) (facts : HasPlanFacts c) where
   held_action s sound i has released (actions.Write e l at) is j k place m slot reads left =
       held_written s sound i e l at.0 has released is j k place m slot reads (record { task = left.task; job = left.job; unfinished = left.unfinished })
   held_action s sound i has released actions.End is j k place m slot reads left =
-      let inside : i < length s.ended = (let l : length s.ended ≡ c.tasks = sound.tagged.ended in let t : i < c.tasks = has.task in omega (arith, l, t)) in
+      let inside : i < length s.ended = omega (arith, sound.tagged.ended, has.task) in
       sound.held j k place m slot reads (record {
         task = left.task;
         job = left.job;
-        unfinished = (let u : get_or (set s.ended i (get_or s.ended i 0 + 1)) j 0 ≤ k = left.unfinished in let g = ended_grows s i j inside in omega (arith, u, g));
+        unfinished = omega (arith, left.unfinished, ended_grows s i j inside);
       })
 
   kept_action : (s : ExecState) → IsSound c s → (i : ℕ) → HasJob c s i → (action : Action) →
@@ -70,8 +70,8 @@ module _ (c : RunConstants) (facts : HasPlanFacts c) where
   kept_action s sound i has (actions.Read port e l at) j k job due = sound.kept j k job due
   kept_action s sound i has (actions.Write e l at) j k job due = sound.kept j k job due
   kept_action s sound i has actions.End j k job due =
-      let inside : i < length s.ended = (let l : length s.ended ≡ c.tasks = sound.tagged.ended in let t : i < c.tasks = has.task in omega (arith, l, t)) in
-      (let h = sound.kept j k job due in let g = ended_grows s i j inside in omega (arith, h, g))
+      let inside : i < length s.ended = omega (arith, sound.tagged.ended, has.task) in
+      omega (arith, sound.kept j k job due, ended_grows s i j inside)
 
   now_same : (s : ExecState) (i : ℕ) (action : Action) → (after_action s i action).now ≡ s.now
   now_same s i (actions.ReadConst port value) = refl
@@ -86,7 +86,7 @@ module _ (c : RunConstants) (facts : HasPlanFacts c) where
     kept = λ i n job due.
         elim (cases_lt n (get_or s.ended i 0)) [
           | inl below ↦ below
-          | inr left ↦ absurd (let later : s.now + 1 < c.deadline i n = keeps.ended i n (record { task = job.task; job = job.job; unfinished = left }) in omega (arith, later, due))
+          | inr left ↦ absurd (omega (arith, keeps.ended i n (record { task = job.task; job = job.job; unfinished = left }), due))
         ];
     held = λ j k place m slot reads left. sound.held j k place m slot reads (record { task = left.task; job = left.job; unfinished = left.unfinished });
   }
@@ -94,7 +94,7 @@ module _ (c : RunConstants) (facts : HasPlanFacts c) where
     tagged = tagged_event c facts s sound.tagged (events.Act task) keeps;
     kept = λ i n job due.
         kept_action s sound task.0 keeps.0 (next_action c s task.0) i n job
-        (let e = now_same s task.0 (next_action c s task.0) in let d : c.deadline i n ≤ (after_action s task.0 (next_action c s task.0)).now = due in omega (arith, e, d));
+        omega (arith, now_same s task.0 (next_action c s task.0), due);
     held = held_action s sound task.0 keeps.0 keeps.1 (next_action c s task.0) refl;
   }
 

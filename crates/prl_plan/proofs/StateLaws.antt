@@ -45,7 +45,7 @@ module _ (c : RunConstants) (facts : HasPlanFacts c) where
   one_move : (s : ExecState) → IsTagged c s → (i : ℕ) → HasJob c s i → (action : Action) → next_action c s i ≡ action → (j n place : ℕ) → IsDone (moved s i) j n place →
       IsDone s j n place ⊎ ((j ≡ i) × (n ≡ get_or s.ended i 0) × (action_at c j n place ≡ action))
   one_move s tagged i has action is j n place done =
-      let inside : i < length s.places = (let l = tagged.places in let t = has.task in omega (arith, l, t)) in
+      let inside : i < length s.places = omega (arith, tagged.places, has.task) in
       elim (done_moved c facts s i inside j n place done) [
         | inl before ↦ inl before
         | inr here ↦ inr (
@@ -67,4 +67,4 @@ module _ (c : RunConstants) (facts : HasPlanFacts c) where
   act_does_one_action s tagged i has (actions.Write e m slot) is j n place (inr here) =
       one_move s tagged i has (actions.Write e m slot) is j n place (inr here)
   act_does_one_action s tagged i has actions.End is j n place done =
-      ends_once c facts s i has is (let l = tagged.ended in let t = has.task in omega (arith, l, t)) (let l = tagged.places in let t = has.task in omega (arith, l, t)) j n place done
+      ends_once c facts s i has is (omega (arith, tagged.ended, has.task)) (omega (arith, tagged.places, has.task)) j n place done

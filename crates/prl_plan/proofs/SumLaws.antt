@@ -12,25 +12,19 @@ use Rattle.prl_plan.proofs.UsedLaws.{rising_to, at_least, some_gaps, place_found
 
 pub sum_plus : (f g h : ℕ → ℕ) (n : ℕ) → ((k : ℕ) → k < n → f k ≡ g k + h k) → sum_below f n ≡ sum_below g n + sum_below h n
 sum_plus f g h zero each = refl
-sum_plus f g h (suc n) each =
-    let rest = sum_plus f g h n (λ k below. each k (omega (arith, below))) in
-    let e = each n (omega arith) in
-    omega (arith, rest, e)
+sum_plus f g h (suc n) each = omega (arith, sum_plus f g h n (λ k below. each k (omega (arith, below))), each n (omega arith))
 
 pub sum_same : (f g : ℕ → ℕ) (n : ℕ) → ((k : ℕ) → k < n → f k ≡ g k) → sum_below f n ≡ sum_below g n
 sum_same f g zero each = refl
-sum_same f g (suc n) each =
-    let rest = sum_same f g n (λ k below. each k (omega (arith, below))) in
-    let e = each n (omega arith) in
-    omega (arith, rest, e)
+sum_same f g (suc n) each = omega (arith, sum_same f g n (λ k below. each k (omega (arith, below))), each n (omega arith))
 
 pub sum_ones : (f : ℕ → ℕ) (n : ℕ) → ((k : ℕ) → f k ≡ 1) → sum_below f n ≡ n
 sum_ones f zero each = refl
-sum_ones f (suc n) each = (let rest = sum_ones f n each in let e = each n in omega (arith, rest, e))
+sum_ones f (suc n) each = omega (arith, sum_ones f n each, each n)
 
 pub sum_none : (f : ℕ → ℕ) (n : ℕ) → ((k : ℕ) → f k ≡ 0) → sum_below f n ≡ 0
 sum_none f zero each = refl
-sum_none f (suc n) each = (let rest = sum_none f n each in let e = each n in omega (arith, rest, e))
+sum_none f (suc n) each = omega (arith, sum_none f n each, each n)
 
 -- one each up to p, and then two
 pub sum_steps : (f : ℕ → ℕ) (p n : ℕ) → ((k : ℕ) → k < p → f k ≡ 1) → ((k : ℕ) → p ≤ k → f k ≡ 2) → sum_below f n ≡ n + (n - p)
@@ -38,8 +32,8 @@ sum_steps f p zero low high = omega arith
 sum_steps f p (suc n) low high =
     let rest = sum_steps f p n low high in
     elim (cases_lt n p) [
-      | inl below ↦ (let e = low n below in omega (arith, rest, e, below))
-      | inr past ↦ (let e = high n past in omega (arith, rest, e, past))
+      | inl below ↦ omega (arith, rest, low n below, below)
+      | inr past ↦ omega (arith, rest, high n past, past)
     ]
 
 -- two where there is something
@@ -94,14 +88,14 @@ module _ (used : Used) where
     few_used : (c count : ℕ) → ((k : ℕ) → (k < count) ↔ (used_at used k < c)) → count ≤ c
     few_used c count is =
         elim (cases_lt c count) [
-          | inl more ↦ absurd (let h = (is c).0 more in let up = at_least edge used all c in omega (arith, h, up))
+          | inl more ↦ absurd (omega (arith, (is c).0 more, at_least edge used all c))
           | inr few ↦ few
         ]
 
   pub writes_counted : IsOrdered used → (c count : ℕ) → CountsUsed used c count →
       (sum_below (λ n. two_if (place_of used n)) c ≡ 2 * count) × (count ≤ c)
   writes_counted is c count counts = elim is.order [
-    | inl none ↦ (let z = without_gaps c none in let e = counts.none none in (omega (arith, z, e), omega (arith, e)))
+    | inl none ↦ (let e = counts.none none in (omega (arith, without_gaps c none, e), omega (arith, e)))
     | inr all ↦
         (let long = some_length (length used.gaps) (some_gaps all.0 used all.1) in
         (counted all.0 all.1 c count (counts.below long), few_used all.0 all.1 c count (counts.below long)))
@@ -138,7 +132,7 @@ module _ (plan : PlanView) (e : ℕ) (edge : Edge) (p : ℕ) (first : IsFirstRea
     where
       go : (w : Operand) → walk edge.ops n ≡ w → length (reading plan e edge w) ≡ 1
       go (operands.Const c) is = refl
-      go (operands.From m) is = absurd (let f = first.first n m is in omega (arith, f, below))
+      go (operands.From m) is = absurd (omega (arith, first.first n m is, below))
 
   pub late_read : (n : ℕ) → p ≤ n → length (reading plan e edge (operand_of edge n)) ≡ 2
-  late_read n past = (let r = first.reads n past in ap lengths (as_walk n ∙ r.1))
+  late_read n past = ap lengths (as_walk n ∙ (first.reads n past).1)

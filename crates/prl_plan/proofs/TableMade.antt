@@ -31,8 +31,8 @@ split [] ys k z h = inr (k, omega arith, h)
 split (x ∷ xs) ys zero z h = inl (h, omega arith)
 split (x ∷ xs) ys (suc k) z h =
     elim (split xs ys k z h) [
-      | inl here ↦ inl (here.0, (let b = here.1 in omega (arith, b)))
-      | inr there ↦ inr (there.0, (let e = there.1 in omega (arith, e)), there.2)
+      | inl here ↦ inl (here.0, omega (arith, here.1))
+      | inr there ↦ inr (there.0, omega (arith, there.1), there.2)
     ]
 
 ordered_two : {A : Type 0} (R : A → A → Type 0) (xs ys : List A) → Ordered R xs → Ordered R ys → ((x y : A) → Has xs x → Has ys y → R x y) → Ordered R (xs ++ ys)
@@ -45,8 +45,8 @@ ordered_two R xs ys first second cross k l x y before at_x at_y =
           ])
       | inr here ↦
           (elim (split xs ys l y at_y) [
-            | inl there ↦ absurd (let b = there.1 in let e = here.1 in omega (arith, before, b, e))
-            | inr there ↦ second here.0 there.0 x y (let e = here.1 in let f = there.1 in omega (arith, before, e, f)) here.2 there.2
+            | inl there ↦ absurd (omega (arith, before, there.1, here.1))
+            | inr there ↦ second here.0 there.0 x y (omega (arith, before, here.1, there.1)) here.2 there.2
           ])
     ]
 
@@ -105,7 +105,7 @@ module _ (plan : PlanView) where
       elim (split (jobs_at plan i t n) (single i t n) k z h) [
         | inl here ↦
             (let is = jobs_each i t n k z here.0 in
-            record { job = is.job; below = (let b = is.below in omega (arith, b)); is = is.is; date = is.date })
+            record { job = is.job; below = omega (arith, is.below); is = is.is; date = is.date })
         | inr there ↦
             (let is = in_single i t n there.0 z there.2 in
             record { job = n; below = omega arith; is = is.0; date = is.1 })
@@ -172,7 +172,7 @@ module _ (plan : PlanView) where
     jobs_ordered i t zero inside = λ k l x y before at_x at_y. absurd (nothing x at_x)
     jobs_ordered i t (suc n) inside =
         ordered_two (ComesBefore plan) (jobs_at plan i t n) (single i t n) (jobs_ordered i t n inside)
-        (λ k l x y before at_x at_y. (let a = at_first i t n k x at_x in let b = at_first i t n l y at_y in absurd (omega (arith, before, a, b))))
+        (λ k l x y before at_x at_y. (absurd (omega (arith, before, at_first i t n k x at_x, at_first i t n l y at_y))))
         (λ x y in_x in_y.
         (let first = jobs_each i t n in_x.0 x in_x.1 in
         absurd (omega (arith, rising_releases i first.job n inside first.below, first.date, (in_single i t n in_y.0 y in_y.1).1))))
@@ -183,7 +183,7 @@ module _ (plan : PlanView) where
         elim (split (rows_at plan until t i) (jobs_at plan i t (job_count (task_at plan.graph i) until)) k z h) [
           | inl here ↦
               (let row = rows_each until t i (omega (arith, within)) k z here.0 in
-              record { below = (let b = row.below in omega (arith, b)); job = row.job; operands = row.operands; date = row.date })
+              record { below = omega (arith, row.below); job = row.job; operands = row.operands; date = row.date })
           | inr there ↦
               (let at = jobs_each i t (job_count (task_at plan.graph i) until) there.0 z there.2 in
               let inside : i < length plan.graph.tasks = omega (arith, within) in
@@ -205,9 +205,8 @@ module _ (plan : PlanView) where
         (λ x y in_x in_y.
         (let row = rows_each until t i (omega (arith, within)) in_x.0 x in_x.1 in
         let at = jobs_each i t count in_y.0 y in_y.1 in
-        let f : release_at plan y.task y.job ≡ t = ap (λ (r : TableRow). release_at plan r.task r.job) at.is ∙ at.date in
         let j : y.task ≡ i = ap (λ (r : TableRow). r.task) at.is in
-        inr ((omega (arith, row.date, f)), (let b = row.below in omega (arith, b, j)))))
+        inr (omega (arith, row.date, ap (λ (r : TableRow). release_at plan r.task r.job) at.is ∙ at.date), omega (arith, row.below, j))))
 
     before_each : (until t : ℕ) → Each (IsRowBefore until t) (rows_before plan until t)
     before_each until zero k z h = absurd (nothing z h)
@@ -215,10 +214,10 @@ module _ (plan : PlanView) where
         elim (split (rows_before plan until t) (rows_at plan until t (length plan.graph.tasks)) k z h) [
           | inl here ↦
               (let row = before_each until t k z here.0 in
-              record { job = row.job; operands = row.operands; date = (let d = row.date in omega (arith, d)) })
+              record { job = row.job; operands = row.operands; date = (omega (arith, row.date)) })
           | inr there ↦
               (let row = rows_each until t (length plan.graph.tasks) (omega arith) there.0 z there.2 in
-              record { job = row.job; operands = row.operands; date = (let d = row.date in omega (arith, d)) })
+              record { job = row.job; operands = row.operands; date = (omega (arith, row.date)) })
         ]
 
     before_ordered : (until t : ℕ) → Ordered (ComesBefore plan) (rows_before plan until t)
@@ -227,9 +226,7 @@ module _ (plan : PlanView) where
         ordered_two (ComesBefore plan) (rows_before plan until t) (rows_at plan until t (length plan.graph.tasks)) (before_ordered until t)
         (rows_ordered until t (length plan.graph.tasks) (omega arith))
         (λ x y in_x in_y.
-        (let row = before_each until t in_x.0 x in_x.1 in
-        let next = rows_each until t (length plan.graph.tasks) (omega arith) in_y.0 y in_y.1 in
-        inl (omega (arith, row.date, next.date))))
+        (inl (omega (arith, (before_each until t in_x.0 x in_x.1).date, (rows_each until t (length plan.graph.tasks) (omega arith) in_y.0 y in_y.1).date))))
 
     -- a period is at most a hyperperiod
     period_within : (i : ℕ) → i < length plan.graph.tasks → (task_at plan.graph i).clock.period ≤ plan.graph.hyper
@@ -281,23 +278,21 @@ one_list {A} R strict (x ∷ xs) (y ∷ ys) first second there back =
 
     after_head : (z : A) → Has xs z → Has (y ∷ ys) z → x ≡ y → Has ys z
     after_head z has (zero, h) same =
-        absurd (let is : z ≡ x = sym (the_same y z h) ∙ sym same in
-        let r : R x z = first 0 (suc has.0) x z (omega arith) refl has.1 in
-        let q : R x x = subst (λ w. R x w) is r in strict x x q q)
+        absurd (let r : R x z = first 0 (suc has.0) x z (omega arith) refl has.1 in
+        let q : R x x = subst (λ w. R x w) (sym (the_same y z h) ∙ sym same) r in strict x x q q)
     after_head z has (suc k, h) same = (k, h)
 
     before_head : (z : A) → Has ys z → Has (x ∷ xs) z → x ≡ y → Has xs z
     before_head z has (zero, h) same =
-        absurd (let is : z ≡ y = sym (the_same x z h) ∙ same in
-        let r : R y z = second 0 (suc has.0) y z (omega arith) refl has.1 in
-        let q : R y y = subst (λ w. R y w) is r in strict y y q q)
+        absurd (let r : R y z = second 0 (suc has.0) y z (omega arith) refl has.1 in
+        let q : R y y = subst (λ w. R y w) (sym (the_same x z h) ∙ same) r in strict y y q q)
     before_head z has (suc k, h) same = (k, h)
 
 not_both : (plan : PlanView) (x y : TableRow) → ComesBefore plan x y → ComesBefore plan y x → ⊥
 not_both plan x y (inl a) (inl b) = omega (arith, a, b)
-not_both plan x y (inl a) (inr b) = (let e = b.0 in omega (arith, a, e))
-not_both plan x y (inr a) (inl b) = (let e = a.0 in omega (arith, b, e))
-not_both plan x y (inr a) (inr b) = (let f = a.1 in let g = b.1 in omega (arith, f, g))
+not_both plan x y (inl a) (inr b) = omega (arith, a, b.0)
+not_both plan x y (inr a) (inl b) = omega (arith, b, a.0)
+not_both plan x y (inr a) (inr b) = omega (arith, a.1, b.1)
 
 -- a row is known by its task and its job
 abbrev made_of : ℕ → ℕ → List Operand → TableRow
@@ -314,9 +309,7 @@ row_is plan a b is_a is_b task job =
 has_all : (plan : PlanView) (until : ℕ) (a b : List TableRow) → IsJobTable plan until a → IsJobTable plan until b → (row : TableRow) → Has a row → Has b row
 has_all plan until a b made other row has =
     let found = other.all row.task row.job (made.jobs has.0 row has.1) in
-    let same : found.1 ≡ row =
-    row_is plan found.1 row (other.operands found.0 found.1 found.2) (made.operands has.0 row has.1) found.3 found.4 in
-    (found.0, found.2 ∙ ap (λ (r : TableRow). Some r) same)
+    (found.0, found.2 ∙ ap (λ (r : TableRow). Some r) (row_is plan found.1 row (other.operands found.0 found.1 found.2) (made.operands has.0 row has.1) found.3 found.4))
 
 -- there is one table
 pub one_table : (plan : PlanView) (until : ℕ) (a b : List TableRow) → IsJobTable plan until a → IsJobTable plan until b → a ≡ b

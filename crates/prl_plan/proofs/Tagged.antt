@@ -72,13 +72,12 @@ module _ (c : RunConstants) (facts : HasPlanFacts c) where
   done_moved s i h j n place (inr here) =
       elim (get_set s.places i (get_or s.places i 0 + 1) j h) [
         | inl same ↦
-            (let at : get_or s.ended j 0 ≡ get_or s.ended i 0 = ap (λ x. get_or s.ended x 0) same.0 in
-            let now_at : place < get_or s.places i 0 + 1 = omega (arith, here.1, same.1) in
+            (let now_at : place < get_or s.places i 0 + 1 = omega (arith, here.1, same.1) in
             elim (cases_lt place (get_or s.places i 0)) [
-              | inl before ↦ inl (inr (here.0, (let p : get_or s.places j 0 ≡ get_or s.places i 0 = ap (λ x. get_or s.places x 0) same.0 in omega (arith, p, before))))
-              | inr not_before ↦ inr (same.0, (omega (arith, at, here.0)), (omega (arith, now_at, not_before)))
+              | inl before ↦ inl (inr (here.0, omega (arith, ap (λ x. get_or s.places x 0) same.0, before)))
+              | inr not_before ↦ inr (same.0, omega (arith, ap (λ x. get_or s.ended x 0) same.0, here.0), omega (arith, now_at, not_before))
             ])
-        | inr other ↦ inl (inr (here.0, (omega (arith, here.1, other.1))))
+        | inr other ↦ inl (inr (here.0, omega (arith, here.1, other.1)))
       ]
 
   -- ahead after a move of task i: ahead before it
@@ -86,8 +85,8 @@ module _ (c : RunConstants) (facts : HasPlanFacts c) where
   ahead_moved s i h j n place (inl later) = inl later
   ahead_moved s i h j n place (inr here) =
       elim (get_set s.places i (get_or s.places i 0 + 1) j h) [
-        | inl same ↦ inr (here.0, (let p : get_or s.places j 0 ≡ get_or s.places i 0 = ap (λ x. get_or s.places x 0) same.0 in omega (arith, p, here.1, same.1)))
-        | inr other ↦ inr (here.0, (omega (arith, here.1, other.1)))
+        | inl same ↦ inr (here.0, omega (arith, ap (λ x. get_or s.places x 0) same.0, here.1, same.1))
+        | inr other ↦ inr (here.0, omega (arith, here.1, other.1))
       ]
 
   -- what is done stays done
@@ -97,7 +96,7 @@ module _ (c : RunConstants) (facts : HasPlanFacts c) where
       inr (
         here.0,
         elim (get_set s.places i (get_or s.places i 0 + 1) j h) [
-          | inl same ↦ (let p : get_or s.places j 0 ≡ get_or s.places i 0 = ap (λ x. get_or s.places x 0) same.0 in omega (arith, p, here.1, same.1))
+          | inl same ↦ omega (arith, ap (λ x. get_or s.places x 0) same.0, here.1, same.1)
           | inr other ↦ omega (arith, here.1, other.1)
         ],
       )
@@ -356,7 +355,6 @@ module _ (c : RunConstants) (facts : HasPlanFacts c) where
         | inr from ↦
             (let is : IsHigh (action_at c from.task from.job from.place) = subst (λ (a : Action). IsHigh a) (sym from.writes.action.1) (cell, refl) in
             let pair = facts.paired from.task from.job from.place from.writes.job is in
-            let at : from.place ≡ pair.0 + 1 = pair.1 in
             let first : WritesAt c from.task from.job pair.0 from.instance (low cell) = record {
               job = from.writes.job;
               action = (
@@ -368,7 +366,7 @@ module _ (c : RunConstants) (facts : HasPlanFacts c) where
             let done : IsDone s from.task from.job pair.0 =
             (elim from.done [
               | inl below ↦ inl below
-              | inr here ↦ inr (here.0, (let h : from.place < get_or s.places from.task 0 = here.1 in omega (arith, h, at)))
+              | inr here ↦ inr (here.0, omega (arith, here.1, pair.1))
             ]) in
             omega (arith, tagged.written from.task from.job pair.0 from.instance (low cell) first done, from.holds))
       ]

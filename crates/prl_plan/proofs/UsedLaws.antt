@@ -20,28 +20,20 @@ sum_up_to [] e f before inside = absurd (omega arith)
 sum_up_to (x ∷ xs) zero zero before inside = absurd (omega arith)
 sum_up_to (x ∷ xs) (suc e) zero before inside = absurd (omega arith)
 sum_up_to (x ∷ xs) zero (suc f) before inside =
-    let e : sum (take (suc f) (x ∷ xs)) ≡ x + sum (take f xs) = sum_by-cons (λ y. y) x (take f xs) in
     let g : get_or (x ∷ xs) 0 0 ≡ x = refl in
-    omega (arith, e, g)
+    omega (arith, sum_by-cons (λ y. y) x (take f xs), g)
 sum_up_to (x ∷ xs) (suc e) (suc f) before inside =
-    let rest : sum (take e xs) + get_or xs e 0 ≤ sum (take f xs) = sum_up_to xs e f (omega arith) (omega arith) in
-    let a : sum (take (suc e) (x ∷ xs)) ≡ x + sum (take e xs) = sum_by-cons (λ y. y) x (take e xs) in
-    let b : sum (take (suc f) (x ∷ xs)) ≡ x + sum (take f xs) = sum_by-cons (λ y. y) x (take f xs) in
     let g : get_or (x ∷ xs) (suc e) 0 ≡ get_or xs e 0 = refl in
-    omega (arith, rest, a, b, g)
+    omega (arith, sum_up_to xs e f (omega arith) (omega arith), sum_by-cons (λ y. y) x (take e xs), sum_by-cons (λ y. y) x (take f xs), g)
 
 pub sum_all : (xs : List ℕ) (e : ℕ) → e < length xs → sum (take e xs) + get_or xs e 0 ≤ sum xs
 sum_all [] e inside = absurd (omega arith)
 sum_all (x ∷ xs) zero inside =
-    let e : sum (x ∷ xs) ≡ x + sum xs = sum_by-cons (λ y. y) x xs in
     let g : get_or (x ∷ xs) 0 0 ≡ x = refl in
-    omega (arith, e, g)
+    omega (arith, sum_by-cons (λ y. y) x xs, g)
 sum_all (x ∷ xs) (suc e) inside =
-    let rest : sum (take e xs) + get_or xs e 0 ≤ sum xs = sum_all xs e (omega arith) in
-    let a : sum (take (suc e) (x ∷ xs)) ≡ x + sum (take e xs) = sum_by-cons (λ y. y) x (take e xs) in
-    let b : sum (x ∷ xs) ≡ x + sum xs = sum_by-cons (λ y. y) x xs in
     let g : get_or (x ∷ xs) (suc e) 0 ≡ get_or xs e 0 = refl in
-    omega (arith, rest, a, b, g)
+    omega (arith, sum_all xs e (omega arith), sum_by-cons (λ y. y) x (take e xs), sum_by-cons (λ y. y) x xs, g)
 
 sum_none : (n : ℕ) → sum (take n []) ≡ 0
 sum_none zero = refl
@@ -49,7 +41,7 @@ sum_none (suc n) = refl
 
 -- without differences there is one instance at most
 flat : (first k : ℕ) (gaps : List ℕ) → length gaps ≡ 0 → first + k / length gaps * sum gaps + sum (take (k % length gaps) gaps) ≡ first
-flat first k [] none = let z = sum_none (k % 0) in omega (arith, z)
+flat first k [] none = omega (arith, sum_none (k % 0))
 flat first k (x ∷ gaps) none = absurd (omega arith)
 
 module _ (edge : Edge) (used : Used) (all : EnumeratesUsed edge used) where
@@ -60,18 +52,16 @@ module _ (edge : Edge) (used : Used) (all : EnumeratesUsed edge used) where
   rising_to zero k before = absurd (omega arith)
   rising_to (suc j) k before =
       elim (cases_lt k j) [
-        | inl below ↦ (let a = rising_to j k below in let b = next j in omega (arith, a, b))
+        | inl below ↦ omega (arith, rising_to j k below, next j)
         | inr above ↦ subst (λ (x : ℕ). used_at used x < used_at used (suc j)) (let e : j ≡ k = omega arith in e) (next j)
       ]
 
   pub at_least : (k : ℕ) → k ≤ used_at used k
   at_least zero = omega arith
-  at_least (suc k) = (let a = at_least k in let b = next k in omega (arith, a, b))
+  at_least (suc k) = omega (arith, at_least k, next k)
 
   pub some_gaps : length used.gaps ≡ 0 → ⊥
-  some_gaps none =
-      let c : used_at used 0 < used_at used 1 = rising_to 1 0 (omega arith) in
-      omega (arith, flat used.first 0 used.gaps none, flat used.first 1 used.gaps none, c)
+  some_gaps none = omega (arith, flat used.first 0 used.gaps none, flat used.first 1 used.gaps none, rising_to 1 0 (omega arith))
 
   found : (m n k : ℕ) → used_at used k ≡ m → k < n → place_up_to used m n ≡ Some k
   found m zero k at before = absurd (omega arith)
@@ -82,15 +72,13 @@ module _ (edge : Edge) (used : Used) (all : EnumeratesUsed edge used) where
             ap (λ (b : Bool). cond b (Some j) (place_up_to used m j)) other ∙ found m j k at below)
         | inr above ↦
             (let e : j ≡ k = omega arith in
-            let here : eqb (used_at used j) m ≡ true = test_same (used_at used j) m (ap (λ (x : ℕ). used_at used x) e ∙ at) in
-            ap (λ (b : Bool). cond b (Some j) (place_up_to used m j)) here ∙ ap (λ (x : ℕ). Some x) e)
+            ap (λ (b : Bool). cond b (Some j) (place_up_to used m j)) (test_same (used_at used j) m (ap (λ (x : ℕ). used_at used x) e ∙ at)) ∙ ap (λ (x : ℕ). Some x) e)
       ]
 
   -- each used instance has its place
   pub place_found : (m k : ℕ) → used_at used k ≡ m → place_of used m ≡ Some k
   place_found m k at =
-      let some : eqb (length used.gaps) 0 ≡ false = test_differs (length used.gaps) 0 some_gaps in
-      ap (λ (b : Bool). cond b None (place_up_to used m (m + 1))) some ∙ found m (m + 1) k at (omega (arith, at_least k, at))
+      ap (λ (b : Bool). cond b None (place_up_to used m (m + 1))) (test_differs (length used.gaps) 0 some_gaps) ∙ found m (m + 1) k at (omega (arith, at_least k, at))
 
 -- what has a place stands there
 same_place : (used : Used) (m n k : ℕ) → place_up_to used m n ≡ Some k → used_at used k ≡ m

@@ -40,7 +40,7 @@ module _ (graph : TaskGraph) (good : IsWellFormed graph) (edge : Edge) (is : IsE
     rises j k before =
         elim (cases_lt j k) [
           | inl less ↦ (let up = rising_to edge used all k j less in omega (arith, up))
-          | inr past ↦ (let same : j ≡ k = omega (arith, before, past) in let e : used_at used j ≡ used_at used k = ap (λ (x : ℕ). used_at used x) same in omega (arith, e))
+          | inr past ↦ (let same : j ≡ k = omega (arith, before, past) in omega (arith, ap (λ (x : ℕ). used_at used x) same))
         ]
 
     -- a later number stands at a later place
@@ -48,12 +48,12 @@ module _ (graph : TaskGraph) (good : IsWellFormed graph) (edge : Edge) (is : IsE
     places_rise j k less =
         elim (cases_lt j k) [
           | inl before ↦ before
-          | inr past ↦ absurd (let up = rises k j past in omega (arith, up, less))
+          | inr past ↦ absurd (omega (arith, rises k j past, less))
         ]
 
     grows : (k : ℕ) → used_at used 0 + k ≤ used_at used k
     grows zero = omega arith
-    grows (suc k) = (let rest = grows k in let up = rising_to edge used all (suc k) k (omega arith) in omega (arith, rest, up))
+    grows (suc k) = omega (arith, grows k, rising_to edge used all (suc k) k (omega arith))
 
     -- a span further in numbers is `turn` further in places
     module _ (turn : ℕ) (at : used_at used turn ≡ used_at used 0 + span_of graph edge) where
@@ -61,21 +61,17 @@ module _ (graph : TaskGraph) (good : IsWellFormed graph) (edge : Edge) (is : IsE
       turns zero = ap (λ (x : ℕ). used_at used x) (let e : 0 + turn ≡ turn = omega arith in e) ∙ at
       turns (suc k) =
           let before : used_at used (k + turn) ≡ used_at used k + span_of graph edge = turns k in
-          let here : used_at used k < used_at used (suc k) = rising_to edge used all (suc k) k (omega arith) in
           let there : used_at used (k + turn) < used_at used (suc k + turn) = rising_to edge used all (suc k + turn) (k + turn) (omega arith) in
           let l = all.all (used_at used (suc k) + span_of graph edge) (used_up (used_at used (suc k)) (all.each (suc k))) in
           let l_at = l.1 in
-          let l_late : k + turn < l.0 = places_rise (k + turn) l.0 (omega (arith, before, here, l_at)) in
-          let up = rises (suc k + turn) l.0 (omega (arith, l_late)) in
+          let up = rises (suc k + turn) l.0 (omega (arith, places_rise (k + turn) l.0 (omega (arith, before, rising_to edge used all (suc k) k (omega arith), l_at)))) in
           let whole : used_at used (suc k + turn) - span_of graph edge + span_of graph edge ≡ used_at used (suc k + turn) = omega (arith, before, there) in
           let asked : IsUsed edge (used_at used (suc k + turn) - span_of graph edge) =
           used_down (used_at used (suc k + turn) - span_of graph edge) (omega (arith, before, there, first_below (used_at used k) (all.each k)))
           (subst (λ (x : ℕ). IsUsed edge x) (sym whole) (all.each (suc k + turn))) in
           let d = all.all (used_at used (suc k + turn) - span_of graph edge) asked in
           let d_at = d.1 in
-          let d_late : k < d.0 = places_rise k d.0 (omega (arith, before, there, d_at, whole)) in
-          let down = rises (suc k) d.0 (omega (arith, d_late)) in
-          omega (arith, up, l_at, down, d_at, whole)
+          omega (arith, up, l_at, rises (suc k) d.0 (omega (arith, places_rise k d.0 (omega (arith, before, there, d_at, whole)))), d_at, whole)
 
       gaps_again : 1 ≤ length used.gaps → ComesAgain used.gaps turn
       gaps_again some n =
@@ -92,9 +88,7 @@ module _ (graph : TaskGraph) (good : IsWellFormed graph) (edge : Edge) (is : IsE
         let at : length used.gaps ≡ 1 * length used.gaps + 0 = omega arith in
         let d : length used.gaps / length used.gaps ≡ 1 = ap (λ (x : ℕ). x / length used.gaps) at ∙ div-mul-add 1 (length used.gaps) 0 some in
         let m : length used.gaps % length used.gaps ≡ 0 = ap (λ (x : ℕ). x % length used.gaps) at ∙ mod-mul-add 1 (length used.gaps) 0 some in
-        let a : length used.gaps / length used.gaps * sum used.gaps ≡ 1 * sum used.gaps = ap (λ (x : ℕ). x * sum used.gaps) d in
-        let b : sum (take (length used.gaps % length used.gaps) used.gaps) ≡ 0 = ap (λ (x : ℕ). sum (take x used.gaps)) m in
-        omega (arith, a, b)
+        omega (arith, ap (λ (x : ℕ). x * sum used.gaps) d, ap (λ (x : ℕ). sum (take x used.gaps)) m)
 
     pub gaps_within : IsShortestRepeat used.gaps → (length used.gaps ≤ span_of graph edge) × (sum used.gaps ≤ span_of graph edge)
     gaps_within short =

@@ -31,9 +31,8 @@ pub shift_later : (den x y more : ℕ) → 1 ≤ den → den * y ≡ den * x + m
 shift_later den x y more some is =
     elim (cases_lt y x) [
       | inl below ↦ absurd
-          (let up : den * (y + 1) ≤ den * x = mul-le-mul_left den (let g : y + 1 ≤ x = omega arith in g) in
-          let e : den * (y + 1) ≡ den * y + den = omega arith in
-          omega (arith, up, e, some, is))
+          (let e : den * (y + 1) ≡ den * y + den = omega arith in
+          omega (arith, mul-le-mul_left den (let g : y + 1 ≤ x = omega arith in g), e, some, is))
       | inr above ↦ above
     ]
 
@@ -43,21 +42,15 @@ pub walked_back : (ty : Ty) (hyper : ℕ) (ops : List Op) → ((k : ℕ) (op : O
     producer.start + m * producer.period ≤ consumer.start + n * consumer.period
 walked_back ty hyper [] are producer consumer takes n m h =
     let e : n ≡ m = cc in
-    let s : consumer.start ≡ producer.start = ap (λ (c : Clock). c.start) takes.2 in
-    let p : n * consumer.period ≡ m * producer.period = ap (λ (x : ℕ). x * consumer.period) e ∙ ap (λ (c : Clock). m * c.period) takes.2 in
-    omega (arith, s, p)
+    omega (arith, ap (λ (c : Clock). c.start) takes.2, ap (λ (x : ℕ). x * consumer.period) e ∙ ap (λ (c : Clock). m * c.period) takes.2)
 walked_back ty hyper (operators.Up k ∷ ops) are producer consumer takes n m h =
-    let x : Clock = takes.2.0 in
-    let rest = walked_back ty hyper ops (λ j o is. are (suc j) o is) producer x takes.2.2 (n / k) m h in
-    let p : n / k * (k * consumer.period) ≡ n / k * x.period = ap (λ (y : ℕ). n / k * y) takes.2.1.0 in
+    let rest = walked_back ty hyper ops (λ j o is. are (suc j) o is) producer takes.2.0 takes.2.2 (n / k) m h in
     let a : n / k * (k * consumer.period) ≡ n / k * k * consumer.period = omega arith in
-    omega (arith, rest, mul-le-mul_right consumer.period (div-mul-le_self n k), p, a, takes.2.1.1)
+    omega (arith, rest, mul-le-mul_right consumer.period (div-mul-le_self n k), ap (λ (y : ℕ). n / k * y) takes.2.1.0, a, takes.2.1.1)
 walked_back ty hyper (operators.Down k ∷ ops) are producer consumer takes n m h =
     let x : Clock = takes.2.0 in
-    let rest = walked_back ty hyper ops (λ j o is. are (suc j) o is) producer x takes.2.2 (k * n) m h in
-    let p : n * consumer.period ≡ n * (k * x.period) = ap (λ (y : ℕ). n * y) takes.2.1.0 in
     let a : n * (k * x.period) ≡ k * n * x.period = omega arith in
-    omega (arith, rest, p, a, takes.2.1.1)
+    omega (arith, walked_back ty hyper ops (λ j o is. are (suc j) o is) producer x takes.2.2 (k * n) m h, ap (λ (y : ℕ). n * y) takes.2.1.0, a, takes.2.1.1)
 walked_back ty hyper (operators.Shift q ∷ ops) are producer consumer takes n m h =
     let x : Clock = takes.2.0 in
     let rest = walked_back ty hyper ops (λ j o is. are (suc j) o is) producer x takes.2.2 n m h in
@@ -65,24 +58,18 @@ walked_back ty hyper (operators.Shift q ∷ ops) are producer consumer takes n m
     omega (arith, rest, p, shift_later q.den x.start consumer.start (nat_abs q.num * x.period) (are 0 (operators.Shift q) refl).0 takes.2.1.1)
 walked_back ty hyper (operators.Tail ∷ ops) are producer consumer takes n m h =
     let x : Clock = takes.2.0 in
-    let rest = walked_back ty hyper ops (λ j o is. are (suc j) o is) producer x takes.2.2 (n + 1) m h in
-    let p : n * consumer.period ≡ n * x.period = ap (λ (y : ℕ). n * y) takes.2.1.0 in
     let a : (n + 1) * x.period ≡ n * x.period + x.period = omega arith in
-    omega (arith, rest, p, a, takes.2.1.1)
+    omega (arith, walked_back ty hyper ops (λ j o is. are (suc j) o is) producer x takes.2.2 (n + 1) m h, ap (λ (y : ℕ). n * y) takes.2.1.0, a, takes.2.1.1)
 walked_back ty hyper (operators.Cons c ∷ ops) are producer consumer takes zero m h = cc
 walked_back ty hyper (operators.Cons c ∷ ops) are producer consumer takes (suc n) m h =
     let x : Clock = takes.2.0 in
-    let rest = walked_back ty hyper ops (λ j o is. are (suc j) o is) producer x takes.2.2 n m h in
-    let p : suc n * consumer.period ≡ suc n * x.period = ap (λ (y : ℕ). suc n * y) takes.2.1.0 in
     let a : suc n * x.period ≡ n * x.period + x.period = omega arith in
-    omega (arith, rest, p, a, takes.2.1.1)
+    omega (arith, walked_back ty hyper ops (λ j o is. are (suc j) o is) producer x takes.2.2 n m h, ap (λ (y : ℕ). suc n * y) takes.2.1.0, a, takes.2.1.1)
 walked_back ty hyper (operators.Fby c ∷ ops) are producer consumer takes zero m h = cc
 walked_back ty hyper (operators.Fby c ∷ ops) are producer consumer takes (suc n) m h =
     let x : Clock = takes.2.0 in
-    let rest = walked_back ty hyper ops (λ j o is. are (suc j) o is) producer x takes.2.2 n m h in
-    let p : suc n * consumer.period ≡ suc n * x.period = ap (λ (y : ℕ). suc n * y) takes.2.1.0 in
     let a : suc n * x.period ≡ n * x.period + x.period = omega arith in
-    omega (arith, rest, p, a, takes.2.1.1)
+    omega (arith, walked_back ty hyper ops (λ j o is. are (suc j) o is) producer x takes.2.2 n m h, ap (λ (y : ℕ). suc n * y) takes.2.1.0, a, takes.2.1.1)
 
 -- an operand that is an instance is one of a task, by the walk
 pub operand_walks : (edge : Edge) (n m : ℕ) → operand_of edge n ≡ operands.From m →
@@ -115,7 +102,6 @@ edge_back graph edge is i comes n m h = go edge.from refl
     go (producers.Constant value) from = absurd (subst (λ (f : Producer). ComesFrom f i) from comes)
     go (producers.Port task out) from =
         let source : IsSource graph edge is.clocks.0 (producers.Port task out) = subst (λ (f : Producer). IsSource graph edge is.clocks.0 f) from is.clocks.2 in
-        let at : task.0 ≡ i = subst (λ (f : Producer). ComesFrom f i) from comes in
         let back = walked_back edge.ty graph.hyper edge.ops is.operators is.clocks.0 (task_at graph edge.to.0).clock is.clocks.3 n m h in
-        let clock : is.clocks.0 ≡ (task_at graph i).clock = source.3 ∙ ap (λ (x : ℕ). (task_at graph x).clock) at in
+        let clock : is.clocks.0 ≡ (task_at graph i).clock = source.3 ∙ ap (λ (x : ℕ). (task_at graph x).clock) (subst (λ (f : Producer). ComesFrom f i) from comes) in
         subst (λ (c : Clock). c.start + m * c.period ≤ (task_at graph edge.to.0).clock.start + n * (task_at graph edge.to.0).clock.period) clock back

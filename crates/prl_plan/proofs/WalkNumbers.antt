@@ -31,7 +31,7 @@ period_here hyper ops producer consumer some takes =
     (d.0, divisor_within consumer.period hyper some d.1)
 
 pub number_within : (n p room : ℕ) → 1 ≤ p → n * p ≤ room → n ≤ room
-number_within n p room some is = (let up : n * 1 ≤ n * p = mul-le-mul_left n some in omega (arith, up, is))
+number_within n p room some is = omega (arith, mul-le-mul_left n some, is)
 
 -- sizes of whole numbers
 fits_64 : (z : ℤ) → nat_abs z < 2 ^ 63 → Fits64 z
@@ -61,9 +61,8 @@ size_mul (suc k) (negsuc n) = ap nat_abs (pos-*ℤ-negsuc (suc k) n) ∙ size_ne
 
 -- a quotient times its divisor is less than the divisor away
 size_floor : (z : ℤ) (k : ℕ) → 1 ≤ k → nat_abs (floor_div z k) * k ≤ nat_abs z + k
-size_floor (pos n) k some = (let d = div-mul-le_self n k in omega (arith, d))
-size_floor (negsuc n) k some =
-    (let d = div-mul-le_self n k in let e : suc (n / k) * k ≡ n / k * k + k = omega arith in omega (arith, d, e))
+size_floor (pos n) k some = omega (arith, div-mul-le_self n k)
+size_floor (negsuc n) k some = (let e : suc (n / k) * k ≡ n / k * k + k = omega arith in omega (arith, div-mul-le_self n k, e))
 
 -- a number next to one whose date is bounded
 next_fits : (hyper : ℕ) (ops : List Op) (producer consumer x : Clock) → 1 ≤ hyper → consumer.period ≡ x.period → TakeClock hyper ops producer x →
@@ -72,9 +71,8 @@ next_fits : (hyper : ℕ) (ops : List Op) (producer consumer x : Clock) → 1 �
 next_fits hyper ops producer consumer x some same takes n next room near is fits =
     let here = period_here hyper ops producer x some takes in
     let a : (nat_abs n + 1) * x.period ≡ nat_abs n * x.period + x.period = omega arith in
-    let p : nat_abs n * consumer.period ≡ nat_abs n * x.period = ap (λ (y : ℕ). nat_abs n * y) same in
     let l : suc (length ops) * hyper ≡ length ops * hyper + hyper = omega arith in
-    let within : nat_abs next * x.period ≤ room + hyper = omega (arith, mul-le-mul_right x.period near, a, p, is, here.1) in
+    let within : nat_abs next * x.period ≤ room + hyper = omega (arith, mul-le-mul_right x.period near, a, ap (λ (y : ℕ). nat_abs n * y) same, is, here.1) in
     (fits_64 next (omega (arith, number_within (nat_abs next) x.period (room + hyper) here.0 within, fits, l)), within, omega (arith, l, fits))
 
 -- the same over all whole numbers
@@ -96,40 +94,32 @@ preceding_fits hyper (operators.Up k ∷ ops) producer consumer some takes n roo
     )
 preceding_fits hyper (operators.Down k ∷ ops) producer consumer some takes n room is fits =
     let x : Clock = takes.2.0 in
-    let here = period_here hyper ops producer x some takes.2.2 in
-    let factor = factor_of consumer.period k x.period takes.0 takes.2.1.0 in
-    let size : nat_abs (pos k *ℤ n) ≡ k * nat_abs n = size_mul k n in
-    let p : nat_abs n * consumer.period ≡ nat_abs n * (k * x.period) = ap (λ (y : ℕ). nat_abs n * y) takes.2.1.0 in
     let a : nat_abs n * (k * x.period) ≡ k * nat_abs n * x.period = omega arith in
     let within : nat_abs (pos k *ℤ n) * x.period ≤ room =
-    subst (λ (y : ℕ). y * x.period ≤ room) (sym size) (omega (arith, p, a, is)) in
-    let l : suc (length ops) * hyper ≡ length ops * hyper + hyper = omega arith in
-    let w = number_within (nat_abs (pos k *ℤ n)) x.period room here.0 within in (
-      factor,
-      fits_64 (pos k *ℤ n) (omega (arith, w, fits)),
-      preceding_fits hyper ops producer x some takes.2.2 (pos k *ℤ n) room within (omega (arith, l, fits)),
+    subst (λ (y : ℕ). y * x.period ≤ room) (sym (size_mul k n)) (omega (arith, ap (λ (y : ℕ). nat_abs n * y) takes.2.1.0, a, is)) in
+    let l : suc (length ops) * hyper ≡ length ops * hyper + hyper = omega arith in (
+      factor_of consumer.period k x.period takes.0 takes.2.1.0,
+      fits_64 (pos k *ℤ n) (omega (arith, number_within (nat_abs (pos k *ℤ n)) x.period room (period_here hyper ops producer x some takes.2.2).0 within, fits)),
+      preceding_fits hyper ops producer x some takes.2.2 (pos k *ℤ n) room within omega (arith, l, fits),
     )
   where
     factor_of : (y k x : ℕ) → 1 ≤ y → y ≡ k * x → 1 ≤ k
     factor_of y zero x some is = absurd (let z : 0 * x ≡ 0 = omega arith in omega (arith, z, is, some))
     factor_of y (suc k) x some is = omega arith
 preceding_fits hyper (operators.Shift q ∷ ops) producer consumer some takes n room is fits =
-    let x : Clock = takes.2.0 in
-    let p : nat_abs n * consumer.period ≡ nat_abs n * x.period = ap (λ (y : ℕ). nat_abs n * y) takes.2.1.0 in
     let l : suc (length ops) * hyper ≡ length ops * hyper + hyper = omega arith in
-    preceding_fits hyper ops producer x some takes.2.2 n room (omega (arith, p, is)) (omega (arith, l, fits))
+    preceding_fits hyper ops producer takes.2.0 some takes.2.2 n room (omega (arith, ap (λ (y : ℕ). nat_abs n * y) takes.2.1.0, is)) (omega (arith, l, fits))
 preceding_fits hyper (operators.Tail ∷ ops) producer consumer some takes n room is fits =
     let x : Clock = takes.2.0 in
-    let same : suc_ℤ n ≡ n +ℤ pos 1 = suc_is n in
     let next = next_fits hyper ops producer consumer x some takes.2.1.0 takes.2.2 n (suc_ℤ n) room (size_suc n) is fits in
-    (subst (λ (z : ℤ). Fits64 z × PrecedingFits ops z) same (next.0, preceding_fits hyper ops producer x some takes.2.2 (suc_ℤ n) (room + hyper) next.1 next.2))
+    (subst (λ (z : ℤ). Fits64 z × PrecedingFits ops z) (suc_is n) (next.0, preceding_fits hyper ops producer x some takes.2.2 (suc_ℤ n) (room + hyper) next.1 next.2))
 preceding_fits hyper (operators.Cons c ∷ ops) producer consumer some takes n room is fits =
     let x : Clock = takes.2.0 in
-    let same : pred_ℤ n ≡ n -ℤ pos 1 = (let e = pred_is n in omega (arith, ints, e)) in
+    let same : pred_ℤ n ≡ n -ℤ pos 1 = omega (arith, ints, pred_is n) in
     let next = next_fits hyper ops producer consumer x some takes.2.1.0 takes.2.2 n (pred_ℤ n) room (size_pred n) is fits in
     (subst (λ (z : ℤ). Fits64 z × PrecedingFits ops z) same (next.0, preceding_fits hyper ops producer x some takes.2.2 (pred_ℤ n) (room + hyper) next.1 next.2))
 preceding_fits hyper (operators.Fby c ∷ ops) producer consumer some takes n room is fits =
     let x : Clock = takes.2.0 in
-    let same : pred_ℤ n ≡ n -ℤ pos 1 = (let e = pred_is n in omega (arith, ints, e)) in
+    let same : pred_ℤ n ≡ n -ℤ pos 1 = omega (arith, ints, pred_is n) in
     let next = next_fits hyper ops producer consumer x some takes.2.1.0 takes.2.2 n (pred_ℤ n) room (size_pred n) is fits in
     (subst (λ (z : ℤ). Fits64 z × PrecedingFits ops z) same (next.0, preceding_fits hyper ops producer x some takes.2.2 (pred_ℤ n) (room + hyper) next.1 next.2))

@@ -22,10 +22,8 @@ pub next_turns : (w : Word) → 1 ≤ w.step_in → (i turns : ℕ) → number_a
 next_turns w some i turns =
     let part : (i + turns * w.step_in) % w.step_in ≡ i % w.step_in = add-mul-mod_self_right i turns w.step_in in
     let turn : (i + turns * w.step_in) / w.step_in ≡ i / w.step_in + turns = add-mul-div_right i turns (omega (arith, some)) in
-    let first : slice_index w.repeat ((i + turns * w.step_in) % w.step_in) ≡ slice_index w.repeat (i % w.step_in) = ap (λ (k : ℕ). slice_index w.repeat k) part in
-    let rest : (i + turns * w.step_in) / w.step_in * w.step_out ≡ (i / w.step_in + turns) * w.step_out = ap (λ (k : ℕ). k * w.step_out) turn in
     let apart : (i / w.step_in + turns) * w.step_out ≡ i / w.step_in * w.step_out + turns * w.step_out = omega arith in
-    omega (arith, first, rest, apart)
+    omega (arith, ap (λ (k : ℕ). slice_index w.repeat k) part, ap (λ (k : ℕ). k * w.step_out) turn, apart)
 
 -- jobs from the prefix's length on read instances, and no other
 pub first_after_prefix : (ops : List Op) (w : Word) → IsWordOf ops w → IsFirstReader ops (length w.prefix)
@@ -41,7 +39,7 @@ first_after_prefix ops w is = record {
     never c m e = cc
 
     go : (p : List Value) → w.prefix ≡ p → (n m : ℕ) → n < length w.prefix → walk ops n ≡ operands.From m → ⊥
-    go [] same n m below reads = (let e : length w.prefix ≡ 0 = ap length same in omega (arith, e, below))
+    go [] same n m below reads = omega (arith, ap length same, below)
     go (c ∷ rest) same n m below reads = never (get_or w.prefix n c) m (sym (in_prefix w n c below) ∙ is.at n ∙ reads)
 
 -- there is one such job

@@ -3,7 +3,7 @@
 use prl_base::{CellNo, EdgeNo, TaskNo, Value};
 
 /// A half of a buffer cell: twice the cell's number for its low half, and one more for its high half.
-#[derive(Clone, Copy, Debug, PartialEq, Eq)]
+#[derive(Clone, Copy, PartialEq, Eq)]
 pub struct SlotNo(pub u32);
 
 impl SlotNo {
@@ -27,7 +27,7 @@ impl SlotNo {
 }
 
 /// One event of an executive.
-#[derive(Clone, Copy, Debug, PartialEq, Eq)]
+#[derive(Clone, Copy, PartialEq, Eq)]
 pub enum Event {
     /// The clock goes on by one tick.
     Tick,
@@ -63,7 +63,7 @@ pub enum Action {
 }
 
 /// A rule of legal lists of events.
-#[derive(Clone, Copy, Debug, PartialEq, Eq)]
+#[derive(Clone, Copy, PartialEq, Eq)]
 pub enum Rule {
     /// The job that acts is released.
     L1,

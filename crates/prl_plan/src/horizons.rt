@@ -11,7 +11,7 @@ use crate::{MAX_EVENTS, MAX_JOBS, Plan, Producer};
 use prl_base::{EdgeNo, Limit, TaskNo, What};
 
 /// The horizon of a plan: the jobs that are released before `until`.
-#[derive(Clone, Copy, Debug, PartialEq, Eq)]
+#[derive(Clone, Copy, PartialEq, Eq)]
 pub struct Horizon {
     /// Jobs released at this tick or later are outside.
     pub until: u64,

@@ -3,7 +3,7 @@
 use prl_base::Value;
 
 /// What a job reads on an edge.
-#[derive(Clone, Copy, Debug, PartialEq, Eq)]
+#[derive(Clone, Copy, PartialEq, Eq)]
 pub enum Operand {
     /// A constant.
     Const(Value),

@@ -29,8 +29,7 @@ pub inputs_local : (v w : Table) (args : List Arg) (n : ℕ) → ((j : ℕ) (arg
 inputs_local v w [] n same = refl
 inputs_local v w (arg ∷ args) n same =
     let first : v arg.flow.0 n ≡ w arg.flow.0 n = same zero arg refl in
-    let rest : inputs_of v args n ≡ inputs_of w args n = inputs_local v w args n (λ j x found. same (suc j) x found) in
-    ap (λ (x : Value). x ∷ inputs_of v args n) first ∙ ap (λ (xs : List Value). w arg.flow.0 n ∷ xs) rest
+    ap (λ (x : Value). x ∷ inputs_of v args n) first ∙ ap (λ (xs : List Value). w arg.flow.0 n ∷ xs) (inputs_local v w args n (λ j x found. same (suc j) x found))
 
 -- registers depend on the inputs of the steps before
 pub registers_local : (body : CheckedBody) (f g : ℕ → List Value) (n : ℕ) → ((m : ℕ) → m < n → f m ≡ g m) → registers_before body f n ≡ registers_before body g n
@@ -94,31 +93,23 @@ shift_date q p x y n (negsuc k) positive period same true e = absurd (cc)
 pub operator_earlier : (op : Op) (x y : Clock) (ty : Ty) (n m : ℕ) → IsClock x → IsClock y → IsResultClock op x y → IsOperatorFor ty op → origin_of op n ≡ instance m
     → IsOf op (date_at x m) (date_at y n)
 operator_earlier (operators.Fby c) x y ty zero m xs ys (period, start) fits is = absurd (cc)
-operator_earlier (operators.Fby c) x y ty (suc n) m xs ys (period, start) fits is =
-    let number : n ≡ m = same_number n m is in
-    inl (rw (← number, period, start) (omega arith))
+operator_earlier (operators.Fby c) x y ty (suc n) m xs ys (period, start) fits is = inl (rw (← (same_number n m is), period, start) (omega arith))
 operator_earlier (operators.Cons c) x y ty zero m xs ys (period, start) fits is = absurd (cc)
 operator_earlier (operators.Cons c) x y ty (suc n) m xs ys (period, start) fits is =
-    let number : n ≡ m = same_number n m is in
     let date : date_at x n ≡ date_at y (suc n) = rw (period, ← start) (omega arith) in
-    inr (rw (← number, date) (omega arith), refl)
+    inr (rw (← (same_number n m is), date) (omega arith), refl)
 operator_earlier operators.Tail x y ty n m xs ys (period, start) fits is =
-    let number : n + 1 ≡ m = same_number (n + 1) m is in
     let date : date_at x (n + 1) ≡ date_at y n = rw (period, start) (omega arith) in
-    inr (rw (← number, date) (omega arith), refl)
+    inr (rw (← (same_number (n + 1) m is), date) (omega arith), refl)
 operator_earlier (operators.Up k) x y ty n m xs ys (period, start) fits is =
-    let number : n / k ≡ m = same_number (n / k) m is in
     let down : n / k * k * y.period ≤ n * y.period = mul-le-mul_right y.period (div-mul-le_self n k) in
     let same : n / k * x.period ≡ n / k * k * y.period = rw (← period) (sym (mul_assoc (n / k) k y.period)) in
-    inr (rw (← number, start) (omega arith), refl)
+    inr (rw (← (same_number (n / k) m is), start) (omega arith), refl)
 operator_earlier (operators.Down k) x y ty n m xs ys (period, start) fits is =
-    let number : k * n ≡ m = same_number (k * n) m is in
-    let turned : k * n * x.period ≡ n * (k * x.period) = ap (λ t. t * x.period) (mul_comm k n) ∙ mul_assoc n k x.period in
-    let date : date_at x (k * n) ≡ date_at y n = rw (period, start) (ap (λ t. x.start + t) turned) in
-    inr (rw (← number, date) (omega arith), refl)
+    let date : date_at x (k * n) ≡ date_at y n = rw (period, start) (ap (λ t. x.start + t) (ap (λ t. t * x.period) (mul_comm k n) ∙ mul_assoc n k x.period)) in
+    inr (rw (← (same_number (k * n) m is), date) (omega arith), refl)
 operator_earlier (operators.Shift q) x y ty n m xs ys (period, start) fits is =
-    let number : n ≡ m = same_number n m is in
-    subst (λ t. IsOf (operators.Shift q) (date_at x t) (date_at y n)) number
+    subst (λ t. IsOf (operators.Shift q) (date_at x t) (date_at y n)) (same_number n m is)
     (rw period (shift_date q.den x.period x.start y.start (n * x.period) q.num fits.0 xs start (int_lt (pos 0) q.num) refl))
 
 -- what is read is of an earlier date, or of the same and used undelayed
@@ -140,10 +131,9 @@ module _ (p : FlatProgram) (flat : IsFlat p) (clocks : List Clock) (agree : AreC
       → (n j m : ℕ) → Reads p def n j m → (j < length p.flows) × IsEarlier p clocks i n j m
   earlier_by i flow (definitions.Sensor k) found is defined agrees n j m reads = absurd reads
   earlier_by i flow (definitions.Copy of) found is defined agrees n j m (named, number) =
-      let within : j < length p.flows = subst (λ t. t < length p.flows) named (there p flow.ty of defined) in
       let clock : clock_of clocks i ≡ clock_of clocks j = agrees ∙ ap (clock_of clocks) named in
       let date : date_at (clock_of clocks i) n ≡ date_at (clock_of clocks j) m = ap (λ (c : Clock). date_at c n) clock ∙ ap (date_at (clock_of clocks j)) number in
-      (within, inr (omega (arith, date), uses_now p i j flow (definitions.Copy of) found is named))
+      (subst (λ t. t < length p.flows) named (there p flow.ty of defined), inr (omega (arith, date), uses_now p i j flow (definitions.Copy of) found is named))
   earlier_by i flow (definitions.Const c) found is defined agrees n j m reads = absurd reads
   earlier_by i flow (definitions.Apply k out) found is (a, applied, output) agrees n j m (argument, le) =
       let app : argument.app ≡ a = let e : Some argument.app ≡ Some a = sym argument.applied ∙ applied in cc in
@@ -158,9 +148,8 @@ module _ (p : FlatProgram) (flat : IsFlat p) (clocks : List Clock) (agree : AreC
       let of_within = there p flow.ty of typed in
       let within : j < length p.flows = subst (λ t. t < length p.flows) named of_within in
       let i_within = slice_get_within p.flows i flow found in
-      let dates = operator_earlier op (clock_of clocks of.0) (clock_of clocks i) flow.ty n m (clock_there of.0 of_within) (clock_there i i_within) agrees fits origin in
       let same : date_at (clock_of clocks of.0) m ≡ date_at (clock_of clocks j) m = ap (λ t. date_at (clock_of clocks t) m) named in
-      elim dates [
+      elim (operator_earlier op (clock_of clocks of.0) (clock_of clocks i) flow.ty n m (clock_there of.0 of_within) (clock_there i i_within) agrees fits origin) [
         | inl before ↦ (within, inl (omega (arith, before, same)))
         | inr both ↦ (within, inr (omega (arith, both.0, same), uses_now p i j flow (definitions.Op op of) found is (both.1, named)))
       ]

@@ -72,8 +72,7 @@ module _ (of_clocks : AreOfTheirClocks) (p : FlatProgram) (flat : IsFlat p) (ord
       let (agree, solves) = of_clocks p bodies rows until s flat h in
       let clocks = clocks_in s in
       let flows = values_in s in
-      let same : values_of flows i ≡ values = get_or_from_slice_get flows i values [] at in
-      let value : slice_get (values_of flows i) n ≡ Some v = ap (λ (xs : List Value). slice_get xs n) same ∙ is in
+      let value : slice_get (values_of flows i) n ≡ Some v = ap (λ (xs : List Value). slice_get xs n) (get_or_from_slice_get flows i values [] at) ∙ is in
       let within = slice_get_within p.flows i flow found in
       let before : date_at (clock_of clocks i) n < until = (solves.up_to i (omega (arith, within, solves.count)) n).0 (slice_get_within (values_of flows i) n v value) in
       ap type_of (sym (get_or_from_slice_get (values_of flows i) n v nothing value))

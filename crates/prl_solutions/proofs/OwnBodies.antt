@@ -81,10 +81,7 @@ among : (bodies : List CheckedBody) (apps : List App) (k : ℕ) (app : App) (b :
     → (j : ℕ) × (slice_get (bodies_of bodies apps) j ≡ Some b)
 unfolding bodies_of
 among bodies [] k app b found named = absurd (cc)
-among bodies (u ∷ apps) zero app b found named =
-    let same : u ≡ app = some_inner u app found in
-    let is : body_named bodies u.name ≡ Some b = ap (λ (x : App). body_named bodies x.name) same ∙ named in
-    (0, rw is refl)
+among bodies (u ∷ apps) zero app b found named = (0, rw (ap (λ (x : App). body_named bodies x.name) (some_inner u app found) ∙ named) refl)
 among bodies (u ∷ apps) (suc k) app b found named =
     let (j, at) = among bodies apps k app b found named in
     later (body_named bodies u.name) j at

@@ -37,13 +37,11 @@ module _ (until : ℕ) (body : CheckedBody) (clock : Clock) (clocked : IsClock c
       let before : date_at clock n < until = (dates_before_number until clock n clocked).0 (omega (arith, le)) in
       let a = r_steps n before in
       let b = q_steps n before in
-      let inputs : a.inputs ≡ b.inputs = somes_same a.inputs b.inputs (sym a.read ∙ b.read) in
-      let held : a.before ≡ b.before = some_inner a.before b.before (sym a.held ∙ held_same n (omega (arith, le)) ∙ b.held) in
       let place : n + 1 ≡ suc n = omega arith in
       ap (slice_get r) (sym place)
       ∙ a.next
-      ∙ ap (λ (xs : List Value). Some (body_step body xs a.before).registers) inputs
-      ∙ ap (λ (xs : List Value). Some (body_step body b.inputs xs).registers) held
+      ∙ ap (λ (xs : List Value). Some (body_step body xs a.before).registers) (somes_same a.inputs b.inputs (sym a.read ∙ b.read))
+      ∙ ap (λ (xs : List Value). Some (body_step body b.inputs xs).registers) (some_inner a.before b.before (sym a.held ∙ held_same n (omega (arith, le)) ∙ b.held))
       ∙ sym b.next
       ∙ ap (slice_get q) place
 
@@ -56,8 +54,7 @@ applied_decides : (bodies : List CheckedBody) (until : ℕ) (name : List ℕ) (a
 applied_decides bodies until name args outs r q j out found clocked a b =
     let body : b.body ≡ a.body = some_inner b.body a.body (sym b.named ∙ a.named) in
     let a_clock : out.clock ≡ a.clock = at_place (λ (f : Timed). f.clock ≡ a.clock) outs j out a.outs_clock found in
-    let b_clock : out.clock ≡ b.clock = at_place (λ (f : Timed). f.clock ≡ b.clock) outs j out b.outs_clock found in
-    let clock : b.clock ≡ a.clock = sym b_clock ∙ a_clock in
+    let clock : b.clock ≡ a.clock = sym (at_place (λ (f : Timed). f.clock ≡ b.clock) outs j out b.outs_clock found) ∙ a_clock in
     all_same until a.body a.clock (subst IsClock a_clock clocked) args outs r q a.first
     (subst (λ (x : CheckedBody). slice_get q 0 ≡ Some (first_values x)) body b.first)
     a.steps

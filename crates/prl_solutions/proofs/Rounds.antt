@@ -36,8 +36,7 @@ pub rank_found : (order : List FlowNo) (i k : ℕ) → slice_get order k ≡ Som
 rank_found [] i k found = absurd (cc)
 rank_found (f ∷ fs) i k found = elim (cases_eq f.0 i) [
   | inl same ↦
-      let is : f ≡ record { 0 = i } = ap (λ n. record { 0 = n }) same in
-      rw (rank_first f fs i same) (ap Some is)
+      rw (rank_first f fs i same) (ap Some (ap (λ n. record { 0 = n }) same))
   | inr other ↦
       let rest = in_rest f fs k (record { 0 = i }) (λ same. other (ap (λ (x : FlowNo). x.0) same)) found in
       rw (rank_later f fs i other) (rank_found fs i rest.0 rest.1)
@@ -47,20 +46,17 @@ rank_found (f ∷ fs) i k found = elim (cases_eq f.0 i) [
 earlier_date : (a b n r s : ℕ) → a < b → r < n → a * n + r < b * n + s
 earlier_date a b n r s less rank =
     let next : suc a ≤ b = omega (arith, less) in
-    let grows : suc a * n ≤ b * n = mul-le-mul_right n next in
-    omega (arith, grows, rank)
+    omega (arith, mul-le-mul_right n next, rank)
 
 lower_rank : (a b n r s : ℕ) → a ≤ b → r < s → a * n + r < b * n + s
-lower_rank a b n r s le rank =
-    let grows : a * n ≤ b * n = mul-le-mul_right n le in
-    omega (arith, grows, rank)
+lower_rank a b n r s le rank = omega (arith, mul-le-mul_right n le, rank)
 
 module _ (p : FlatProgram) (flat : IsFlat p) (clocks : List Clock) (agree : AreClocks p clocks) (order : List FlowNo) (is_order : IsOrder p order) where
   pub placed : (i : ℕ) → i < length p.flows → slice_get order (rank_of order i) ≡ Some (record { 0 = i })
   placed i within = let (k, found) = is_order.each i within in rank_found order i k found
 
   pub rank_within : (i : ℕ) → i < length p.flows → rank_of order i < length p.flows
-  rank_within i within = let h = slice_get_within order (rank_of order i) (record { 0 = i }) (placed i within) in omega (arith, h, is_order.count)
+  rank_within i within = omega (arith, slice_get_within order (rank_of order i) (record { 0 = i }) (placed i within), is_order.count)
 
   pub rank_falls : (i j : ℕ) → i < length p.flows → j < length p.flows → UsesNow p i j → rank_of order j < rank_of order i
   rank_falls i j i_within j_within uses =

@@ -93,13 +93,12 @@ module _ (p : FlatProgram) (flat : IsFlat p) (clocks : List Clock) (agree : AreC
     fixed_by i flow (definitions.Op op of) found (typed, fits) agrees meets n before =
         let i_within = slice_get_within p.flows i flow found in
         let of_within : of.0 < length p.flows = slice_get_within p.flows of.0 typed.0 typed.1 in
-        let within = read_before i n i_within before in
         let x = clock_of clocks of.0 in
         let xs : List Value = values_of flows of.0 in
         let is : value_from xs (origin_of op n) ≡ Some (table_of flows i n) =
         sym (value_of_operator_date op x xs (clock_of clocks i) n (clock_there of.0 of_within) (clock_there i i_within) agrees (denominated flow.ty op fits))
         ∙ sym (meets.each (date_at (clock_of clocks i) n) (n, refl) before)
-        ∙ value_at_date (clock_of clocks i) (values_of flows i) n (clock_there i i_within) ∙ read_at flows i n within in
+        ∙ value_at_date (clock_of clocks i) (values_of flows i) n (clock_there i i_within) ∙ read_at flows i n (read_before i n i_within before) in
         sym (taken_from xs (origin_of op n) (table_of flows i n) is)
 
     -- the table of a solution is fixed
@@ -115,9 +114,7 @@ module _ (p : FlatProgram) (flat : IsFlat p) (clocks : List Clock) (agree : AreC
     before_end i n within below = (dates_before_number until (clock_of clocks i) n (clock_there i within)).0 (omega (arith, below, lengths i within))
 
     within_list : (i n : ℕ) → i < length p.flows → date_at (clock_of clocks i) n < until → n < length (values_of flows i)
-    within_list i n within before =
-        let below = (dates_before_number until (clock_of clocks i) n (clock_there i within)).1 before in
-        omega (arith, below, lengths i within)
+    within_list i n within before = omega (arith, (dates_before_number until (clock_of clocks i) n (clock_there i within)).1 before, lengths i within)
 
     element_is : (i n : ℕ) (flow : Flow) → slice_get p.flows i ≡ Some flow → n < length (values_of flows i)
         → slice_get (values_of flows i) n ≡ Some (value_of p bodies rows (table_of flows) flow.def n)

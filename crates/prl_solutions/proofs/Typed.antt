@@ -35,8 +35,7 @@ types_inputs p v n [] (ty ∷ tys) fit each = absurd fit
 types_inputs p v n (arg ∷ args) [] fit each = absurd fit
 types_inputs p v n (arg ∷ args) (ty ∷ tys) ((f, found, is), fits) each =
     let head : type_of (v arg.flow.0 n) ≡ ty = each zero arg refl f found ∙ is in
-    let tail : map type_of (inputs_of v args n) ≡ tys = types_inputs p v n args tys fits (λ j x at. each (suc j) x at) in
-    ap (λ (t : Ty). t ∷ map type_of (inputs_of v args n)) head ∙ ap (λ (ts : List Ty). ty ∷ ts) tail
+    ap (λ (t : Ty). t ∷ map type_of (inputs_of v args n)) head ∙ ap (λ (ts : List Ty). ty ∷ ts) (types_inputs p v n args tys fits (λ j x at. each (suc j) x at))
 
 pub types_registers : (body : CheckedBody) (inputs : ℕ → List Value) → IsWellTyped body → (n : ℕ) → ((m : ℕ) → m < n → map type_of (inputs m) ≡ input_types body)
     → map type_of (registers_before body inputs n) ≡ register_types body

@@ -20,16 +20,11 @@ module _ (c : RunConstants) (facts : HasPlanFacts c) (s : ExecState) where
       (c.release j (first_unfinished s j) ≤ c.release j n) × (c.deadline j (first_unfinished s j) ≤ c.deadline j n)
   rises j n has left = elim (cases_eq n (first_unfinished s j)) [
     | inl same ↦
-        (let r = ap (λ (k : ℕ). c.release j k) same in
-        let d = ap (λ (k : ℕ). c.deadline j k) same in
-        (omega (arith, r), omega (arith, d)))
+        ((omega (arith, ap (λ (k : ℕ). c.release j k) same), omega (arith, ap (λ (k : ℕ). c.deadline j k) same)))
     | inr other ↦
-        (let below = left.unfinished in
-        let job : IsJob c j n = record { task = left.task; job = left.job } in
-        let apart = facts.apart j (first_unfinished s j) n job (omega (arith, other, below)) in
-        let later = facts.window j n job in
-        let now = facts.window j (first_unfinished s j) (record { task = has.task; job = has.job }) in
-        (omega (arith, apart, now), omega (arith, apart, later)))
+        (let job : IsJob c j n = record { task = left.task; job = left.job } in
+        let apart = facts.apart j (first_unfinished s j) n job (omega (arith, other, left.unfinished)) in
+        (omega (arith, apart, facts.window j (first_unfinished s j) (record { task = has.task; job = has.job })), omega (arith, apart, facts.window j n job)))
   ]
 
   module _ (j : ℕ) where
@@ -43,7 +38,7 @@ module _ (c : RunConstants) (facts : HasPlanFacts c) (s : ExecState) where
     chosen_stays : (chosen : Chosen) → IsChosen c s j chosen → ((n : ℕ) → IsUnfinished c s j n → c.release j n ≤ s.now → chosen.deadline ≤ c.deadline j n) →
         IsChosen c s (j + 1) chosen
     chosen_stays chosen is later = record {
-      below = (let b = is.below in omega (arith, b));
+      below = omega (arith, is.below);
       job = is.job;
       released = is.released;
       deadline = is.deadline;
@@ -59,53 +54,48 @@ module _ (c : RunConstants) (facts : HasPlanFacts c) (s : ExecState) where
     -- a task that has no released unfinished job changes nothing
     choice_stays : (best : Option Chosen) → IsChoice c s j best → ((n : ℕ) → IsUnfinished c s j n → s.now < c.release j n) → IsChoice c s (j + 1) best
     choice_stays None is later = none_stays is later
-    choice_stays (Some chosen) is later = chosen_stays chosen is (λ n left at. absurd (let l = later n left in omega (arith, l, at)))
+    choice_stays (Some chosen) is later = chosen_stays chosen is (λ n left at. absurd (omega (arith, later n left, at)))
 
     pub choice_without : (best : Option Chosen) → IsChoice c s j best → c.jobs j ≤ first_unfinished s j → IsChoice c s (j + 1) best
-    choice_without best is done =
-        choice_stays best is (λ n left. absurd (let b = left.job in let u = left.unfinished in omega (arith, b, u, done)))
+    choice_without best is done = choice_stays best is (λ n left. absurd (omega (arith, left.job, left.unfinished, done)))
 
     module _ (first : First) (is_first : IsFirst c s j first) where
       no_earlier : (n : ℕ) → IsUnfinished c s j n → (first.release ≤ c.release j n) × (first.deadline ≤ c.deadline j n)
       no_earlier n left =
           (let r = rises j n is_first.left left in
-          let a = r.0 in
-          let b = r.1 in
-          let at = is_first.release in
-          let due = is_first.deadline in
-          (omega (arith, a, at), omega (arith, b, due)))
+          (omega (arith, r.0, is_first.release), omega (arith, r.1, is_first.deadline)))
 
       pub choice_unreleased : (best : Option Chosen) → IsChoice c s j best → s.now < first.release → IsChoice c s (j + 1) best
-      choice_unreleased best is early = choice_stays best is (λ n left. let r = (no_earlier n left).0 in omega (arith, r, early))
+      choice_unreleased best is early = choice_stays best is (λ n left. omega (arith, (no_earlier n left).0, early))
 
       pub choice_kept : (chosen : Chosen) → IsChosen c s j chosen → chosen.deadline ≤ first.deadline → IsChosen c s (j + 1) chosen
-      choice_kept chosen is due = chosen_stays chosen is (λ n left at. let r = (no_earlier n left).1 in omega (arith, r, due))
+      choice_kept chosen is due = chosen_stays chosen is (λ n left at. omega (arith, (no_earlier n left).1, due))
 
       module _ (released : first.release ≤ s.now) (next : Chosen) (task : next.task.0 ≡ j) (deadline : next.deadline ≡ first.deadline) where
         next_is : ((k n : ℕ) → k < j → IsUnfinished c s k n → c.release k n ≤ s.now → first.deadline < c.deadline k n) → IsChosen c s (j + 1) next
         next_is earlier = record {
           below = omega (arith, task);
           job = subst (λ (k : ℕ). HasJob c s k) (sym task) is_first.left;
-          released = subst (λ (k : ℕ). ActsReleased c s k) (sym task) (let r = is_first.release in omega (arith, r, released));
-          deadline = (let d = is_first.deadline in let t = ap (λ (k : ℕ). c.deadline k (first_unfinished s k)) task in omega (arith, d, t, deadline));
+          released = subst (λ (k : ℕ). ActsReleased c s k) (sym task) (omega (arith, is_first.release, released));
+          deadline = omega (arith, is_first.deadline, ap (λ (k : ℕ). c.deadline k (first_unfinished s k)) task, deadline);
           first = λ k n below left at. one_more (λ k n. IsUnfinished c s k n → c.release k n ≤ s.now → next.deadline ≤ c.deadline k n)
-              (λ k n below left at. let e = earlier k n below left at in omega (arith, e, deadline))
-              (λ n left at. let r = (no_earlier n left).1 in omega (arith, r, deadline)) k n below left at;
-          lowest = λ k below has at. (let e = earlier k (first_unfinished s k) (omega (arith, below, task)) has at in omega (arith, e, deadline));
+              (λ k n below left at. omega (arith, earlier k n below left at, deadline))
+              (λ n left at. omega (arith, (no_earlier n left).1, deadline)) k n below left at;
+          lowest = λ k below has at. omega (arith, earlier k (first_unfinished s k) (omega (arith, below, task)) has at, deadline);
         }
 
         pub choice_first : NoneReleased c s j → IsChosen c s (j + 1) next
-        choice_first none = next_is (λ k n below left at. absurd (let l = none k n below left in omega (arith, l, at)))
+        choice_first none = next_is (λ k n below left at. absurd (omega (arith, none k n below left, at)))
 
         pub choice_earlier : (chosen : Chosen) → IsChosen c s j chosen → first.deadline < chosen.deadline → IsChosen c s (j + 1) next
-        choice_earlier chosen is due = next_is (λ k n below left at. let f = is.first k n below left at in omega (arith, f, due))
+        choice_earlier chosen is due = next_is (λ k n below left at. omega (arith, is.first k n below left at, due))
 
   pub chosen_is_earliest : (chosen : Chosen) → IsChosen c s c.tasks chosen → IsEarliest c s chosen.task.0
   chosen_is_earliest chosen is = record {
     job = is.job;
     released = is.released;
-    first = λ j n left at. (let f = is.first j n left.task left at in let d = is.deadline in omega (arith, f, d));
-    lowest = λ j below has at. (let l = is.lowest j below has at in let d = is.deadline in omega (arith, l, d));
+    first = λ j n left at. omega (arith, is.first j n left.task left at, is.deadline);
+    lowest = λ j below has at. omega (arith, is.lowest j below has at, is.deadline);
   }
 
   pub none_is_idle : NoneReleased c s c.tasks → (i n : ℕ) → IsUnfinished c s i n → IsIdle c s
@@ -115,16 +105,13 @@ module _ (c : RunConstants) (facts : HasPlanFacts c) (s : ExecState) where
   pub next_keeps_legal : (event : Event) → IsNext c s (Some event) → KeepsLegal c s event
   next_keeps_legal (events.Act task) is = (is.job, is.released, λ j n together left released. is.first j n left released)
   next_keeps_legal events.Tick is = record {
-    within = (let left = is.left.2 in let d = due is.left.0 is.left.1 left in
-        let w = facts.within is.left.0 is.left.1 (record { task = left.task; job = left.job }) in omega (arith, d, w));
+    within = omega (arith, due is.left.0 is.left.1 is.left.2, facts.within is.left.0 is.left.1 (record { task = is.left.2.task; job = is.left.2.job }));
     ended = due;
   }
     where
       due : (j n : ℕ) → IsUnfinished c s j n → s.now + 1 < c.deadline j n
       due j n left =
-          let later = is.none j n left in
-          let window = facts.window j n (record { task = left.task; job = left.job }) in
-          omega (arith, later, window)
+          omega (arith, is.none j n left, facts.window j n (record { task = left.task; job = left.job }))
 
 module _ (c : RunConstants) (facts : HasPlanFacts c) (s : ExecState) where
   -- the first unfinished job of a task that has one
@@ -180,7 +167,5 @@ module _ (c : RunConstants) (facts : HasPlanFacts c) (s : ExecState) where
       by_choice None is = elim decided [
         | inl complete ↦ (None, complete)
         | inr first ↦
-            (let f = first.2 in
-            let now = f.first in
-            (Some events.Tick, none_is_idle c facts s is first.0 first.1 (record { task = f.task; job = f.job; unfinished = omega (arith, now) })))
+            ((Some events.Tick, none_is_idle c facts s is first.0 first.1 (record { task = first.2.task; job = first.2.job; unfinished = omega (arith, first.2.first) })))
       ]

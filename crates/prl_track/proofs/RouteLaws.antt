@@ -37,7 +37,7 @@ from_here [] ys (suc e) y h = absurd cc
 from_here (x ∷ xs) ys zero y h = (omega arith, ap (λ (l : List Edge). get_or l 0 no_edge) h, ap (λ (l : List Edge). drop 1 l) h)
 from_here (x ∷ xs) ys (suc e) y h =
     let r = from_here xs ys e y h in
-    (let b : e < length xs = r.0 in omega (arith, b), r.1, ap (λ (k : ℕ). drop k (x ∷ xs)) (let s : suc e + 1 ≡ suc (e + 1) = omega arith in s) ∙ r.2)
+    (omega (arith, r.0), r.1, ap (λ (k : ℕ). drop k (x ∷ xs)) (let s : suc e + 1 ≡ suc (e + 1) = omega arith in s) ∙ r.2)
 
 both_routes : (plan : PlanView) (n : ℕ) (xs ys : List Access) → on_route plan n (xs ++ ys) ≡ on_route plan n xs ++ on_route plan n ys
 both_routes plan n [] ys = refl
@@ -150,16 +150,12 @@ module _ (plan : PlanView) (n : ℕ) where
   on_route_more [] k access here = absurd cc
   on_route_more (x ∷ route) zero access here =
       let same : x ≡ access = cc in
-      let l = length-append (on_access plan n x) [] in
-      let a = ap (λ (y : Access). length (on_access plan n y)) same in
-      omega (arith, l, a)
+      omega (arith, length-append (on_access plan n x) [], ap (λ (y : Access). length (on_access plan n y)) same)
   on_route_more (x ∷ route) (suc k) access here =
       let s : suc k + 1 ≡ suc (k + 1) = omega arith in
-      let m = ap (λ (j : ℕ). length (on_route plan n (take j (x ∷ route)))) s in
-      let l = length-append (on_access plan n x) (on_route plan n (take (k + 1) route)) in
       let r = length-append (on_access plan n x) (on_route plan n (take k route)) in
       let i = on_route_more route k access here in
-      omega (arith, m, l, r, i)
+      omega (arith, ap (λ (j : ℕ). length (on_route plan n (take j (x ∷ route)))) s, length-append (on_access plan n x) (on_route plan n (take (k + 1) route)), r, i)
 
 -- after the list stands the end
 end_past : (xs : List Action) (place rest : ℕ) → place ≡ length xs + rest → get_or (xs ++ actions.End ∷ []) place actions.End ≡ actions.End
@@ -186,18 +182,16 @@ module _ (plan : PlanView) (i n place : ℕ) (cursor : Cursor) (at : IsAt plan i
   pub cursor_passes : (access : Access) (rest : ℕ) (next : Cursor) → slice_get (route_of plan.graph i) cursor.index ≡ Some access → cursor.index < length (route_of plan.graph i) →
       cursor.rest ≡ length (on_access plan n access) + rest → next.index ≡ cursor.index + 1 → next.rest ≡ rest → IsAt plan i n place next
   cursor_passes access rest next here below past index is =
-      let more = on_route_more plan n (route_of plan.graph i) cursor.index access here in
       let same = ap (λ (k : ℕ). length (on_route plan n (take k (route_of plan.graph i)))) index in
       let p = at.stands in
-      record { inside = omega (arith, below, index); stands = omega (arith, more, same, p, past, is) }
+      record { inside = omega (arith, below, index); stands = omega (arith, on_route_more plan n (route_of plan.graph i) cursor.index access here, same, p, past, is) }
 
   pub end_here : length (route_of plan.graph i) ≤ cursor.index → get_or (actions_of plan i n) place actions.End ≡ actions.End
   end_here past =
       let all : length (on_route plan n (take cursor.index (route_of plan.graph i))) ≡ length (on_route plan n (route_of plan.graph i)) =
       ap (λ (l : List Access). length (on_route plan n l)) (take_whole (route_of plan.graph i) cursor.index past) in
-      let p = at.stands in
       ap (λ (l : List Action). get_or l place actions.End) (actions_on_route plan i n)
-      ∙ end_past (on_route plan n (route_of plan.graph i)) place cursor.rest (omega (arith, all, p))
+      ∙ end_past (on_route plan n (route_of plan.graph i)) place cursor.rest (omega (arith, all, at.stands))
 
 -- the element of a number, and then those after it
 drop_here : (edges : List Edge) (e : ℕ) (edge : Edge) → slice_get edges e ≡ Some edge → drop e edges ≡ edge ∷ drop (e + 1) edges

@@ -28,10 +28,8 @@ reading_moves s i actions.End h = absurd h
 pub cursor_moves : (plan : PlanView) (i n place : ℕ) (cursor next : Cursor) → IsAt plan i n place cursor → next.index ≡ cursor.index → next.rest ≡ cursor.rest + 1 →
     IsAt plan i n (place + 1) next
 cursor_moves plan i n place cursor next at index rest =
-    let p = at.stands in
-    let b = at.inside in
     let l = ap (λ (k : ℕ). length (on_route plan n (take k (route_of plan.graph i)))) index in
-    record { inside = omega (arith, b, index); stands = omega (arith, p, l, rest) }
+    record { inside = omega (arith, at.inside, index); stands = omega (arith, at.stands, l, rest) }
 
 pub cursor_opens : (plan : PlanView) (i n : ℕ) → IsAt plan i n 0 (record { index = 0; rest = 0 })
 cursor_opens plan i n = record { inside = omega arith; stands = refl }
@@ -54,8 +52,7 @@ cursors_set plan ended places ended' places' cursors i next inside are same_ende
     each : (j : ℕ) (cursor : Cursor) → slice_get (set cursors i next) j ≡ Some cursor → IsAt plan j (get_or ended' j 0) (get_or places' j 0) cursor
     each j cursor here = elim (cases_eq j i) [
       | inl same ↦
-          (let l = are.tasks in
-          let is : cursor ≡ next = set_at cursors i j next cursor (omega (arith, l, inside)) here same in
+          (let is : cursor ≡ next = set_at cursors i j next cursor (omega (arith, are.tasks, inside)) here same in
           subst (λ (x : Cursor). IsAt plan j (get_or ended' j 0) (get_or places' j 0) x) (sym is)
           (subst (λ (k : ℕ). IsAt plan k (get_or ended' k 0) (get_or places' k 0) next) (sym same) at))
       | inr other ↦
@@ -76,8 +73,7 @@ firsts_set c ended ended' firsts i next inside are same_ended is = record {
         MatchOption kept (c.jobs j ≤ get_or ended' j 0) (IsFirstAt c j (get_or ended' j 0))
     each j kept here = elim (cases_eq j i) [
       | inl same ↦
-          (let l = are.tasks in
-          let its : kept ≡ next = set_at firsts i j next kept (omega (arith, l, inside)) here same in
+          (let its : kept ≡ next = set_at firsts i j next kept (omega (arith, are.tasks, inside)) here same in
           subst (λ (x : Option First). MatchOption x (c.jobs j ≤ get_or ended' j 0) (IsFirstAt c j (get_or ended' j 0))) (sym its)
           (subst (λ (k : ℕ). MatchOption next (c.jobs k ≤ get_or ended' k 0) (IsFirstAt c k (get_or ended' k 0))) (sym same) is))
       | inr other ↦
@@ -111,10 +107,10 @@ module _ (track : TrackView) (facts : HasPlanFacts (run_of track)) (firsts : Lis
     has = keeps.0
 
     in_places : task.0 < length track.state.places
-    in_places = (let l = is.sound.tagged.places in let t = has.task in omega (arith, l, t))
+    in_places = omega (arith, is.sound.tagged.places, has.task)
 
     in_ended : task.0 < length track.state.ended
-    in_ended = (let l = is.sound.tagged.ended in let t = has.task in omega (arith, l, t))
+    in_ended = omega (arith, is.sound.tagged.ended, has.task)
 
     -- the cursors after an action that does not end the job
     moved_cursors : (next : Cursor) → IsAt track.plan task.0 (get_or track.state.ended task.0 0) (get_or track.state.places task.0 0 + 1) next →
@@ -155,10 +151,9 @@ module _ (track : TrackView) (facts : HasPlanFacts (run_of track)) (firsts : Lis
     -- the half that is written is there
     pub written_in_tags : (edge : EdgeNo) (m : ℕ) (slot : SlotNo) → next_action (run_of track) track.state task.0 ≡ actions.Write edge m slot → slot.0 < length track.state.tags
     written_in_tags edge m slot its =
-        let t = is.sound.tagged.tags in
         let inside = facts.write_cell task.0 (first_unfinished track.state task.0) (get_or track.state.places task.0 0) m slot.0
         (record { job = record { task = has.task; job = has.job }; action = (edge, its) }) in
-        omega (arith, t, inside)
+        omega (arith, is.sound.tagged.tags, inside)
 
     pub end_kept : next_action (run_of track) track.state task.0 ≡ actions.End → (next : Option First) →
         MatchOption next ((run_of track).jobs task.0 ≤ get_or track.state.ended task.0 0 + 1) (IsFirstAt (run_of track) task.0 (get_or track.state.ended task.0 0 + 1)) →
@@ -193,7 +188,7 @@ module _ (track v : TrackView) (seen : track ≡ v) (firsts : List (Option First
 
     -- the place that is read is the task's
     place_read : (p : ℕ) → p ≡ get_or track.state.places task.0 p → p ≡ get_or track.state.places task.0 0
-    place_read p read = read ∙ get_or_default_zero track.state.places task.0 p (let l = is.sound.tagged.places in let t = keeps.0.task in omega (arith, l, t))
+    place_read p read = read ∙ get_or_default_zero track.state.places task.0 p (omega (arith, is.sound.tagged.places, keeps.0.task))
 
     writes : (edge : EdgeNo) (job : ℕ) (slot : SlotNo) → next_action (run_of v) v.state task.0 ≡ actions.Write edge job slot →
         next_action (run_of track) track.state task.0 ≡ actions.Write edge job slot
@@ -238,11 +233,9 @@ module _ (track v : TrackView) (seen : track ≡ v) (firsts : List (Option First
       -- the cursor that is read stands at the task's place
       pub stands_there : (p : ℕ) → p ≡ get_or track.state.places task.0 p → (cursor : Cursor) → cursor ≡ get_or cursors task.0 cursor → IsAt track.plan task.0 job p cursor
       stands_there p read cursor there =
-          let l = is.standing.tasks in
-          let inside = keeps.0.task in
           subst (λ (n : ℕ). IsAt track.plan task.0 n p cursor) (sym job_now)
           (subst (λ (q : ℕ). IsAt track.plan task.0 (first_unfinished track.state task.0) q cursor) (sym (place_read p read))
-          (is.standing.each task.0 cursor (slice_get_read cursors (length cursors) task.0 cursor refl (omega (arith, l, inside)) there)))
+          (is.standing.each task.0 cursor (slice_get_read cursors (length cursors) task.0 cursor refl (omega (arith, is.standing.tasks, keeps.0.task)) there)))
 
 -- what is kept of a task is its first unfinished job
 pub first_of : (c : RunConstants) (s : ExecState) (j : ℕ) (kept : Option First) → j < c.tasks →
@@ -262,7 +255,7 @@ push_cases [] y x (suc j) h = absurd cc
 push_cases (z ∷ xs) y x zero h = inl h
 push_cases (z ∷ xs) y x (suc j) h = elim (push_cases xs y x j h) [
   | inl before ↦ inl before
-  | inr last ↦ inr (let e = last.0 in omega (arith, e), last.1)
+  | inr last ↦ inr (omega (arith, last.0), last.1)
 ]
 
 pub zeros : (n j : ℕ) → ◌≡◌ {A = ℕ} (get_or (replicate n 0) j 0) 0
@@ -278,7 +271,7 @@ firsts_more P before after i next is long each here j kept at =
     elim (push_cases before next kept j (ap (λ (xs : List (Option First)). slice_get xs j) (sym is) ∙ at)) [
       | inl old ↦ each j kept old
       | inr new ↦
-          (let e : i ≡ j = (let l = new.0 in omega (arith, l, long)) in
+          (let e : i ≡ j = omega (arith, new.0, long) in
           subst (λ (x : Option First). P j x) new.1 (subst (λ (k : ℕ). P k next) e here))
     ]
 

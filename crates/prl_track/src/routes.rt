@@ -11,7 +11,7 @@ use std::alloc::{AllocError, AllocFailed, Global};
 use std::marker::Model;
 
 /// An edge that the jobs of a task go through.
-#[derive(Clone, Copy, PartialEq, Eq)]
+#[derive(Clone, Copy)]
 pub enum Access {
     /// They read on it.
     Reads(EdgeNo),
@@ -20,7 +20,7 @@ pub enum Access {
 }
 
 /// Where a job stands: past so many edges of its task's route, and then so many actions.
-#[derive(Clone, Copy, PartialEq, Eq)]
+#[derive(Clone, Copy)]
 pub struct Cursor {
     pub index: usize,
     pub rest: u32,
@@ -40,7 +40,7 @@ impl Cursor {
 }
 
 /// An action, and where it stands.
-#[derive(Clone, Copy, PartialEq, Eq)]
+#[derive(Clone, Copy)]
 pub struct NextAction {
     pub cursor: Cursor,
     pub action: Action,

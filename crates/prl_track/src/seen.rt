@@ -4,14 +4,14 @@ use prl_base::{CellNo, EdgeNo, TaskNo, Value};
 use prl_plan::{Action, Rule};
 
 /// An action that a job did.
-#[derive(Clone, Copy, PartialEq, Eq)]
+#[derive(Clone, Copy)]
 pub struct Acted {
     pub job: u64,
     pub action: Action,
 }
 
 /// What an event did.
-#[derive(Clone, Copy, Debug, PartialEq, Eq)]
+#[derive(Clone, Copy, PartialEq, Eq)]
 pub enum Seen {
     /// The clock shows this tick.
     Ticked(u64),
@@ -61,7 +61,7 @@ pub struct Illegal {
 }
 
 /// A job of the horizon that has not ended.
-#[derive(Clone, Copy, Debug, PartialEq, Eq)]
+#[derive(Clone, Copy, PartialEq, Eq)]
 pub struct Unfinished {
     pub task: TaskNo,
     pub job: u64,

@@ -1,6 +1,6 @@
 //! Tracks: the state of an executive without values.
 
-ghost use Rattle.std.specs.Prelude.{◌≡◌, ◌+◌, ◌<◌, ◌≤◌, ℕ, length, slice_index, IfOk, IfErr, MatchOption, MatchResult};
+ghost use Rattle.std.specs.Prelude.{◌≡◌, ◌+◌, ◌<◌, ◌≤◌, ℕ, length, replicate, slice_index, IfOk, IfErr, MatchOption, MatchResult};
 ghost use Rattle.std.specs.Bool.{OnTrue, OnFalse};
 ghost use Rattle.prl_base.specs.declared.numbers.EdgeNo.{EdgeNo};
 ghost use Rattle.prl_plan.specs.declared.events.Action.TheVariants as actions;
@@ -11,7 +11,7 @@ ghost use Rattle.prl_plan.specs.Runs.{opening, moved, next_action, after_action,
 ghost use Rattle.prl_track.specs.code.Tests.{Overtakes, IsNotEarlier, IsDueFirst, IsInTime};
 ghost use Rattle.prl_track.specs.code.Firsts.{IsFirstAt, IsFirstOf, AreFirsts};
 ghost use Rattle.prl_track.specs.code.Cursors.{IsReading};
-ghost use Rattle.prl_track.specs.Routes.{IsAt};
+ghost use Rattle.prl_track.specs.Routes.{AreRoutes, IsAt};
 ghost use Rattle.prl_track.specs.code.Nexts.{IsChoice};
 
 use crate::firsts::{Chosen, First};
@@ -98,6 +98,36 @@ fn all_firsts(
     Ok(firsts)
 }
 
+/// The first job of each task, and the edges that its jobs go through.
+fn opened_lists(
+    alloc: Global,
+    plan: &Plan,
+    placed: &Placed<'_>,
+    horizon: Horizon,
+) -> Result<(Vec<Option<First>>, Routes), AllocError>
+    requires horizon { IsHorizon plan.now horizon }
+    requires windows { length placed.now.windows ≡ length plan.now.graph.tasks }
+    requires facts { HasPlanFacts (constants_on plan.now placed.now horizon) }
+    ensures firsts { IfOk result (λ opened. AreFirsts (constants_on plan.now placed.now horizon)
+        (opening (constants_on plan.now placed.now horizon)).ended opened.0.items) }
+    ensures routes { IfOk result (λ opened. AreRoutes plan.now.graph opened.1) }
+{
+    let firsts = all_firsts(alloc, plan, placed, horizon)?;
+    Ok((firsts, Routes::new(alloc, plan)?))
+}
+
+/// For each of so many tasks that no job has ended, the first place, and where the action there stands.
+fn starts(alloc: Global, tasks: usize) -> Result<(Vec<u64>, Vec<u32>, Vec<Cursor>), AllocError>
+    ensures ended { IfOk result (λ starts. starts.0.items ≡ replicate tasks 0) }
+    ensures places { IfOk result (λ starts. starts.1.items ≡ replicate tasks 0) }
+    ensures cursors { IfOk result (λ starts. starts.2.items ≡ replicate tasks (record { index = 0; rest = 0 })) }
+{
+    let ended = vec![in alloc; 0; tasks]?;
+    let places = vec![in alloc; 0; tasks]?;
+    let cursors = vec![in alloc; Cursor { index: 0, rest: 0 }; tasks]?;
+    Ok((ended, places, cursors))
+}
+
 impl<'a> Track<'a> {
     ghost use Rattle.prl_track.specs.Tracks.{run_of, opened, opened_on, IsNext};
 
@@ -125,24 +155,20 @@ impl<'a> Track<'a> {
     {
         plan_facts(plan, horizon);
         let tasks = plan.graph().tasks.len();
-        let slots = 2 * plan.total() as usize;
-        let firsts = all_firsts(alloc, plan, &placed, horizon)?;
-        let routes = Routes::new(alloc, plan)?;
-        let cursors = vec![in alloc; Cursor { index: 0, rest: 0 }; tasks]?;
-        let ended = vec![in alloc; 0; tasks]?;
-        let places = vec![in alloc; 0; tasks]?;
-        let tags = vec![in alloc; 0; slots]?;
+        let opened = opened_lists(alloc, plan, &placed, horizon)?;
+        let starts = starts(alloc, tasks)?;
+        let tags = vec![in alloc; 0; 2 * plan.total() as usize]?;
         Ok(Track {
             plan,
             placed,
             horizon,
             now: 0,
-            ended,
-            places,
+            ended: starts.0,
+            places: starts.1,
             tags,
-            firsts,
-            cursors,
-            routes,
+            firsts: opened.0,
+            cursors: starts.2,
+            routes: opened.1,
         })
     }
 

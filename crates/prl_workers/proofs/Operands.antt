@@ -28,7 +28,7 @@ at xs p = get_or xs p actions.End
 
 operands_append : (xs ys : List Action) → operands_in (xs ++ ys) ≡ operands_in xs + operands_in ys
 operands_append [] ys = omega arith
-operands_append (x ∷ xs) ys = (let e = operands_append xs ys in omega (arith, e))
+operands_append (x ∷ xs) ys = omega (arith, operands_append xs ys)
 
 take_none : (n : ℕ) → ◌≡◌ {A = List Action} (take n []) []
 take_none zero = refl
@@ -36,11 +36,10 @@ take_none (suc n) = refl
 
 operands_after : (xs : List Action) (p : ℕ) → operands_in (take (suc p) xs) ≡ operands_in (take p xs) + completes (get_or xs p actions.End)
 operands_after [] p =
-    let rest = ap operands_in (take_none p) in
     let past : completes (get_or [] p actions.End) ≡ 0 = refl in
-    omega (arith, rest, past)
+    omega (arith, ap operands_in (take_none p), past)
 operands_after (x ∷ xs) zero = omega arith
-operands_after (x ∷ xs) (suc p) = (let e = operands_after xs p in omega (arith, e))
+operands_after (x ∷ xs) (suc p) = omega (arith, operands_after xs p)
 
 -- one action more
 pub operands_next : (xs : List Action) (p : ℕ) → operands_in (take (p + 1) xs) ≡ operands_in (take p xs) + completes (get_or xs p actions.End)
@@ -52,16 +51,12 @@ both_operands : (first rest : List Action) (ports p : ℕ) → ((k : ℕ) → k 
 both_operands first rest ports p part whole parts below =
     elim (cases_lt p (length first)) [
       | inl inside ↦
-          (let front = ap operands_in (take-append-le p first rest (omega (arith, inside))) in
-          let none = part p inside in
-          omega (arith, front, none))
+          omega (arith, ap operands_in (take-append-le p first rest (omega (arith, inside))), part p inside)
       | inr past ↦
-          (let l = length-append first rest in
-          let split : p ≡ length first + (p - length first) = omega (arith, past) in
-          let cut = ap (λ (k : ℕ). operands_in (take k (first ++ rest))) split ∙ ap operands_in (take-append-add first rest (p - length first)) in
+          (let split : p ≡ length first + (p - length first) = omega (arith, past) in
           let sum = operands_append first (take (p - length first) rest) in
-          let less = parts (p - length first) (omega (arith, below, l, past)) in
-          omega (arith, cut, sum, whole, less))
+          let less = parts (p - length first) (omega (arith, below, length-append first rest, past)) in
+          omega (arith, ap (λ (k : ℕ). operands_in (take k (first ++ rest))) split ∙ ap operands_in (take-append-add first rest (p - length first)), sum, whole, less))
     ]
 
 both_read : (first rest : List Action) (p : ℕ) → ((k : ℕ) → k < length first → Reads (get_or first k actions.End)) →
@@ -70,8 +65,7 @@ both_read first rest p part parts below =
     elim (cases_lt p (length first)) [
       | inl inside ↦ subst Reads (sym (get_or_append_left first rest actions.End p inside)) (part p inside)
       | inr past ↦
-          (let l = length-append first rest in
-          subst Reads (sym (get_or-append_right first rest p actions.End past)) (parts (p - length first) (omega (arith, below, l, past))))
+          (subst Reads (sym (get_or-append_right first rest p actions.End past)) (parts (p - length first) (omega (arith, below, length-append first rest, past))))
     ]
 
 module _ (plan : PlanView) (i n : ℕ) where
@@ -80,12 +74,12 @@ module _ (plan : PlanView) (i n : ℕ) where
   part_of_reading e edge (operands.Const c) zero below = refl
   part_of_reading e edge (operands.Const c) (suc p) below = absurd (omega (arith, below))
   part_of_reading e edge (operands.From m) zero below = refl
-  part_of_reading e edge (operands.From m) (suc zero) below = (let z = low_is_even (cell_of plan e m) in omega (arith, z))
+  part_of_reading e edge (operands.From m) (suc zero) below = omega (arith, low_is_even (cell_of plan e m))
   part_of_reading e edge (operands.From m) (suc (suc p)) below = absurd (omega (arith, below))
 
   whole_reading : (e : ℕ) (edge : Edge) (operand : Operand) → operands_in (reading plan e edge operand) ≡ 1
   whole_reading e edge (operands.Const c) = refl
-  whole_reading e edge (operands.From m) = (let y = low_is_even (cell_of plan e m) in let z = high_is_odd (cell_of plan e m) in omega (arith, y, z))
+  whole_reading e edge (operands.From m) = omega (arith, low_is_even (cell_of plan e m), high_is_odd (cell_of plan e m))
 
   reading_reads : (e : ℕ) (edge : Edge) (operand : Operand) (p : ℕ) → p < length (reading plan e edge operand) → Reads (at (reading plan e edge operand) p)
   reading_reads e edge (operands.Const c) zero below = tt
@@ -103,9 +97,7 @@ module _ (plan : PlanView) (i n : ℕ) where
         | inl here ↦
             (subst (λ (b : Bool). operands_in (cond b (reading plan e edge (operand_of edge n)) [] ++ reads_of plan i n (e + 1) edges)
             ≡ length (cond b (edge.ty ∷ port_types edges i) (port_types edges i))) (sym (test_same edge.to.0 i here))
-            (let s = operands_append (reading plan e edge (operand_of edge n)) (reads_of plan i n (e + 1) edges) in
-            let one = whole_reading e edge (operand_of edge n) in
-            omega (arith, s, one, rest)))
+            omega (arith, operands_append (reading plan e edge (operand_of edge n)) (reads_of plan i n (e + 1) edges), whole_reading e edge (operand_of edge n), rest))
         | inr other ↦
             (subst (λ (b : Bool). operands_in (cond b (reading plan e edge (operand_of edge n)) [] ++ reads_of plan i n (e + 1) edges)
             ≡ length (cond b (edge.ty ∷ port_types edges i) (port_types edges i))) (sym (test_differs edge.to.0 i other)) rest)
@@ -209,23 +201,18 @@ module _ (plan : PlanView) (i n : ℕ) where
   pub port_inside : (p : ℕ) → Reads (at (actions_of plan i n) p) → operands_before (actions_of plan i n) p < length (port_types plan.graph.edges i)
   port_inside p is =
       let early = read_is_early p is in
-      let same = early_operands p (omega (arith, early)) in
-      let part = part_of_reads 0 plan.graph.edges p early in
-      omega (arith, same, part)
+      omega (arith, early_operands p (omega (arith, early)), part_of_reads 0 plan.graph.edges p early)
 
   -- the last operand comes with the last read
   pub last_operand : (p : ℕ) → Reads (at (actions_of plan i n) p) →
       operands_before (actions_of plan i n) p + completes (at (actions_of plan i n) p) ≡ length (port_types plan.graph.edges i) →
       p + 1 ≡ length (reads_of plan i n 0 plan.graph.edges)
   last_operand p is all =
-      let early = read_is_early p is in
       elim (cases_lt (p + 1) (length (reads_of plan i n 0 plan.graph.edges))) [
         | inl before ↦
-            absurd (let next = operands_next (actions_of plan i n) p in
-            let same = early_operands (p + 1) (omega (arith, before)) in
-            let part = part_of_reads 0 plan.graph.edges (p + 1) before in
-            omega (arith, next, same, part, all))
-        | inr at_end ↦ omega (arith, early, at_end)
+            absurd (let part = part_of_reads 0 plan.graph.edges (p + 1) before in
+            omega (arith, operands_next (actions_of plan i n) p, early_operands (p + 1) (omega (arith, before)), part, all))
+        | inr at_end ↦ omega (arith, read_is_early p is, at_end)
       ]
 
   -- and no other does
@@ -243,12 +230,4 @@ module _ (plan : PlanView) (i n : ℕ) where
             let whole = ap (λ (k : ℕ). operands_in (take k (reads_of plan i n 0 plan.graph.edges))) here ∙ ap operands_in (take-length (reads_of plan i n 0 plan.graph.edges)) in
             let count = whole_reads 0 plan.graph.edges in
             absurd (some (omega (arith, next, same, whole, count))))
-      ]
-
-  -- where there is no port there is no read
-  pub no_ports : length (port_types plan.graph.edges i) ≡ 0 → length (reads_of plan i n 0 plan.graph.edges) ≡ 0
-  no_ports none =
-      elim (cases_lt 0 (length (reads_of plan i n 0 plan.graph.edges))) [
-        | inl some ↦ absurd (let part = part_of_reads 0 plan.graph.edges 0 some in omega (arith, part, none))
-        | inr empty ↦ omega (arith, empty)
       ]

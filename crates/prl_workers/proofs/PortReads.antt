@@ -61,12 +61,12 @@ module _ (v : JobValues) (i n : ℕ) where
   rest_edges x (y ∷ edges) follow q same less =
       one_edge y edges q
       (λ at. elim follow.0 [
-        | inl next ↦ (let t = next.0 in let p = next.1 in let s = same (omega (arith, t, at)) in omega (arith, s, p))
-        | inr later ↦ (let t = later.0 in let p = later.1 in let s = less (omega (arith, t, at)) in omega (arith, s, p))
+        | inl next ↦ omega (arith, same (omega (arith, next.0, at)), next.1)
+        | inr later ↦ omega (arith, less (omega (arith, later.0, at)), later.1)
       ])
       (λ under. elim follow.0 [
-        | inl next ↦ (let t = next.0 in less (omega (arith, t, under)))
-        | inr later ↦ (let t = later.0 in less (omega (arith, t, under)))
+        | inl next ↦ less (omega (arith, next.0, under))
+        | inr later ↦ less (omega (arith, later.0, under))
       ])
       (λ r. rest_edges y edges follow.1 r)
 
@@ -83,16 +83,14 @@ module _ (v : JobValues) (i n : ℕ) where
       slice_get (reads_over v edges i n) edge.port ≡ Some (read_on v edge n)
   read_at_port edges order e edge stands to =
       let found = all_edges edges order e edge stands to in
-      let port : edge.port ≡ found.0 = (let p = found.1 in omega (arith, p)) in
+      let port : edge.port ≡ found.0 = omega (arith, found.1) in
       ap (slice_get (reads_over v edges i n)) port ∙ found.2
 
   -- a task with an edge has a port
   pub edge_has_port : (edges : List Edge) → AreInOrder edges → (e : ℕ) (edge : Edge) → slice_get edges e ≡ Some edge → edge.to.0 ≡ i →
       edge.port < length (port_types edges i)
   edge_has_port edges order e edge stands to =
-      let within = slice_get_within (reads_over v edges i n) edge.port (read_on v edge n) (read_at_port edges order e edge stands to) in
-      let count = reads_counted v edges i n in
-      omega (arith, within, count)
+      omega (arith, slice_get_within (reads_over v edges i n) edge.port (read_on v edge n) (read_at_port edges order e edge stands to), reads_counted v edges i n)
 
 -- lists with the same elements
 pub same_lists : {A : Type 0} (xs ys : List A) → length xs ≡ length ys → ((k : ℕ) → k < length xs → slice_get xs k ≡ slice_get ys k) → xs ≡ ys

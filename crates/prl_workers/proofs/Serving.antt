@@ -50,8 +50,7 @@ module _ (plan : PlanView) (horizon : Horizon) (bodies : List CheckedBody) (rows
   has_port : (k : ℕ) → (task_at plan.graph i).kind ≡ kinds.Actuator k → 0 < length (port_types plan.graph.edges i)
   has_port k kind =
       let one = (laws.whole.graph.actuators i job.task (ap is_actuator kind)).one in
-      let port = edge_has_port (job_values plan.graph bodies rows horizon.until) i 0 plan.graph.edges laws.whole.graph.order one.0 one.1 one.2 one.3 in
-      omega (arith, port)
+      omega (arith, edge_has_port (job_values plan.graph bodies rows horizon.until) i 0 plan.graph.edges laws.whole.graph.order one.0 one.1 one.2 one.3)
 
   -- a low half is read
   pub low_read : (port : ℕ) (e : EdgeNo) (m : ℕ) (slot : SlotNo) → get_or (actions_of plan i n) p actions.End ≡ actions.Read port e m slot → completes (actions.Read port e m slot) ≡ 0 →
@@ -146,22 +145,18 @@ module _ (plan : PlanView) (horizon : Horizon) (bodies : List CheckedBody) (rows
 
     out_inside : (steps : ℕ) (work : Work) → IsWork plan bodies horizon.until (job_values plan.graph bodies rows horizon.until) i steps work → port_of_edge.1 < outs_of bodies work
     out_inside steps (works.Sensor k) fits =
-        let none = source_is.2 (ap (λ (j : ℕ). is_sensor (task_at plan.graph j).kind) port_of_edge.3 ∙ ap is_sensor fits) in
-        omega (arith, none)
+        omega (arith, source_is.2 (ap (λ (j : ℕ). is_sensor (task_at plan.graph j).kind) port_of_edge.3 ∙ ap is_sensor fits))
     out_inside steps (works.Node word machine) fits =
-        let named : body_named bodies word ≡ Some fits.2.0 = ap (body_named bodies) fits.1 ∙ fits.2.1 in
-        let fitting = job_laws.fits fits.0.0 fits.0.1 fits.2.0 fits.2.1 in
         let output : HasOutput (producers.Port port_of_edge.0 port_of_edge.1) (output_types fits.2.0) (edge_at plan.graph edge.0).ty =
         subst (λ (f : Producer). HasOutput f (output_types fits.2.0) (edge_at plan.graph edge.0).ty) port_of_edge.2
-        (fitting.outputs edge.0 (edge_at plan.graph edge.0) (edge_stands edge.0 write_fits.0) write_fits.1) in
-        let inside = slice_get_within (output_types fits.2.0) port_of_edge.1 (edge_at plan.graph edge.0).ty output in
-        let outs : outs_of bodies (works.Node word machine) ≡ length (output_types fits.2.0) = ap outs_with named in
-        omega (arith, inside, outs)
+        ((job_laws.fits fits.0.0 fits.0.1 fits.2.0 fits.2.1).outputs edge.0 (edge_at plan.graph edge.0) (edge_stands edge.0 write_fits.0) write_fits.1) in
+        let outs : outs_of bodies (works.Node word machine) ≡ length (output_types fits.2.0) = ap outs_with (ap (body_named bodies) fits.1 ∙ fits.2.1) in
+        omega (arith, slice_get_within (output_types fits.2.0) port_of_edge.1 (edge_at plan.graph edge.0).ty output, outs)
     out_inside steps (works.Actuator column) fits = absurd (no_actuator fits.0.0 fits.0.1)
 
     -- the output of the edge is there
     pub output_there : port_of_edge.1 < length begun.outputs.items
-    output_there = let inside = out_inside (n + 1) begun.work ran.work in let room = ran.room in omega (arith, inside, room)
+    output_there = omega (arith, out_inside (n + 1) begun.work ran.work, ran.room)
 
     outputs_are : (outputs : List Value) (steps : ℕ) (work : Work) → IsWork plan bodies horizon.until (job_values plan.graph bodies rows horizon.until) i steps work →
         HasGiven (job_values plan.graph bodies rows horizon.until) i n outputs work → outputs ≡ job_values plan.graph bodies rows horizon.until i n

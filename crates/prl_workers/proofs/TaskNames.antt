@@ -11,32 +11,25 @@ use Rattle.prl_plan.specs.declared.graphs.Task.{Task}
 use Rattle.prl_plan.specs.declared.graphs.Kind.TheVariants as kinds
 use Rattle.prl_values.specs.Vocabulary.{port_types, word_of}
 
--- `@` is no byte of a word
-apart : (b : ℕ) → is_word_byte b ≡ true → eqb b 64 ≡ false
-apart b is = go (eqb b 64) refl
+-- `@` is no byte that passes a test which it does not pass itself
+apart : (test : ℕ → Bool) → test 64 ≡ false → (b : ℕ) → test b ≡ true → eqb b 64 ≡ false
+apart test none b is = go (eqb b 64) refl
   where
     go : (t : Bool) → eqb b 64 ≡ t → eqb b 64 ≡ false
     go false e = e
-    go true e = absurd (false≢true (subst (λ n. is_word_byte n ≡ true) (eqb-true b 64 e) is))
-
-apart_start : (b : ℕ) → is_word_start b ≡ true → eqb b 64 ≡ false
-apart_start b is = go (eqb b 64) refl
-  where
-    go : (t : Bool) → eqb b 64 ≡ t → eqb b 64 ≡ false
-    go false e = e
-    go true e = absurd (false≢true (subst (λ n. is_word_start n ≡ true) (eqb-true b 64 e) is))
+    go true e = absurd (false≢true (sym none ∙ subst (λ n. test n ≡ true) (eqb-true b 64 e) is))
 
 word_before : (bytes rest : List ℕ) → list_all is_word_byte bytes ≡ true → word_of (bytes ++ 64 ∷ rest) ≡ bytes
 word_before [] rest all = refl
 word_before (b ∷ bytes) rest all =
     let parts = and_parts (is_word_byte b) (list_all is_word_byte bytes) all in
-    ap (λ t. cond t [] (b ∷ word_of (bytes ++ 64 ∷ rest))) (apart b parts.0) ∙ ap (λ l. b ∷ l) (word_before bytes rest parts.1)
+    ap (λ t. cond t [] (b ∷ word_of (bytes ++ 64 ∷ rest))) (apart is_word_byte refl b parts.0) ∙ ap (λ l. b ∷ l) (word_before bytes rest parts.1)
 
 word_of_node : (name rest : List ℕ) → IsName name → word_of (name ++ 64 ∷ rest) ≡ name
 word_of_node [] rest is = absurd (false≢true is.0)
 word_of_node (b ∷ bytes) rest is =
     let parts = and_parts (is_word_start b) (list_all is_word_byte bytes) is.0 in
-    ap (λ t. cond t [] (b ∷ word_of (bytes ++ 64 ∷ rest))) (apart_start b parts.0) ∙ ap (λ l. b ∷ l) (word_before bytes rest parts.1)
+    ap (λ t. cond t [] (b ∷ word_of (bytes ++ 64 ∷ rest))) (apart is_word_start refl b parts.0) ∙ ap (λ l. b ∷ l) (word_before bytes rest parts.1)
 
 -- it is a name
 pub node_word : (kind : Kind) (k : ℕ) (name : List ℕ) → kind ≡ kinds.Node k → IsTaskName kind name → IsName (word_of name)

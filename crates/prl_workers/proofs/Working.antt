@@ -42,7 +42,7 @@ before_run mark p below = go (leb mark p) refl
   where
     go : (b : Bool) → leb mark p ≡ b → leb mark p ≡ false
     go false e = e
-    go true e = absurd (let l = leb-true mark p e in omega (arith, l, below))
+    go true e = absurd (omega (arith, leb-true mark p e, below))
 
 after_run : (mark p : ℕ) → mark ≤ p → leb mark p ≡ true
 after_run mark p within = le-leb mark p within
@@ -69,7 +69,7 @@ inside_rows rows k n value at =
     let within = slice_get_within (rows_of rows k) n value at in (
       elim (cases_lt k (length rows)) [
         | inl inside ↦ inside
-        | inr past ↦ absurd (let none = ap length (get_or_past rows k [] past) in omega (arith, none, within))
+        | inr past ↦ absurd (omega (arith, ap length (get_or_past rows k [] past), within))
       ],
       within,
     )
@@ -88,25 +88,18 @@ module _ (plan : PlanView) (bodies : List CheckedBody) (rows : Rows) (until : �
       let body : CheckedBody = is.2.0 in
       let named : body_named bodies word ≡ Some is.2.0 = ap (body_named bodies) is.1 ∙ is.2.1 in
       let fits = laws.fits is.0.0 is.0.1 is.2.0 is.2.1 in
-      let typed = laws.registers is.2.0 is.2.1 fits in
-      let steps : machine.steps ≡ n = ap (λ (m : MachineState). m.steps) is.2.2 in
-      let small = laws.small in (
+      let steps : machine.steps ≡ n = ap (λ (m : MachineState). m.steps) is.2.2 in (
         is.2.0,
         named,
         record {
-          registers = ap (λ (m : MachineState). map type_of m.registers) is.2.2 ∙ typed;
+          registers = ap (λ (m : MachineState). map type_of m.registers) is.2.2 ∙ (laws.registers is.2.0 is.2.1 fits);
           inputs = ap (map type_of) whole ∙ laws.reads ∙ sym fits.inputs;
           room = room ∙ ap outs_with named;
-          steps = omega (arith, steps, small);
+          steps = omega (arith, steps, laws.small);
         },
       )
   can_run (works.Actuator column) is operands outputs whole room_ some =
-      let room = is.1 in
-      let inside = laws.counted in
-      let count = counted_reads in
-      let port = some is.0.0 is.0.1 in
-      let l = ap length whole in
-      (omega (arith, room, inside), omega (arith, l, count, port))
+      (omega (arith, is.1, laws.counted), omega (arith, ap length whole, counted_reads, some is.0.0 is.0.1))
 
   -- what a run on all operands leaves
   abbrev pub HasDone : List Value → Work → Type 0
@@ -126,9 +119,8 @@ module _ (plan : PlanView) (bodies : List CheckedBody) (rows : Rows) (until : �
       let named : body_named bodies word ≡ Some is.2.0 = ap (body_named bodies) is.1 ∙ is.2.1 in
       let same : runs.2.0 ≡ is.2.0 = (let e : Some runs.2.0 ≡ Some is.2.0 = sym runs.2.1 ∙ named in cc) in
       let steps_to : StepsTo is.2.0 operands machine runs.0 outputs = subst (λ (b : CheckedBody). StepsTo b operands machine runs.0 outputs) same runs.2.2 in
-      let state : machine ≡ record { registers = registers_before is.2.0 (reads_of_job plan.graph v i) n; steps = n } = is.2.2 in
-      let registers : machine.registers ≡ registers_before is.2.0 (reads_of_job plan.graph v i) n = ap (λ (m : MachineState). m.registers) state in
-      let steps : machine.steps ≡ n = ap (λ (m : MachineState). m.steps) state in
+      let registers : machine.registers ≡ registers_before is.2.0 (reads_of_job plan.graph v i) n = ap (λ (m : MachineState). m.registers) is.2.2 in
+      let steps : machine.steps ≡ n = ap (λ (m : MachineState). m.steps) is.2.2 in
       let next : suc n ≡ n + 1 = omega arith in
       let step = ap (λ (xs : List Value). body_step is.2.0 xs machine.registers) whole
       ∙ ap (λ (xs : List Value). body_step is.2.0 (reads_of_job plan.graph v i n) xs) registers in
@@ -161,7 +153,7 @@ module _ (plan : PlanView) (bodies : List CheckedBody) (rows : Rows) (until : �
       )
     where
       inside : n < length column.items
-      inside = (let room = is.1 in let c = laws.counted in omega (arith, room, c))
+      inside = omega (arith, is.1, laws.counted)
 
       told : (m : ℕ) → m < n + 1 → slice_get (runs.0).items m ≡ slice_get (reads_of_job plan.graph v i m) 0
       told m below =
@@ -180,44 +172,37 @@ module _ (plan : PlanView) (bodies : List CheckedBody) (rows : Rows) (until : �
       ((k : ℕ) → k < q → slice_get operands k ≡ slice_get (reads_of_job plan.graph v i n) k) → slice_get (reads_of_job plan.graph v i n) q ≡ Some value →
       set operands q value ≡ reads_of_job plan.graph v i n
   filled operands q value long last before its =
-      let count = counted_reads in
-      let same = length-set operands q value in
-      same_lists (set operands q value) (reads_of_job plan.graph v i n) (omega (arith, count, same, long)) each
+      same_lists (set operands q value) (reads_of_job plan.graph v i n) (omega (arith, counted_reads, length-set operands q value, long)) each
     where
       each : (k : ℕ) → k < length (set operands q value) → slice_get (set operands q value) k ≡ slice_get (reads_of_job plan.graph v i n) k
       each k below =
-          let same = length-set operands q value in
           elim (cases_eq k q) [
             | inl here ↦
                 (ap (slice_get (set operands q value)) here ∙ slice_get_set_same operands q value (omega (arith, last)) ∙ sym its
                 ∙ ap (slice_get (reads_of_job plan.graph v i n)) (sym here))
-            | inr other ↦ slice_get_set_other operands q k value other ∙ before k (omega (arith, below, same, last, other))
+            | inr other ↦ slice_get_set_other operands q k value other ∙ before k (omega (arith, below, length-set operands q value, last, other))
           ]
 
   module _ (p : ℕ) (worker : Worker) (fit : IsWorker plan bodies until v i n p worker) where
     -- a worker whose job has a read to do has not run
     unrun : p < length (reads_of plan i n 0 plan.graph.edges) → worker.ran ≡ false
     unrun early =
-        let m = mark_of (length (reads_of plan i n 0 plan.graph.edges)) in
-        let least = m.0 in
-        fit.ran ∙ before_run (place_of_run plan i n) p (omega (arith, early, least))
+        fit.ran ∙ before_run (place_of_run plan i n) p (omega (arith, early, (mark_of (length (reads_of plan i n 0 plan.graph.edges))).0))
 
     still_unrun : p + 1 < length (reads_of plan i n 0 plan.graph.edges) → worker.ran ≡ leb (place_of_run plan i n) (p + 1)
     still_unrun early =
-        let m = mark_of (length (reads_of plan i n 0 plan.graph.edges)) in
-        let least = m.0 in
+        let least = (mark_of (length (reads_of plan i n 0 plan.graph.edges))).0 in
         unrun (omega (arith, early)) ∙ sym (before_run (place_of_run plan i n) (p + 1) (omega (arith, early, least)))
 
     now_work : worker.ran ≡ false → IsWork plan bodies until v i n worker.work
-    now_work unrun =
-        same_work plan bodies until v i (n + once worker.ran) n worker.work worker.work (let o : once worker.ran ≡ 0 = ap once unrun in omega (arith, o)) refl fit.work
+    now_work unrun = same_work plan bodies until v i (n + once worker.ran) n worker.work worker.work (omega (arith, ap once unrun)) refl fit.work
 
     -- a read of a low half
     pub low_passed : Reads (get_or (actions_of plan i n) p actions.End) → completes (get_or (actions_of plan i n) p actions.End) ≡ 0 →
         IsWorker plan bodies until v i n (p + 1) worker
     low_passed is none = record {
       ports = fit.ports;
-      taken = λ q below. fit.taken q (let next = operands_next (actions_of plan i n) p in omega (arith, next, none, below));
+      taken = λ q below. fit.taken q (omega (arith, operands_next (actions_of plan i n) p, none, below));
       room = fit.room;
       ran = still_unrun early;
       given = fit.given;
@@ -225,13 +210,13 @@ module _ (plan : PlanView) (bodies : List CheckedBody) (rows : Rows) (until : �
     }
       where
         early : p + 1 < length (reads_of plan i n 0 plan.graph.edges)
-        early = earlier_operand plan i n p is (λ all. (let part = port_inside plan i n p is in omega (arith, all, none, part)))
+        early = earlier_operand plan i n p is (λ all. omega (arith, all, none, port_inside plan i n p is))
 
     module _ (is : Reads (get_or (actions_of plan i n) p actions.End)) (whole : completes (get_or (actions_of plan i n) p actions.End) ≡ 1)
         (q : ℕ) (port : operands_before (actions_of plan i n) p ≡ q) (value : Value) (its : slice_get (reads_of_job plan.graph v i n) q ≡ Some value)
         (consumes : (k : ℕ) → (task_at plan.graph i).kind ≡ kinds.Sensor k → ⊥) where
       pub port_there : q < length worker.operands.items
-      port_there = (let part = port_inside plan i n p is in let l = fit.ports in omega (arith, part, l, port))
+      port_there = omega (arith, port_inside plan i n p is, fit.ports, port)
 
       before : (k : ℕ) → k < q → slice_get worker.operands.items k ≡ slice_get (reads_of_job plan.graph v i n) k
       before k below = fit.taken k (omega (arith, below, port))
@@ -246,7 +231,7 @@ module _ (plan : PlanView) (bodies : List CheckedBody) (rows : Rows) (until : �
       ready_to_take last = (
         fit.room,
         can_run worker.work (now_work (unrun early)) (set worker.operands.items q value) worker.outputs.items (all_there last) fit.room
-            (λ k is_actuator. (let there = port_there in let l = fit.ports in omega (arith, there, l))),
+            (λ k is_actuator. omega (arith, port_there, fit.ports)),
       )
 
       put : (k : ℕ) → k < operands_before (actions_of plan i n) (p + 1) →
@@ -308,22 +293,16 @@ module _ (plan : PlanView) (bodies : List CheckedBody) (rows : Rows) (until : �
       nothing_read : worker.ran ≡ false → (length (reads_of plan i n 0 plan.graph.edges) ≡ 0) × (p ≡ 0)
       nothing_read unrun =
           let below = leb-false (place_of_run plan i n) p (sym fit.ran ∙ unrun) in
-          let m = mark_of (length (reads_of plan i n 0 plan.graph.edges)) in
-          let past = late in
-          elim m.2 [
-            | inl none ↦ (none, (let one : max (length (reads_of plan i n 0 plan.graph.edges)) 1 ≡ 1 = ap (λ (k : ℕ). max k 1) none in omega (arith, below, one)))
-            | inr same ↦ absurd (omega (arith, below, same, past))
+          elim (mark_of (length (reads_of plan i n 0 plan.graph.edges))).2 [
+            | inl none ↦ (none, omega (arith, below, ap (λ (k : ℕ). max k 1) none))
+            | inr same ↦ absurd (omega (arith, below, same, late))
           ]
 
       no_operand : worker.ran ≡ false → worker.operands.items ≡ reads_of_job plan.graph v i n
       no_operand unrun =
-          let none = (nothing_read unrun).0 in
-          let count = whole_reads plan i n 0 plan.graph.edges in
-          let zero_count = ap operands_in (no_operands (reads_of plan i n 0 plan.graph.edges) none) in
-          let l = fit.ports in
-          let c = counted_reads in
-          same_lists worker.operands.items (reads_of_job plan.graph v i n) (omega (arith, l, c))
-          (λ k below. absurd (omega (arith, below, l, count, zero_count)))
+          let zero_count = ap operands_in (no_operands (reads_of plan i n 0 plan.graph.edges) ((nothing_read unrun).0)) in
+          same_lists worker.operands.items (reads_of_job plan.graph v i n) (omega (arith, fit.ports, counted_reads))
+          (λ k below. absurd (omega (arith, below, fit.ports, whole_reads plan i n 0 plan.graph.edges, zero_count)))
 
       pub ready_to_begin : worker.ran ≡ false → IsReady rows bodies n worker.operands.items worker
       ready_to_begin unrun = (fit.room, can_run worker.work (now_work unrun) worker.operands.items worker.outputs.items (no_operand unrun) fit.room some)
@@ -387,7 +366,7 @@ module _ (plan : PlanView) (bodies : List CheckedBody) (rows : Rows) (until : �
             room = ap length ends.outputs ∙ has.room ∙ ap (outs_of bodies) (sym ends.work);
             ran = ends.ran ∙ sym (before_run (place_of_run plan i (n + 1)) 0 (omega (arith, m)));
             given = λ yes. absurd (false_is_not_true next.ran ends.ran yes);
-            work = same_work plan bodies until v i (n + 1) (n + 1 + once next.ran) begun.work next.work (let o : once next.ran ≡ 0 = ap once ends.ran in omega (arith, o)) ends.work has.work;
+            work = same_work plan bodies until v i (n + 1) (n + 1 + once next.ran) begun.work next.work (omega (arith, ap once ends.ran)) ends.work has.work;
           }
 
 new_work : (plan : PlanView) (bodies : List CheckedBody) (until : ℕ) (v : JobValues) (i : ℕ) (work : Work) → IsNewWork plan bodies until i work →
@@ -403,8 +382,8 @@ new_worker plan bodies until v i worker is = record {
   ports = is.ports;
   taken = λ q below. absurd (omega (arith, below));
   room = is.room;
-  ran = is.ran ∙ sym (before_run (place_of_run plan i 0) 0 (let m = (mark_of (length (reads_of plan i 0 0 plan.graph.edges))).1 in omega (arith, m)));
+  ran = is.ran ∙ sym (before_run (place_of_run plan i 0) 0 (omega (arith, (mark_of (length (reads_of plan i 0 0 plan.graph.edges))).1)));
   given = λ yes. absurd (false_is_not_true worker.ran is.ran yes);
-  work = same_work plan bodies until v i 0 (0 + once worker.ran) worker.work worker.work (let o : once worker.ran ≡ 0 = ap once is.ran in omega (arith, o)) refl
+  work = same_work plan bodies until v i 0 (0 + once worker.ran) worker.work worker.work (omega (arith, ap once is.ran)) refl
       (new_work plan bodies until v i worker.work is.work);
 }

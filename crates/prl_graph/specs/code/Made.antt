@@ -5,6 +5,10 @@ use Rattle.prl_base.specs.declared.operators.Clock.{Clock}
 use Rattle.prl_flow.specs.declared.programs.App.{App}
 use Rattle.prl_flow.specs.Programs.{FlatProgram}
 use Rattle.prl_plan.specs.declared.graphs.Task.{Task}
+use Rattle.prl_plan.specs.declared.limits.TheConstants.{MAX_TASKS, MAX_EDGES, MAX_HYPER}
+use Rattle.prl_graph.specs.Hyperperiods.{IsHyperperiod}
+use Rattle.prl_graph.specs.Ports.{ports_of, task_count}
+use Rattle.prl_graph.specs.TaskGraphs.{HasDues}
 use Rattle.prl_graph.specs.Tasks.{IsTaskOf, actuator_task, node_task, sensor_task}
 
 -- the first `n` tasks
@@ -31,3 +35,11 @@ pub record MakesActuator (p : FlatProgram) (clocks : List Clock) (k : ℕ) (task
 -- each task has a period
 abbrev pub HavePeriods : List Task → Type 0
 HavePeriods tasks = (i : ℕ) (task : Task) → slice_get tasks i ≡ Some task → 1 ≤ task.clock.period
+
+-- the dues and the limits that are looked at before the tasks, with the hyperperiod
+pub record IsChecked (p : FlatProgram) (clocks : List Clock) (hyper : ℕ) : Type 0 where
+  pub dues : HasDues p clocks
+  pub few_tasks : task_count p ≤ MAX_TASKS
+  pub few_edges : length (ports_of p) ≤ MAX_EDGES
+  pub hyper_is : IsHyperperiod clocks hyper
+  pub few_ticks : hyper ≤ MAX_HYPER

@@ -11,7 +11,7 @@ turn_on-requires c = (c.args.dates.now, c.args.i.0, c.requires.planned, c.requir
 
 pub number-first-requires-clause-fits : goal.number-first-requires-clause-fits
 number-first-requires-clause-fits c =
-    (let n = numbers_small c.args.graph.now c.args.dates.now c.args.edge.now c.args.word.now c.requires.planned c.args.i.0 c.requires.comes 0 (omega arith) in omega (arith, n))
+    omega (arith, numbers_small c.args.graph.now c.args.dates.now c.args.edge.now c.args.word.now c.requires.planned c.args.i.0 c.requires.comes 0 (omega arith))
 
 pub shortened-gaps-requires : goal.shortened-gaps-requires
 shortened-gaps-requires c =

@@ -9,7 +9,7 @@ use Rattle.prl_buffers.proofs.edges.count_on.Goals as goal
 
 pub number-first-requires-clause-fits : goal.number-first-requires-clause-fits
 number-first-requires-clause-fits c =
-    (let n = numbers_small c.args.graph.now c.args.dates.now c.args.edge.now c.args.word.now c.requires.planned c.args.i.0 c.requires.comes 0 (omega arith) in omega (arith, n))
+    omega (arith, numbers_small c.args.graph.now c.args.dates.now c.args.edge.now c.args.word.now c.requires.planned c.args.i.0 c.requires.comes 0 (omega arith))
 
 pub releases_of-requires-clause-task : goal.releases_of-requires-clause-task
 releases_of-requires-clause-task c =
@@ -35,15 +35,13 @@ ends_of-requires-clause-task c =
 
 pub ends_of-requires-clause-dates : goal.ends_of-requires-clause-dates
 ends_of-requires-clause-dates c =
-    let inside = (edge_is c.args.graph.now c.args.dates.now c.args.edge.now c.args.word.now c.requires.planned c.args.i.0 c.requires.comes).to in
     let l = c.requires.planned.dates.lists in
-    omega (arith, inside, l)
+    omega (arith, (edge_is c.args.graph.now c.args.dates.now c.args.edge.now c.args.word.now c.requires.planned c.args.i.0 c.requires.comes).to, l)
 
 pub ends_of-requires-clause-some : goal.ends_of-requires-clause-some
 ends_of-requires-clause-some c =
     let inside = (edge_is c.args.graph.now c.args.dates.now c.args.edge.now c.args.word.now c.requires.planned c.args.i.0 c.requires.comes).to in
-    let p = (task_is c.args.graph.now c.requires.planned.well c.args.edge.now.to.0 inside).period.0 in
-    omega (arith, p)
+    omega (arith, (task_is c.args.graph.now c.requires.planned.well c.args.edge.now.to.0 inside).period.0)
 
 before_is : (result : ℕ) (items prefix : List ℕ) → result ≡ length items → items ≡ prefix → result ≡ length prefix
 before_is result items prefix a b = a ∙ ap length b

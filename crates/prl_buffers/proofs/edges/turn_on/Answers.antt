@@ -11,9 +11,8 @@ clock_of-requires c = (let r = c.requires in (edge_is c.args.graph.now r.0 c.arg
 pub nonzero_div-jobs : goal.nonzero_div-jobs
 nonzero_div-jobs c =
     let r = c.requires in
-    let p = (task_is c.args.graph.now r.2.well c.args.edge.now.to.0 (edge_is c.args.graph.now r.0 c.args.edge.now c.args.word.now r.2 r.1 r.3).to).period.0 in
     let same = ap (λ (k : Clock). k.period) c.clock_of.ensures in
-    omega (arith, p, same)
+    omega (arith, (task_is c.args.graph.now r.2.well c.args.edge.now.to.0 (edge_is c.args.graph.now r.0 c.args.edge.now c.args.word.now r.2 r.1 r.3).to).period.0, same)
 
 pub turn_of-requires : goal.turn_of-requires
 turn_of-requires c =

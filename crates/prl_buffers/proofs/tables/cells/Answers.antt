@@ -1,4 +1,4 @@
-use Rattle.std.proofs.Common.{rules, ◌≡◌, ℕ, List, ap, sym, ◌∙◌, arith}
+use Rattle.std.proofs.Common.{rules, ◌≡◌, ℕ, List, sum, ap, sym, ◌∙◌, arith}
 use Rattle.prl_base.specs.declared.limits.Limit.{Limit}
 use Rattle.prl_base.specs.declared.limits.What.TheVariants as whats
 use Rattle.prl_plan.specs.declared.limits.TheConstants.{MAX_CELLS}
@@ -8,50 +8,46 @@ use Rattle.prl_buffers.proofs.tables.cells.Goals as goal
 
 pub returns-then-list-from : goal.returns-then-list-from
 returns-then-list-from c =
-    let e = c.in_ok-list.ensures in
-    let total = e.1 in
+    let list = c.in_ok-list.list in
     let f : c.from.result ≡ MAX_CELLS = search rules in
-    let past = c.if-list-from.true in
     record {
       cells = (
-        bases_from 0 c.in_ok-list.list.counts,
-        c.in_ok-list.list.counts,
-        c.in_ok-list.list.used,
-        least_cells c.args.graph.now c.args.dates.now c.in_ok-list.list.counts c.in_ok-list.list.used c.in_ok-list.list.sums e.0,
-        ap (λ (n : ℕ). (let l : Limit = record { what = whats.Cells; found = n } in l)) total,
-        omega (arith, past, f, total),
+        bases_from 0 list.counts.items,
+        list.counts.items,
+        list.used.items,
+        least_cells c.args.graph.now c.args.dates.now list.counts.items list.used.items list.sums.items c.in_ok-list.ensures.0,
+        ap (λ (n : ℕ). (let l : Limit = record { what = whats.Cells; found = n } in l)) c.in_ok-list.ensures.1,
+        omega (arith, c.if-list-from.true, f, c.in_ok-list.ensures.1),
       );
     }
 
-pub with_sums-requires-clause-lists : goal.with_sums-requires-clause-lists
-with_sums-requires-clause-lists c =
-    let e = c.in_ok-list.ensures.0 in
-    let bases : c.in_ok-bases.bases ≡ bases_from 0 c.in_ok-list.list.counts = c.in_ok-bases.ensures ∙ ap (λ (l : List ℕ). bases_from 0 l) c.as_slice.ensures in
-    let counts : c.in_ok-counts.counts ≡ c.in_ok-list.list.counts = c.in_ok-counts.ensures ∙ c.as_slice-2.ensures in
-    let least = least_cells c.args.graph.now c.args.dates.now c.in_ok-list.list.counts c.in_ok-list.list.used c.in_ok-list.list.sums e in
-    let l = least.lengths in
-    rw (bases, counts) (record {
+pub numbered-requires : goal.numbered-requires
+numbered-requires c =
+    let f : c.from.result ≡ MAX_CELLS = search rules in
+    omega (arith, c.if-list-from.false, f, c.in_ok-list.ensures.1, ap sum c.as_slice.ensures.value)
+
+pub joined-requires-clause-lists : goal.joined-requires-clause-lists
+joined-requires-clause-lists c =
+    let list = c.in_ok-list.list in
+    let l = (least_cells c.args.graph.now c.args.dates.now list.counts.items list.used.items list.sums.items c.in_ok-list.ensures.0).lengths in
+    rw (c.in_ok-numbers.ensures.bases, c.in_ok-numbers.ensures.counts, c.as_slice.ensures.value) (record {
       counts_long = l.1 ∙ sym l.0;
       used_long = l.2 ∙ sym l.0;
-      short = short_gaps c.args.graph.now c.args.dates.now c.in_ok-list.list.counts c.in_ok-list.list.used c.in_ok-list.list.sums e;
+      short = short_gaps c.args.graph.now c.args.dates.now list.counts.items list.used.items list.sums.items c.in_ok-list.ensures.0;
     })
 
-pub with_sums-requires-clause-sums : goal.with_sums-requires-clause-sums
-with_sums-requires-clause-sums c =
-    sums_are c.args.graph.now c.args.dates.now c.in_ok-list.list.counts c.in_ok-list.list.used c.in_ok-list.list.sums c.in_ok-list.ensures.0
+pub joined-requires-clause-sums : goal.joined-requires-clause-sums
+joined-requires-clause-sums c =
+    sums_are c.args.graph.now c.args.dates.now c.in_ok-list.list.counts.items c.in_ok-list.list.used.items c.in_ok-list.list.sums.items c.in_ok-list.ensures.0
 
 pub returns : goal.returns
 returns c =
-    let e = c.in_ok-list.ensures.0 in
-    let total = c.in_ok-list.ensures.1 in
+    let list = c.in_ok-list.list in
     let f : c.from.result ≡ MAX_CELLS = search rules in
-    let within = c.if-list-from.false in
-    let bases : c.in_ok-bases.bases ≡ bases_from 0 c.in_ok-list.list.counts = c.in_ok-bases.ensures ∙ ap (λ (l : List ℕ). bases_from 0 l) c.as_slice.ensures in
-    let counts : c.in_ok-counts.counts ≡ c.in_ok-list.list.counts = c.in_ok-counts.ensures ∙ c.as_slice-2.ensures in
-    rw c.with_sums.ensures (rw (bases, counts) (record {
+    rw (c.joined.ensures, c.in_ok-numbers.ensures.bases, c.in_ok-numbers.ensures.counts, c.as_slice.ensures.value) (record {
       cells = (
-        least_cells c.args.graph.now c.args.dates.now c.in_ok-list.list.counts c.in_ok-list.list.used c.in_ok-list.list.sums e,
-        omega (arith, within, f, total),
-        short_gaps c.args.graph.now c.args.dates.now c.in_ok-list.list.counts c.in_ok-list.list.used c.in_ok-list.list.sums e,
+        least_cells c.args.graph.now c.args.dates.now list.counts.items list.used.items list.sums.items c.in_ok-list.ensures.0,
+        omega (arith, c.if-list-from.false, f, c.in_ok-list.ensures.1),
+        short_gaps c.args.graph.now c.args.dates.now list.counts.items list.used.items list.sums.items c.in_ok-list.ensures.0,
       );
-    }))
+    })

@@ -24,5 +24,5 @@ loop-i-preserved c =
 
 pub returns : goal.returns
 returns c =
-    let end : c.loop-i.i ≡ c.args.jobs = (let a = c.loop-i-test.false in let b = c.loop-i.auto.i-end in omega (arith, a, b)) in
+    let end : c.loop-i.i ≡ c.args.jobs = omega (arith, c.loop-i-test.false, c.loop-i.auto.i-end) in
     rw (c.new.ensures, c.new-2.ensures) (subst (λ i. IsTurn c.args.word.now i c.loop-i.gaps.items c.loop-i.last.items) end c.loop-i.invariant)

@@ -1,8 +1,14 @@
-use Rattle.std.proofs.Common.{arith}
-use Rattle.prl_causal.proofs.Sorting.{ended}
+use Rattle.prl_causal.proofs.Runs.{first_order}
 use Rattle.prl_causal.proofs.orders.order.Goals as goal
 
-pub returns : goal.returns
-returns c =
-    ended c.args.flat.now c.args.sources.now c.loop-from.order.items c.loop-from.placed c.loop-from.opened c.loop-from.seen c.loop-from.invariant.sorted
-    (λ i low. c.loop-from.invariant.every i (omega (arith, low, c.loop-from-test.false, c.loop-from.auto.from-end)))
+pub visit_all-requires-clause-sorted : goal.visit_all-requires-clause-sorted
+visit_all-requires-clause-sorted c =
+    rw (
+      c.new-order.ensures.items,
+      c.as_mut_slice.ensures.value,
+      c.as_mut_slice-2.ensures.value,
+      c.as_mut_slice-3.ensures.value,
+      c.in_ok-marks.ensures.placed,
+      c.in_ok-marks.ensures.opened,
+      c.in_ok-marks.ensures.seen,
+    ) (first_order c.args.flat.now c.args.sources.now)

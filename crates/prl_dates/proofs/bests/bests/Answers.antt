@@ -7,11 +7,10 @@ use Rattle.prl_dates.proofs.bests.bests.Goals as goal
 
 pub settle-requires-clause-settled : goal.settle-requires-clause-settled
 settle-requires-clause-settled c =
-    let graph = c.args.graph.now in
-    let marks : c.as_mut_slice-3.result.now ≡ replicate (length graph.tasks) true =
+    let marks : c.as_mut_slice-3.result.now ≡ replicate (length c.args.graph.now.tasks) true =
     c.as_mut_slice-3.ensures.value ∙ (search rules) in
-    subst (λ (xs : List Bool). AreSettled graph c.args.lanes.now xs c.as_mut_slice.result.now) (sym marks)
-    (first_settled graph c.requires.well c.args.lanes.now c.requires.lanes.each c.as_mut_slice.result.now)
+    subst (λ (xs : List Bool). AreSettled c.args.graph.now c.args.lanes.now xs c.as_mut_slice.result.now) (sym marks)
+    (first_settled c.args.graph.now c.requires.well c.args.lanes.now c.requires.lanes.each c.as_mut_slice.result.now)
 
 pub settle-requires-clause-copy : goal.settle-requires-clause-copy
 settle-requires-clause-copy c =

@@ -21,7 +21,7 @@ rounds-still-requires-clause-few c = omega (arith, c.requires.wcets.long, before
 pub rounds-still-requires-clause-within : goal.rounds-still-requires-clause-within
 rounds-still-requires-clause-within c =
     first_within c.args.graph.now firsts.Wcet c.args.now.now (2 ^ 31) c.requires.wcets
-    (λ i inside. (let w = (task_is c.args.graph.now c.requires.well i inside).wcet.1 in omega (arith, w)))
+    (λ i inside. omega (arith, (task_is c.args.graph.now c.requires.well i inside).wcet.1))
 
 pub rounds-still-requires-clause-bests : goal.rounds-still-requires-clause-bests
 rounds-still-requires-clause-bests c = first_bests c.args.graph.now c.requires.well c.args.now.now c.requires.wcets
@@ -37,9 +37,7 @@ narrow-requires-clause-long c = c.rounds-still.ensures.long ∙ c.requires.wcets
 
 -- so many rounds raise no date to more than this
 small_bound : (most : ℕ) (table : List ℕ) → most ≤ 20000 → AreWithin table ((most + 1) * 2 ^ 31) → AreWithin table (2 ^ 62)
-small_bound most table few within q =
-    let b : (most + 1) * 2 ^ 31 ≤ 20001 * 2 ^ 31 = mul-le-mul_right (2 ^ 31) (let e : most + 1 ≤ 20001 = omega (arith, few) in e) in
-    omega (arith, within q, b)
+small_bound most table few within q = omega (arith, within q, mul-le-mul_right (2 ^ 31) (let e : most + 1 ≤ 20001 = omega (arith, few) in e))
 
 pub narrow-requires-clause-within : goal.narrow-requires-clause-within
 narrow-requires-clause-within c =

@@ -16,19 +16,16 @@ returns-in_ok-push c =
     let stands : slice_get graph.edges c.args.e ≡ Some edge = item_stands graph.edges c.args.e edge c.requires.edge is in
     subst (λ (xs : List Lane). AreLanesOf graph (c.args.e + 1) xs) (sym c.in_ok-push.ensures.items)
     (lanes_more graph c.requires.well c.args.e edge stands c.args.lanes.now.items c.requires.lanes c.in_ok-lane.lane c.in_ok-lane.ensures.lane
-    (λ i from. (let ends = c.in_ok-lane.ensures.ends in
-    let same : c.in-Port.task.0 ≡ i = subst (λ (p : Producer). ComesFrom p i) c.in-Port.is from in
-    (ends.0 ∙ same, ends.1))))
+    (λ i from. ((c.in_ok-lane.ensures.ends.0 ∙ (subst (λ (p : Producer). ComesFrom p i) c.in-Port.is from), c.in_ok-lane.ensures.ends.1))))
 
 pub returns-else-not-is_joined : goal.returns-else-not-is_joined
 returns-else-not-is_joined c =
     let graph = c.args.graph.now in
     let edge = c.index-as_slice-e.result in
     let is : edge ≡ get_or graph.edges c.args.e edge = c.index-as_slice-e.is ∙ ap (λ (es : List Edge). get_or es c.args.e edge) c.as_slice.ensures in
-    let stands : slice_get graph.edges c.args.e ≡ Some edge = item_stands graph.edges c.args.e edge c.requires.edge is in
     let joined : IsJoined c.args.lanes.now.items c.in-Port.task.0 edge.to.0 =
     subst (λ (xs : List Lane). IsJoined xs c.in-Port.task.0 edge.to.0) c.as_slice-in-Port.ensures.value (c.is_joined.ensures.0 c.if-not-is_joined.false) in
-    lanes_same graph c.requires.well c.args.e edge stands c.args.lanes.now.items c.requires.lanes
+    lanes_same graph c.requires.well c.args.e edge (item_stands graph.edges c.args.e edge c.requires.edge is) c.args.lanes.now.items c.requires.lanes
     (λ i from. subst (λ (x : ℕ). IsJoined c.args.lanes.now.items x edge.to.0) (subst (λ (p : Producer). ComesFrom p i) c.in-Port.is from) joined)
 
 pub returns-in_default : goal.returns-in_default

@@ -56,13 +56,13 @@ loop-edge-init c =
     let joins = first_joins (goal.at.loop-edge-init c).After-as_slice in
     greatest_first c.args.graph.now c.requires.well c.args.from.0 c.args.to.0 joins.stands.0 edge joins.stands.1 joins.from joins.to c.in_ok-numbers.numbers.items
     (c.in_ok-numbers.ensures.long ∙ c.jobs_of-jobs.ensures.jobs)
-    (λ n below. c.in_ok-numbers.ensures.each n (let j = c.jobs_of-jobs.ensures.jobs in omega (arith, j, below)) ∙ ap (λ (ops : List Op). preceding ops (pos n)) c.as_slice.ensures)
+    (λ n below. c.in_ok-numbers.ensures.each n (omega (arith, c.jobs_of-jobs.ensures.jobs, below)) ∙ ap (λ (ops : List Op). preceding ops (pos n)) c.as_slice.ensures)
 
 pub numbers_over-requires-then-joins-clause-fits : goal.numbers_over-requires-then-joins-clause-fits
 numbers_over-requires-then-joins-clause-fits c n below =
     edge_fits c.args.graph.now c.requires.well c.args.from.0 c.args.to.0 _ (next_joins (goal.at.numbers_over-requires-then-joins-clause-fits c).After-as_slice-then-joins)
     c.as_slice-then-joins.result.now
-    c.as_slice-then-joins.ensures n (let j = c.jobs_of-jobs.ensures.jobs in omega (arith, j, below))
+    c.as_slice-then-joins.ensures n (omega (arith, c.jobs_of-jobs.ensures.jobs, below))
 
 pub numbers_over-requires-then-joins-clause-rises : goal.numbers_over-requires-then-joins-clause-rises
 numbers_over-requires-then-joins-clause-rises c =

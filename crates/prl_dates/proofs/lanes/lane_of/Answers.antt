@@ -12,7 +12,7 @@ links-requires-clause-to c = (joins_inside c.args.graph.now c.requires.well c.ar
 
 pub jobs_before-requires-clause-tasks : goal.jobs_before-requires-clause-tasks
 jobs_before-requires-clause-tasks c =
-    (let i = (joins_inside c.args.graph.now c.requires.well c.args.from.0 c.args.to.0 c.args.e c.requires.joins).1 in omega (arith, i))
+    omega (arith, (joins_inside c.args.graph.now c.requires.well c.args.from.0 c.args.to.0 c.args.e c.requires.joins).1)
 
 pub returns-clause-lane : goal.returns-clause-lane
 returns-clause-lane c =

@@ -7,4 +7,4 @@ pub returns : goal.returns
 returns c =
     let graph = c.args.graph.now in
     lanes_all graph c.requires c.loop-e.lanes.items
-    (subst (λ (k : ℕ). AreLanesOf graph k c.loop-e.lanes.items) (let e : c.loop-e.e ≡ length graph.edges = (let n : c.len-e-end.result ≡ length graph.edges = c.len-e-end.ensures in omega (arith, n)) in e) c.loop-e.invariant)
+    (subst (λ (k : ℕ). AreLanesOf graph k c.loop-e.lanes.items) (let e : c.loop-e.e ≡ length graph.edges = omega (arith, c.len-e-end.ensures) in e) c.loop-e.invariant)

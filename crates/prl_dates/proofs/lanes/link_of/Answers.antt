@@ -21,7 +21,7 @@ seam : (c : After-index-tasks-from) → to_z w64 (of_z w64 c.args.before) ≡ c.
 seam c = to_z-of_z w64 c.args.before c.ranges.before
 
 small : (c : After-index-tasks-to) → to_z w64 c.args.n ≡ pos c.args.n
-small c = to_z_pos w64 c.args.n (let f = few_jobs c.args.graph.now c.requires.well c.args.to.0 c.args.n c.requires.to c.requires.job in omega (arith, f))
+small c = to_z_pos w64 c.args.n (omega (arith, few_jobs c.args.graph.now c.requires.well c.args.to.0 c.args.n c.requires.to c.requires.job))
 
 near : (c : After-index-tasks-from) → AreNear c.args.graph.now c.requires.well c.args.from.0 c.args.to.0 c.args.n c.args.before
 near c = are_near c.args.graph.now c.requires.well c.args.from.0 c.args.to.0 c.args.n c.args.before c.requires.from c.requires.to c.requires.job c.requires.greatest
@@ -56,7 +56,7 @@ release-later-requires-clause-fits c =
 pub overflow_add-result : goal.overflow_add-result
 overflow_add-result c =
     let graph = c.args.graph.now in
-    let below : c.place_in-place.result < jobs_of graph c.args.from.0 = (let b = c.place_in-place.ensures.below in let j = c.jobs_of.ensures.jobs in omega (arith, b, j)) in
+    let below : c.place_in-place.result < jobs_of graph c.args.from.0 = omega (arith, c.place_in-place.ensures.below, c.jobs_of.ensures.jobs) in
     omega (arith, index_below graph c.args.from.0 c.place_in-place.result c.requires.from below, c.requires.first, c.requires.well.few_jobs)
 
 pub returns : goal.returns

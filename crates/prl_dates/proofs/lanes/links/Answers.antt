@@ -19,7 +19,7 @@ fits_here graph good i j from to numbers are n below =
 pub link_of-requires-clause-greatest : goal.link_of-requires-clause-greatest
 link_of-requires-clause-greatest c =
     let graph = c.args.graph.now in
-    let below : c.loop-n.n < jobs_of graph c.args.to.0 = (let l = c.requires.greatest.long in omega (arith, l)) in
+    let below : c.loop-n.n < jobs_of graph c.args.to.0 = omega (arith, c.requires.greatest.long) in
     subst (λ (z : ℤ). IsGreatestBefore graph c.args.from.0 c.args.to.0 (pos c.loop-n.n) z)
     (sym (fits_here graph c.requires.well c.args.from.0 c.args.to.0 c.requires.from c.requires.to c.args.numbers.now c.requires.greatest c.loop-n.n below))
     (greatest_all graph c.requires.well c.args.from.0 c.args.to.0 c.args.numbers.now c.requires.greatest c.loop-n.n below)
@@ -27,18 +27,17 @@ link_of-requires-clause-greatest c =
 pub loop-n-preserved : goal.loop-n-preserved
 loop-n-preserved c =
     let graph = c.args.graph.now in
-    let below : c.loop-n.n < jobs_of graph c.args.to.0 = (let l = c.requires.greatest.long in omega (arith, l)) in
-    let items : c.push.new.self.items ≡ c.loop-n.links.items ++ c.link_of.result ∷ [] = c.in_ok-push.ensures.items in
+    let below : c.loop-n.n < jobs_of graph c.args.to.0 = omega (arith, c.requires.greatest.long) in
     let here : IsLinkOf graph c.args.from.0 c.args.to.0 (pos c.loop-n.n) (get_or c.args.numbers.now c.loop-n.n (pos 0)) c.link_of.result =
     subst (λ (z : ℤ). IsLinkOf graph c.args.from.0 c.args.to.0 (pos c.loop-n.n) z c.link_of.result)
     (fits_here graph c.requires.well c.args.from.0 c.args.to.0 c.requires.from c.requires.to c.args.numbers.now c.requires.greatest c.loop-n.n below) c.link_of.ensures in
     record {
-      long = ap (λ (xs : List Link). length xs) items ∙ longer c.loop-n.links.items c.link_of.result ∙ ap (λ (k : ℕ). k + 1) c.loop-n.invariant.long;
+      long = ap (λ (xs : List Link). length xs) c.in_ok-push.ensures.items ∙ longer c.loop-n.links.items c.link_of.result ∙ ap (λ (k : ℕ). k + 1) c.loop-n.invariant.long;
       each = λ k link at.
-          elim (got_pushed c.loop-n.links.items c.link_of.result link k (subst (λ (xs : List Link). slice_get xs k ≡ Some link) items at)) [
+          elim (got_pushed c.loop-n.links.items c.link_of.result link k (subst (λ (xs : List Link). slice_get xs k ≡ Some link) c.in_ok-push.ensures.items at)) [
             | inl old ↦ c.loop-n.invariant.each k link old
             | inr new ↦
-                (let e : c.loop-n.n ≡ k = (let a = new.0 in let l = c.loop-n.invariant.long in omega (arith, a, l)) in
+                (let e : c.loop-n.n ≡ k = omega (arith, new.0, c.loop-n.invariant.long) in
                 subst (λ (x : ℕ). IsLinkOf graph c.args.from.0 c.args.to.0 (pos x) (get_or c.args.numbers.now x (pos 0)) link) e
                 (subst (λ (x : Link). IsLinkOf graph c.args.from.0 c.args.to.0 (pos c.loop-n.n) (get_or c.args.numbers.now c.loop-n.n (pos 0)) x) new.1 here))
           ];
@@ -46,4 +45,4 @@ loop-n-preserved c =
   where
     longer : {A : Type 0} (xs : List A) (x : A) → length (xs ++ x ∷ []) ≡ length xs + 1
     longer [] x = refl
-    longer (y ∷ xs) x = (let r = longer xs x in omega (arith, r))
+    longer (y ∷ xs) x = omega (arith, longer xs x)

@@ -9,6 +9,4 @@ overflow_add-jobs c =
     record { fits = omega (arith, few, before_next c.args.graph.now c.loop-i.i, c.loop-i.invariant, c.jobs_of-jobs.ensures.jobs) }
 
 pub returns-clause-few : goal.returns-clause-few
-returns-clause-few c =
-    let few = before_few c.args.graph.now c.requires.well c.loop-i.i (omega arith) in
-    omega (arith, few, c.loop-i.invariant)
+returns-clause-few c = omega (arith, before_few c.args.graph.now c.requires.well c.loop-i.i (omega arith), c.loop-i.invariant)

@@ -4,8 +4,7 @@ use Rattle.prl_dates.proofs.rounds.mark.Goals as goal
 
 pub differ-requires-clause-now : goal.differ-requires-clause-now
 differ-requires-clause-now c =
-    let inside = indices_inside c.args.graph.now c.loop-i.i (omega arith) in
-    omega (arith, inside, c.requires.long, c.jobs_before-first.ensures.jobs, c.jobs_of-count.ensures.jobs)
+    omega (arith, indices_inside c.args.graph.now c.loop-i.i (omega arith), c.requires.long, c.jobs_before-first.ensures.jobs, c.jobs_of-count.ensures.jobs)
 
 pub differ-requires-clause-next : goal.differ-requires-clause-next
 differ-requires-clause-next c =

@@ -14,9 +14,7 @@ pub wcet_of-wcet-requires : goal.wcet_of-wcet-requires
 wcet_of-wcet-requires c = (lane_is (goal.at.wcet_of-wcet-requires c).After-index-lanes-l).to
 
 pub bounds-rose-from : goal.bounds-rose-from
-bounds-rose-from c =
-    let is = lane_is (goal.at.bounds-rose-from c).After-index-lanes-l in
-    omega (arith, is.from, c.requires.marks)
+bounds-rose-from c = omega (arith, (lane_is (goal.at.bounds-rose-from c).After-index-lanes-l).from, c.requires.marks)
 
 pub raise-requires-clause-from : goal.raise-requires-clause-from
 raise-requires-clause-from c k inside =

@@ -19,17 +19,16 @@ pub loop-now-preserved : goal.loop-now-preserved
 loop-now-preserved c =
     let graph = c.args.graph.now in
     let lanes = c.args.lanes.now in
-    let now = c.loop-now.now in
     let next = c.round.new.next in
     let copied : c.copy_from_slice.new.self ≡ next = c.copy_from_slice.ensures.after in
     let settled : AreSettled graph lanes c.mark.new.rose next =
-    next_settled graph c.requires.well lanes c.requires.lanes now next c.round.ensures c.mark.new.rose c.mark.ensures.marked in
+    next_settled graph c.requires.well lanes c.requires.lanes c.loop-now.now next c.round.ensures c.mark.new.rose c.mark.ensures.marked in
     record {
       marks = c.mark.ensures.marks ∙ c.loop-now.invariant.marks;
       long = ap (λ (xs : List ℕ). length xs) copied ∙ c.round.ensures.long ∙ c.loop-now.invariant.long;
       rising =
           subst (λ (xs : List ℕ). IsRising graph lanes c.args.now.now xs) (sym copied)
-          (rising_more graph c.requires.well lanes c.requires.lanes c.args.now.now now next c.loop-now.invariant.rising c.round.ensures);
+          (rising_more graph c.requires.well lanes c.requires.lanes c.args.now.now c.loop-now.now next c.loop-now.invariant.rising c.round.ensures);
       settled = subst (λ (xs : List ℕ). AreSettled graph lanes c.mark.new.rose xs) (sym copied) settled;
       copy = sym copied;
     }

@@ -5,7 +5,6 @@ use Rattle.prl_dates.proofs.spreads.raise_within.Goals as goal
 
 pub raise_to_end-requires-clause-settled : goal.raise_to_end-requires-clause-settled
 raise_to_end-requires-clause-settled c =
-    let graph = c.args.graph.now in
-    let marks : c.as_mut_slice-2.result.now ≡ replicate (length graph.tasks) true = c.as_mut_slice-2.ensures.value ∙ (search rules) in
-    subst (λ (xs : List Bool). AreSettled graph c.args.lanes.now xs c.args.ends.now) (sym marks)
-    (first_settled graph c.requires.well c.args.lanes.now c.requires.lanes c.args.ends.now)
+    let marks : c.as_mut_slice-2.result.now ≡ replicate (length c.args.graph.now.tasks) true = c.as_mut_slice-2.ensures.value ∙ (search rules) in
+    subst (λ (xs : List Bool). AreSettled c.args.graph.now c.args.lanes.now xs c.args.ends.now) (sym marks)
+    (first_settled c.args.graph.now c.requires.well c.args.lanes.now c.requires.lanes c.args.ends.now)

@@ -22,11 +22,10 @@ made c ends across = subst (λ (xs : List Lane). AreEndsAcross c.args.plan.now x
 
 pub raise_within-requires-clause-lanes : goal.raise_within-requires-clause-lanes
 raise_within-requires-clause-lanes c =
-    let plan = c.args.plan.now in
     let d = (goal.at.raise_within-requires-clause-lanes c).After-as_slice in
     subst (λ (g : TaskGraph). AreEachLane g c.as_slice-2.result.now) (sym c.graph-graph.ensures.graph)
-    (subst (λ (xs : List Lane). AreEachLane plan.graph xs) (sym (c.as_slice-2.ensures.value ∙ c.keep_within.ensures))
-    (each_within plan c.graph-graph.ensures.plan c.args.processors.now _ (lanes_are d) c.args.deadlines.now c.requires _ (made d _ c.in_ok-ends.ensures)))
+    (subst (λ (xs : List Lane). AreEachLane c.args.plan.now.graph xs) (sym (c.as_slice-2.ensures.value ∙ c.keep_within.ensures))
+    (each_within c.args.plan.now c.graph-graph.ensures.plan c.args.processors.now _ (lanes_are d) c.args.deadlines.now c.requires _ (made d _ c.in_ok-ends.ensures)))
 
 pub raise_within-requires-clause-long : goal.raise_within-requires-clause-long
 raise_within-requires-clause-long c =
@@ -37,12 +36,11 @@ raise_within-requires-clause-long c =
 
 pub raise_within-requires-clause-ceiling : goal.raise_within-requires-clause-ceiling
 raise_within-requires-clause-ceiling c =
-    let plan = c.args.plan.now in
     let d = (goal.at.raise_within-requires-clause-ceiling c).After-as_slice in
     subst (λ (g : TaskGraph). HasCeiling g c.as_slice-2.result.now c.as_mut_slice.result.now) (sym c.graph-graph.ensures.graph)
-    (subst (λ (xs : List Lane). HasCeiling plan.graph xs c.as_mut_slice.result.now) (sym (c.as_slice-2.ensures.value ∙ c.keep_within.ensures))
-    (subst (λ (xs : List ℕ). HasCeiling plan.graph (within c.args.processors.now c.in_ok-lanes.lanes.items) xs) (sym c.as_mut_slice.ensures.value)
-    (across_ceiling plan c.graph-graph.ensures.plan c.args.processors.now _ (lanes_are d) c.args.deadlines.now c.requires _ (made d _ c.in_ok-ends.ensures))))
+    (subst (λ (xs : List Lane). HasCeiling c.args.plan.now.graph xs c.as_mut_slice.result.now) (sym (c.as_slice-2.ensures.value ∙ c.keep_within.ensures))
+    (subst (λ (xs : List ℕ). HasCeiling c.args.plan.now.graph (within c.args.processors.now c.in_ok-lanes.lanes.items) xs) (sym c.as_mut_slice.ensures.value)
+    (across_ceiling c.args.plan.now c.graph-graph.ensures.plan c.args.processors.now _ (lanes_are d) c.args.deadlines.now c.requires _ (made d _ c.in_ok-ends.ensures))))
 
 pub returns : goal.returns
 returns c =
@@ -56,6 +54,6 @@ returns c =
     subst (λ (g : TaskGraph). IsLeastAbove g (within processors lanes) across ends) c.graph-graph.ensures.graph
     (subst (λ (xs : List Lane). IsLeastAbove c.graph-graph.result.now xs across ends) (c.as_slice-2.ensures.value ∙ c.keep_within.ensures)
     (subst (λ (xs : List ℕ). IsLeastAbove c.graph-graph.result.now c.as_slice-2.result.now xs ends) c.as_mut_slice.ensures.value c.in_ok-raise_within.ensures)) in
-    let long : length ends ≡ c.in_ok-ends.ends.len = (let l = least.long in let o = c.in_ok-ends.ends.ok.0 in omega (arith, l, o)) in
+    let long : length ends ≡ c.in_ok-ends.ends.len = omega (arith, least.long, c.in_ok-ends.ends.ok.0) in
     subst (λ (xs : List ℕ). AreSpreadEnds plan processors xs) (sym (with_items_is c.in_ok-ends.ends ends long))
     (spread_made plan c.graph-graph.ensures.plan processors lanes (lanes_are d) c.args.deadlines.now c.requires across (made d across c.in_ok-ends.ensures) ends least)

@@ -289,17 +289,14 @@ enter-returns-in_err-pairs-clause-limit t c =
     err_and c.from_residual-in_err-pairs.result _ _ (λ x same. subst (λ y. IsPast (s.flow + length (notes.flows_in (a_node p levels k s))) y) (sym same) past) c.from_residual-in_err-pairs.ensures.1
 
 pub enter-outs_of-requires : goal.enter-outs_of-requires
-enter-outs_of-requires t c =
-    let vars = vars_are t (goal.at.enter-outs_of-requires t c).After-as_slice-terms in
-    omega (arith, vars.many)
+enter-outs_of-requires t c = omega (arith, (vars_are t (goal.at.enter-outs_of-requires t c).After-as_slice-terms).many)
 
 pub enter-returns-clause-given : goal.enter-returns-clause-given
 enter-returns-clause-given t c =
-    let found = node_there t (goal.at.enter-returns-clause-given t c).After-node_at-node in
     let p = program_tree c.args.names.now in
     let k = c.args.k in
     let d = node_tree c.node_at-node.result.now in
-    let is : node_at p k ≡ d = ap node_or found in
+    let is : node_at p k ≡ d = ap node_or (node_there t (goal.at.enter-returns-clause-given t c).After-node_at-node) in
     let vars = vars_are t (goal.at.enter-returns-clause-given t c).After-as_slice-terms in
     ap (map flow_of) c.in_ok-outs_of.ensures ∙ entered_given p c.args.typed.now.types c.args.levels k c.args.made.now.next c.as_slice-terms.result.now d is vars.numbers
 
@@ -339,19 +336,19 @@ enter-returns-clause-made t c =
     ∙ ap (λ x. past_rights x (the_rights p levels d.eqs x)) start ∙ entered_next p tys levels k s d is in
     let pairs = ap pairs_of c.as_slice.ensures.value ∙ c.in_ok-pairs.ensures.pairs ∙ ap (λ es. equated n env es (the_rights p levels es c.take_variables.new.next)) eqs
     ∙ ap (λ x. equated n env d.eqs (the_rights p levels d.eqs x)) start in
-    let defs = ap (map def_of) c.as_slice-2.ensures.value ∙ c.in_ok-defs.ensures ∙ ap (λ qs. map def_of c.args.sources.items ++ copies qs (d.outs ++ d.locals)) pairs in
+    let defs = ap (λ qs. map def_of c.args.sources.items ++ copies qs (d.outs ++ d.locals)) pairs in
     record {
-      flows_are = entered_made p tys levels k s c.args.label.now c.args.made.now.flows.items c.equations.new.made.flows.items c.finish.new.made.flows.items terms (map def_of c.args.sources.items)
-          (map def_of c.as_slice-2.result.now) d is (record {
+      flows_are = entered_made p tys levels k s c.args.label.now c.args.made.now.flows.items c.equations.new.made.flows.items c.push_node.new.made.flows.items terms (map def_of c.args.sources.items)
+          (map def_of c.args.sources.items ++ copies (pairs_of c.as_slice.result.now) (d.outs ++ d.locals)) d is (record {
             inner_is = flows;
             numbers = vars.numbers;
             types_are = vars.types_are ∙ ap (have_types p tys k) (sym vars.many);
             defs_are = defs;
-            all_is = c.in_ok-finish.ensures.flows ∙ ap (λ xs. xs ++ c.equations.new.made.flows.items) c.in_ok-push_variables.ensures;
+            all_is = c.in_ok-push_node.ensures.flows;
           });
-      apps_are = c.in_ok-finish.ensures.apps ∙ ap (λ us. c.args.made.now.apps.items ++ us) (entered_apps p tys levels k s c.equations.new.made.apps.items terms d is vars.numbers apps);
-      next_is = c.in_ok-finish.ensures.next ∙ numbers_after;
-      few = below_few c.finish.new.made.next c.equations.new.made.next c.in_ok-finish.ensures.next adds.few;
+      apps_are = c.in_ok-push_node.ensures.apps ∙ ap (λ us. c.args.made.now.apps.items ++ us) (entered_apps p tys levels k s c.equations.new.made.apps.items terms d is vars.numbers apps);
+      next_is = c.in_ok-push_node.ensures.next ∙ numbers_after;
+      few = below_few c.push_node.new.made.next c.equations.new.made.next c.in_ok-push_node.ensures.next adds.few;
     }
 
 pub equations-loop-equation-preserved : goal.equations-loop-equation-preserved
@@ -412,7 +409,6 @@ pub apply-enter-requires : goal.apply-enter-requires
 apply-enter-requires t c =
     let d = (goal.at.apply-enter-requires t c).In-Some-Node in
     let p = program_tree c.args.names.now in
-    let levels = c.args.levels in
     let k = c.in-Some-Node.k in
     let below = callee_below p c.args.name.now k (is_node t d) in (
       omega (arith, c.decreases, is_deep t d),
@@ -425,7 +421,7 @@ apply-enter-requires t c =
             (
               few_nodes p k c.requires.sound below,
               (
-                may_apply p levels (levels - 1) k (omega (arith, is_deep t d)) (c.requires.fits.reach k (is_node t d)),
+                may_apply p c.args.levels (c.args.levels - 1) k (omega (arith, is_deep t d)) (c.requires.fits.reach k (is_node t d)),
                 node_few c.args.made.now.next c.take_node-number.new.next c.take_node-number.ensures.next c.requires.few,
               ),
             ),
@@ -437,25 +433,21 @@ apply-enter-requires t c =
 pub base-variable-requires : goal.base-variable-requires
 base-variable-requires t c =
     let p = program_tree c.args.names.now in
-    let k = c.args.k in
-    let known = subst (IsKnownRoot p k) (ap root_of c.in-Var.is) c.requires.fits.known in
     let there = c.requires.inside.there in
-    let at = variable_at p k c.in-Var.name there.0 there.1 known in
-    (at.0, c.param-index.ensures ∙ ap (param_at p k) c.bytes.ensures.bytes ∙ at.1, omega (arith, at.2, c.requires.inside.count))
+    let at = variable_at p c.args.k c.in-Var.name there.0 there.1 (subst (IsKnownRoot p c.args.k) (ap root_of c.in-Var.is) c.requires.fits.known) in
+    (at.0, c.param-index.ensures ∙ ap (param_at p c.args.k) c.bytes.ensures.bytes ∙ at.1, omega (arith, at.2, c.requires.inside.count))
 
 pub base-parts-requires : goal.base-parts-requires
 base-parts-requires t c =
     let p = program_tree c.args.names.now in
-    let levels = c.args.levels in
     let args = all_trees c.in-Apply.args.items in
     let trees = ap all_trees c.deref.ensures.value in
-    let root = root_apply t (goal.at.base-parts-requires t c).In-Apply in
-    let fits = subst (RootFits p levels c.args.k c.args.depth) root c.requires.fits in (
+    let fits = subst (RootFits p c.args.levels c.args.k c.args.depth) (root_apply t (goal.at.base-parts-requires t c).In-Apply) c.requires.fits in (
       omega (arith, c.decreases),
       (
         c.requires.inside,
         (
-          subst (TreesFit p levels c.args.k c.args.depth) (sym trees) (args_fit p levels c.args.k c.args.depth c.in-Apply.name c.in-Apply.at args fits),
+          subst (TreesFit p c.args.levels c.args.k c.args.depth) (sym trees) (args_fit p c.args.levels c.args.k c.args.depth c.in-Apply.name c.in-Apply.at args fits),
           c.requires.few,
         ),
       ),
@@ -464,16 +456,14 @@ base-parts-requires t c =
 pub base-apply-requires : goal.base-apply-requires
 base-apply-requires t c =
     let p = program_tree c.args.names.now in
-    let levels = c.args.levels in
-    let root = root_apply t (goal.at.base-apply-requires t c).In-Apply in
-    let fits = subst (RootFits p levels c.args.k c.args.depth) root c.requires.fits in (
+    let fits = subst (RootFits p c.args.levels c.args.k c.args.depth) (root_apply t (goal.at.base-apply-requires t c).In-Apply) c.requires.fits in (
       omega (arith, c.decreases),
       (
         c.requires.inside.same,
         (
           c.requires.inside.sound,
           (
-            call_fits p levels c.args.k c.args.depth c.in-Apply.name c.in-Apply.at (all_trees c.in-Apply.args.items) fits,
+            call_fits p c.args.levels c.args.k c.args.depth c.in-Apply.name c.in-Apply.at (all_trees c.in-Apply.args.items) fits,
             c.in_ok-args-in-Apply.ensures.made.few,
           ),
         ),
@@ -483,15 +473,13 @@ base-apply-requires t c =
 pub base-parts-requires-in-Group : goal.base-parts-requires-in-Group
 base-parts-requires-in-Group t c =
     let p = program_tree c.args.names.now in
-    let levels = c.args.levels in
     let trees = ap all_trees c.deref-in-Group.ensures.value in
-    let root = root_group t (goal.at.base-parts-requires-in-Group t c).In-Group in
-    let fits = subst (RootFits p levels c.args.k c.args.depth) root c.requires.fits in (
+    let fits = subst (RootFits p c.args.levels c.args.k c.args.depth) (root_group t (goal.at.base-parts-requires-in-Group t c).In-Group) c.requires.fits in (
       omega (arith, c.decreases),
       (
         c.requires.inside,
         (
-          subst (TreesFit p levels c.args.k c.args.depth) (sym trees) (parts_fit p levels c.args.k c.args.depth (all_trees c.in-Group.exprs.items) fits),
+          subst (TreesFit p c.args.levels c.args.k c.args.depth) (sym trees) (parts_fit p c.args.levels c.args.k c.args.depth (all_trees c.in-Group.exprs.items) fits),
           c.requires.few,
         ),
       ),
@@ -500,16 +488,13 @@ base-parts-requires-in-Group t c =
 pub parts-expression-requires : goal.parts-expression-requires
 parts-expression-requires t c =
     let p = program_tree c.args.names.now in
-    let levels = c.args.levels in
     let es = c.args.exprs.now in
-    let i = c.loop-expr.expr-index in
-    let found = slice_get_read es (length es) i c.expr-item.result refl c.loop-expr-test.true c.expr-item.is in
-    let deep = some_depth p levels c.args.k c.args.depth (all_trees es) c.requires.fits in (
-      omega (arith, c.decreases, deep),
+    let found = slice_get_read es (length es) c.loop-expr.expr-index c.expr-item.result refl c.loop-expr-test.true c.expr-item.is in (
+      omega (arith, c.decreases, some_depth p c.args.levels c.args.k c.args.depth (all_trees es) c.requires.fits),
       (
         c.requires.inside,
         (
-          tree_fits p levels c.args.k c.args.depth es i c.expr-item.result found c.requires.fits,
+          tree_fits p c.args.levels c.args.k c.args.depth es c.loop-expr.expr-index c.expr-item.result found c.requires.fits,
           c.loop-expr.invariant.few,
         ),
       ),
@@ -517,14 +502,13 @@ parts-expression-requires t c =
 
 pub equations-expression-requires : goal.equations-expression-requires
 equations-expression-requires t c =
-    let es = c.args.eqs.now in
     let i = c.loop-equation.equation-index in
-    let found = slice_get_read es (length es) i c.equation-item.result refl c.loop-equation-test.true c.equation-item.is in (
+    let found = slice_get_read c.args.eqs.now (length c.args.eqs.now) i c.equation-item.result refl c.loop-equation-test.true c.equation-item.is in (
       omega (arith, c.decreases),
       (
         c.requires.inside,
         (
-          right_fits (program_tree c.args.names.now) c.args.levels c.args.k es i c.equation-item.result found c.requires.fits,
+          right_fits (program_tree c.args.names.now) c.args.levels c.args.k c.args.eqs.now i c.equation-item.result found c.requires.fits,
           c.loop-equation.invariant.few,
         ),
       ),

@@ -7,8 +7,7 @@ use Rattle.prl_graph.proofs.dues.output_marks.Goals as goal
 pub loop-flow-preserved : goal.loop-flow-preserved
 loop-flow-preserved c =
     let none : FlowNo = record { 0 = 0 } in
-    let outs = c.outs-flow-items.result.now in
     let n = c.loop-flow.flow-index in
-    let found = element_of outs c.args.flat.now.outs n none c.outs-flow-items.ensures.outs c.loop-flow-test.true in
-    one_marked c.args.flat.now n c.loop-flow.marks (get_or outs n none) c.loop-flow.invariant found
-    (c.outs-flow-items.ensures.well_formed.outs n (get_or outs n none) found)
+    let found = element_of c.outs-flow-items.result.now c.args.flat.now.outs n none c.outs-flow-items.ensures.outs c.loop-flow-test.true in
+    one_marked c.args.flat.now n c.loop-flow.marks (get_or c.outs-flow-items.result.now n none) c.loop-flow.invariant found
+    (c.outs-flow-items.ensures.well_formed.outs n (get_or c.outs-flow-items.result.now n none) found)

@@ -11,8 +11,7 @@ pub returns : goal.returns
 returns c =
     let p = c.args.flat.now in
     let source = c.in_ok-way.way.source.0 in
-    let ends = c.in_ok-way.ensures in
-    let below = end_within p c.flows-flows.ensures.well_formed c.args.flow.0 source c.in_ok-way.way.ops ends.leads c.requires.within in
+    let below = end_within p c.flows-flows.ensures.well_formed c.args.flow.0 source c.in_ok-way.way.ops c.in_ok-way.ensures.leads c.requires.within in
     let found = item_of c.flows-flows.result.now p.flows source c.index-flows-source.result c.flows-flows.ensures.flows below c.index-flows-source.is in
-    edge_of p c.args.clocks.now.of c.args.to c.args.port c.args.flow.0 source c.in_ok-way.way.ops _ ends c.producer-from.ensures refl refl refl
+    edge_of p c.args.clocks.now.of c.args.to c.args.port c.args.flow.0 source c.in_ok-way.way.ops _ c.in_ok-way.ensures c.producer-from.ensures refl refl refl
     (ap (λ (k : Clock). k.period) c.clock_of.ensures) (λ f there. ap (λ (x : Flow). x.ty) (same_flow p source c.index-flows-source.result f found there))

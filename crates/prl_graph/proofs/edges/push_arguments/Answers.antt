@@ -11,8 +11,7 @@ loop-j-init c = adds_none c.args.flat.now c.args.clocks.now.of c.args.edges.now.
 pub push_edge-requires-clause-within : goal.push_edge-requires-clause-within
 push_edge-requires-clause-within c =
     let none : Arg = record { flow = record { 0 = 0 }; at = record { at = 0; len = 0 } } in
-    let args = c.args.args.now in
-    c.requires.within c.loop-j.j (get_or args c.loop-j.j none) (element_of args args c.loop-j.j none refl c.loop-j-test.true)
+    c.requires.within c.loop-j.j (get_or c.args.args.now c.loop-j.j none) (element_of c.args.args.now c.args.args.now c.loop-j.j none refl c.loop-j-test.true)
 
 pub loop-j-preserved : goal.loop-j-preserved
 loop-j-preserved c =

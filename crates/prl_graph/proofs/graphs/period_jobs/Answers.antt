@@ -14,9 +14,8 @@ overflow_add-jobs c =
 
 pub nonzero_div-jobs : goal.nonzero_div-jobs
 nonzero_div-jobs c =
-    let tasks = c.args.tasks.now in
     let k = c.loop-task.task-index in
-    c.requires.periods k c.task-item.result (item_of tasks tasks k c.task-item.result refl c.loop-task-test.true c.task-item.is)
+    c.requires.periods k c.task-item.result (item_of c.args.tasks.now c.args.tasks.now k c.task-item.result refl c.loop-task-test.true c.task-item.is)
 
 pub loop-task-preserved : goal.loop-task-preserved
 loop-task-preserved c =

@@ -16,6 +16,6 @@ returns c = record {
         | inl all ↦ absurd (left all)
         | inr (i, n, first) ↦
             sound_state_goes_on k facts s (IsGated_sound k facts (opening k) (sound_opening k facts) list gated) i n
-            (record { task = first.task; job = first.job; unfinished = (let e = first.first in omega (arith, e)) })
+            (record { task = first.task; job = first.job; unfinished = (omega (arith, first.first)) })
       ];
 }

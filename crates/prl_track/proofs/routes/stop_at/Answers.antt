@@ -36,5 +36,4 @@ loop-at-preserved c =
 pub returns-clause-action : goal.returns-clause-action
 returns-clause-action c =
     let long : length c.args.route.now ≡ length (route_of c.args.plan.now.graph c.args.i.0) = ap (λ (r : List Access). length r) c.requires.route in
-    let past = c.loop-at-test.false in
-    sym (end_here c.args.plan.now c.args.i.0 c.args.n c.args.place c.loop-at.at c.loop-at.invariant (omega (arith, long, past)))
+    sym (end_here c.args.plan.now c.args.i.0 c.args.n c.args.place c.loop-at.at c.loop-at.invariant (omega (arith, long, c.loop-at-test.false)))

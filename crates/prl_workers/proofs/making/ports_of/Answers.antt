@@ -9,26 +9,18 @@ use Rattle.prl_workers.proofs.making.ports_of.Goals.{then-edge-i, else-edge-i}
 
 pub overflow_add-count : goal.overflow_add-count
 overflow_add-count c =
-    let bound = ports_within (take c.loop-edge.edge-index c.args.edges.now) c.args.i in
     let l = length-take-le c.loop-edge.edge-index c.args.edges.now c.loop-edge.auto.edge-index-end in
-    let below : c.loop-edge.edge-index < length c.args.edges.now = c.loop-edge-test.true in
-    let is : c.loop-edge.count ≡ length (port_types (take c.loop-edge.edge-index c.args.edges.now) c.args.i) = c.loop-edge.invariant in
-    let few = c.requires in
-    omega (arith, bound, l, below, is, few)
+    omega (arith, ports_within (take c.loop-edge.edge-index c.args.edges.now) c.args.i, l, c.loop-edge-test.true, c.loop-edge.invariant, c.requires)
 
 pub loop-edge-preserved : goal.loop-edge-preserved
 loop-edge-preserved c =
-    let below : c.loop-edge.edge-index < length c.args.edges.now = c.loop-edge-test.true in
-    let more = take_more c.args.edges.now c.loop-edge.edge-index c.edge-item.result below in
-    let is : c.loop-edge.count ≡ length (port_types (take c.loop-edge.edge-index c.args.edges.now) c.args.i) = c.loop-edge.invariant in
+    let more = take_more c.args.edges.now c.loop-edge.edge-index c.edge-item.result c.loop-edge-test.true in
     let push = ports_push (take c.loop-edge.edge-index c.args.edges.now) c.edge-item.result c.args.i in
     let whole = ap (λ (xs : List Edge). length (port_types xs c.args.i))
     (more ∙ ap (λ (e : Edge). take c.loop-edge.edge-index c.args.edges.now ++ e ∷ []) (sym c.edge-item.is)) in
     elim c.if-edge-i.branch [
       | then-edge-i w ↦
-          (let count = w.count-is in let one = ap {B = ℕ} (λ b. cond b 1 0) (test_same c.edge-item.result.to.0 c.args.i w.if-edge-i.true) in
-          omega (arith, is, push, whole, count, one))
+          omega (arith, c.loop-edge.invariant, push, whole, w.count-is, ap {B = ℕ} (λ b. cond b 1 0) (test_same c.edge-item.result.to.0 c.args.i w.if-edge-i.true))
       | else-edge-i w ↦
-          (let count = w.count-is in let none = ap {B = ℕ} (λ b. cond b 1 0) (test_differs c.edge-item.result.to.0 c.args.i w.if-edge-i.false) in
-          omega (arith, is, push, whole, count, none))
+          omega (arith, c.loop-edge.invariant, push, whole, w.count-is, ap {B = ℕ} (λ b. cond b 1 0) (test_differs c.edge-item.result.to.0 c.args.i w.if-edge-i.false))
     ]

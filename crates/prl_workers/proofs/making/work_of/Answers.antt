@@ -1,4 +1,4 @@
-use Rattle.std.proofs.Common.{◌≡◌, ℕ, List, Some, None, sym, ap, subst, ◌∙◌}
+use Rattle.std.proofs.Common.{◌≡◌, ℕ, List, sym, ap, subst, ◌∙◌}
 use Rattle.std.specs.Option.{option_copied}
 use Rattle.prl_base.specs.Names.{IsName}
 use Rattle.prl_body.specs.Bodies.{body_named}
@@ -26,10 +26,7 @@ unreachable-requires c =
     let tasks = c.as_slice.ensures ∙ ap (λ g. g.tasks) c.graph.ensures.graph in
     let at : c.index-as_slice-i.result ≡ task_at c.args.plan.now.graph c.args.i.0 =
     task_read c.as_slice.result.now c.args.plan.now.graph.tasks c.args.i.0 c.index-as_slice-i.result tasks c.requires.task c.index-as_slice-i.is in
-    let kind = ap (λ (t : Task). t.kind) (sym at) ∙ c.in-Node.is in
-    let has = c.requires.bodies.each c.args.i.0 c.in-Node.field-0 c.requires.task kind in
+    let has = c.requires.bodies.each c.args.i.0 c.in-Node.field-0 c.requires.task (ap (λ (t : Task). t.kind) (sym at) ∙ c.in-Node.is) in
     let word : c.in_ok-word-in-Node.word ≡ word_of (task_at c.args.plan.now.graph c.args.i.0).name =
     c.in_ok-word-in-Node.ensures ∙ c.word_of.ensures ∙ ap word_of (c.bytes.ensures ∙ ap (λ (t : Task). t.name) at) in
-    let named : body_named c.args.bodies.now c.in_ok-word-in-Node.word ≡ Some has.0 = ap (body_named c.args.bodies.now) word ∙ has.1 in
-    let none : option_copied None ≡ Some has.0 = ap option_copied (sym c.in-None.is) ∙ c.of.ensures ∙ named in
-    absurd (cc none)
+    absurd (cc (ap option_copied (sym c.in-None.is) ∙ c.of.ensures ∙ (ap (body_named c.args.bodies.now) word ∙ has.1)))

@@ -24,15 +24,12 @@ known_here c =
     c.sum_of-total.ensures
 
 pub nonzero_rem-past : goal.nonzero_rem-past
-nonzero_rem-past c =
-    let k = known_here (goal.at.nonzero_rem-past c).After-sum_of-total in
-    omega (arith, some_total _ _ _ _ k)
+nonzero_rem-past c = omega (arith, some_total _ _ _ _ (known_here (goal.at.nonzero_rem-past c).After-sum_of-total))
 
 pub gaps_to-last-requires-clause-rest : goal.gaps_to-last-requires-clause-rest
 gaps_to-last-requires-clause-rest c =
-    let k = known_here (goal.at.gaps_to-last-requires-clause-rest c).After-sum_of-total in
     let f = ap (λ (u : Used). (c.args.m - u.first) % c.sum_of-total.result) c.used-used.ensures in
-    omega (arith, rest_below _ _ _ _ k, f)
+    omega (arith, rest_below _ _ _ _ (known_here (goal.at.gaps_to-last-requires-clause-rest c).After-sum_of-total), f)
 
 pub returns-then-sum_of-past : goal.returns-then-sum_of-past
 returns-then-sum_of-past c =

@@ -28,30 +28,22 @@ counted_here : (c : After-gaps_to-last) (k : Known (slice_index_or c.args.self.n
 counted_here c k = counted _ _ c.args.m _ _ c.gaps_to-last.result c.used-used.ensures k c.if-m-used.false c.gaps_to-last.ensures.inside c.gaps_to-last.ensures.reached c.gaps_to-last.ensures.not_passed
 
 pub nonzero_div-result : goal.nonzero_div-result
-nonzero_div-result c =
-    let k = known_here (goal.at.nonzero_div-result c).After-sum_of-total in
-    omega (arith, some_total _ _ _ _ k)
+nonzero_div-result c = omega (arith, some_total _ _ _ _ (known_here (goal.at.nonzero_div-result c).After-sum_of-total))
 
 pub nonzero_rem-past : goal.nonzero_rem-past
-nonzero_rem-past c =
-    let k = known_here (goal.at.nonzero_rem-past c).After-sum_of-total in
-    omega (arith, some_total _ _ _ _ k)
+nonzero_rem-past c = omega (arith, some_total _ _ _ _ (known_here (goal.at.nonzero_rem-past c).After-sum_of-total))
 
 pub gaps_to-last-requires-clause-rest : goal.gaps_to-last-requires-clause-rest
 gaps_to-last-requires-clause-rest c =
-    let k = known_here (goal.at.gaps_to-last-requires-clause-rest c).After-sum_of-total in
     let f = ap (λ (u : Used). (c.args.m - 1 - u.first) % c.sum_of-total.result) c.used-used.ensures in
-    omega (arith, rest_below _ _ _ _ k, f)
+    omega (arith, rest_below _ _ _ _ (known_here (goal.at.gaps_to-last-requires-clause-rest c).After-sum_of-total), f)
 
 pub returns : goal.returns
-returns c =
-    let k = known_here (goal.at.returns c).After-sum_of-total in
-    (counted_here (goal.at.returns c).After-gaps_to-last k).0
+returns c = (counted_here (goal.at.returns c).After-gaps_to-last (known_here (goal.at.returns c).After-sum_of-total)).0
 
 pub overflow_add-result : goal.overflow_add-result
 overflow_add-result c =
-    let k = known_here (goal.at.overflow_add-result c).After-sum_of-total in
-    omega (arith, (counted_here (goal.at.overflow_add-result c).After-gaps_to-last k).1, c.requires.small)
+    omega (arith, (counted_here (goal.at.overflow_add-result c).After-gaps_to-last (known_here (goal.at.overflow_add-result c).After-sum_of-total)).1, c.requires.small)
 
 pub overflow_add-result-2 : goal.overflow_add-result-2
 overflow_add-result-2 c =
@@ -60,5 +52,4 @@ overflow_add-result-2 c =
 
 pub overflow_mul-result : goal.overflow_mul-result
 overflow_mul-result c =
-    let k = known_here (goal.at.overflow_mul-result c).After-sum_of-total in
-    omega (arith, (counted_here (goal.at.overflow_mul-result c).After-gaps_to-last k).1, c.requires.small)
+    omega (arith, (counted_here (goal.at.overflow_mul-result c).After-gaps_to-last (known_here (goal.at.overflow_mul-result c).After-sum_of-total)).1, c.requires.small)

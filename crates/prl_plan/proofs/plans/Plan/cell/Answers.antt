@@ -30,8 +30,7 @@ nonzero_rem-result c =
 pub overflow_cast-result : goal.overflow_cast-result
 overflow_cast-result c =
     let r = room _ _ c.self.view_is c.self.invariant c.args.e.0 c.args.m c.in-Some.k c.requires.edge (sym c.place.ensures.at ∙ c.in-Some.is) in
-    let below = mod_below c.in-Some.k c.from.result (omega (arith, r.some, c.from.ensures, c.count.ensures)) in
-    omega (arith, below, c.from.ensures, c.count.ensures, r.within, r.few)
+    omega (arith, mod_below c.in-Some.k c.from.result (omega (arith, r.some, c.from.ensures, c.count.ensures)), c.from.ensures, c.count.ensures, r.within, r.few)
 
 pub overflow_add-result : goal.overflow_add-result
 overflow_add-result c =

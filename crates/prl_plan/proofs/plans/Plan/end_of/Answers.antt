@@ -27,8 +27,8 @@ module _ (plan : PlanView) (is : IsPlan plan) (until i jobs : ℕ) (early : unti
       let some : 0 < jobs = omega (arith, small, count) in (
         some,
         elim (cases_lt n (jobs - 1)) [
-          | inl less ↦ (let a = apart_at plan is i n (jobs - 1) inside less in let b = room_at plan is i (jobs - 1) inside in omega (arith, a, b))
-          | inr last ↦ (let e : n ≡ jobs - 1 = omega (arith, small, count, last) in let s = ap (λ (k : ℕ). deadline_at plan i k) e in omega (arith, s))
+          | inl less ↦ omega (arith, apart_at plan is i n (jobs - 1) inside less, room_at plan is i (jobs - 1) inside)
+          | inr last ↦ (let e : n ≡ jobs - 1 = omega (arith, small, count, last) in omega (arith, ap (λ (k : ℕ). deadline_at plan i k) e))
         ],
       )
 
@@ -37,42 +37,37 @@ module _ (plan : PlanView) (is : IsPlan plan) (until i jobs : ℕ) (early : unti
     later : (last next : ℕ) → 0 < jobs → last ≡ deadline_at plan i (jobs - 1) → end < last → next ≡ last → Kept plan until (i + 1) next
     later last next some at less same = record {
       above = λ j n below job. elim (cases_lt j i) [
-        | inl before ↦ (let a = kept.above j n before job in omega (arith, a, less, same))
+        | inl before ↦ omega (arith, kept.above j n before job, less, same)
         | inr here ↦
             (let e : j ≡ i = omega (arith, below, here) in
-            let b = (below_last n (subst (λ (k : ℕ). IsHorizonJob plan.graph until k n) e job)).1 in
-            let s = ap (λ (k : ℕ). deadline_at plan k n) e in
-            omega (arith, b, s, at, same))
+            omega (arith, (below_last n (subst (λ (k : ℕ). IsHorizonJob plan.graph until k n) e job)).1, ap (λ (k : ℕ). deadline_at plan k n) e, at, same))
       ];
       attained = inr (i, jobs - 1, last_job some, same ∙ at);
-      small = (let l = last_small some in omega (arith, l, at, same));
+      small = omega (arith, last_small some, at, same);
     }
 
     earlier : (last next : ℕ) → 0 < jobs → last ≡ deadline_at plan i (jobs - 1) → last ≤ end → next ≡ end → Kept plan until (i + 1) next
     earlier last next some at less same = record {
       above = λ j n below job. elim (cases_lt j i) [
-        | inl before ↦ (let a = kept.above j n before job in omega (arith, a, same))
+        | inl before ↦ omega (arith, kept.above j n before job, same)
         | inr here ↦
             (let e : j ≡ i = omega (arith, below, here) in
-            let b = (below_last n (subst (λ (k : ℕ). IsHorizonJob plan.graph until k n) e job)).1 in
-            let s = ap (λ (k : ℕ). deadline_at plan k n) e in
-            omega (arith, b, s, at, less, same))
+            omega (arith, (below_last n (subst (λ (k : ℕ). IsHorizonJob plan.graph until k n) e job)).1, ap (λ (k : ℕ). deadline_at plan k n) e, at, less, same))
       ];
       attained = subst (λ (x : ℕ). (x ≡ 0) ⊎ ((j : ℕ) × (n : ℕ) × IsHorizonJob plan.graph until j n × (x ≡ deadline_at plan j n))) (sym same) kept.attained;
-      small = (let k = kept.small in omega (arith, k, same));
+      small = omega (arith, kept.small, same);
     }
 
     without : (next : ℕ) → jobs ≤ 0 → next ≡ end → Kept plan until (i + 1) next
     without next none same = record {
       above = λ j n below job. elim (cases_lt j i) [
-        | inl before ↦ (let a = kept.above j n before job in omega (arith, a, same))
+        | inl before ↦ omega (arith, kept.above j n before job, same)
         | inr here ↦
             absurd (let e : j ≡ i = omega (arith, below, here) in
-            let b = (below_last n (subst (λ (k : ℕ). IsHorizonJob plan.graph until k n) e job)).0 in
-            omega (arith, b, none))
+            omega (arith, (below_last n (subst (λ (k : ℕ). IsHorizonJob plan.graph until k n) e job)).0, none))
       ];
       attained = subst (λ (x : ℕ). (x ≡ 0) ⊎ ((j : ℕ) × (n : ℕ) × IsHorizonJob plan.graph until j n × (x ≡ deadline_at plan j n))) (sym same) kept.attained;
-      small = (let k = kept.small in omega (arith, k, same));
+      small = omega (arith, kept.small, same);
     }
 
 pub deadline-last-requires-clause-small : goal.deadline-last-requires-clause-small

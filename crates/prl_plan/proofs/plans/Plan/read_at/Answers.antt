@@ -10,8 +10,7 @@ small_operand : (plan : PlanView) → IsPlan plan → (e n i : ℕ) → e < leng
     (o : Operand) → operand_of (edge_at plan.graph e) n ≡ o → IsSmallOperand o
 small_operand plan is e n i inside to small (operands.Const c) at = tt
 small_operand plan is e n i inside to small (operands.From m) at =
-    (let low = subst (λ (k : ℕ). release_at plan k n < 2 ^ 63) (sym to) small in
-    omega (arith, operand_within plan is e n m inside at, low))
+    omega (arith, operand_within plan is e n m inside at, subst (λ (k : ℕ). release_at plan k n < 2 ^ 63) (sym to) small)
 
 pub read_on-requires-clause-small : goal.read_on-requires-clause-small
 read_on-requires-clause-small c =

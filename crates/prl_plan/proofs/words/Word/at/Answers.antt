@@ -12,9 +12,7 @@ number-requires-clause-fits c =
     let w = c.args.self.now in
     let long : length c.as_slice-prefix.result.now ≡ length w.prefix = ap length c.as_slice-prefix.ensures in
     let past : length w.prefix ≤ c.args.n = omega (arith, long) in
-    let same : number_at w (c.args.n - length c.as_slice-prefix.result.now) ≡ number_at w (c.args.n - length w.prefix) =
-    ap (λ (k : ℕ). number_at w (c.args.n - k)) long in
-    omega (arith, same, c.requires.fits (number_at w (c.args.n - length w.prefix)) (after_prefix w c.args.n past))
+    omega (arith, ap (λ (k : ℕ). number_at w (c.args.n - k)) long, c.requires.fits (number_at w (c.args.n - length w.prefix)) (after_prefix w c.args.n past))
 
 pub returns-then-n-count : goal.returns-then-n-count
 returns-then-n-count c =

@@ -12,10 +12,9 @@ returns c =
       horizon = c.self.inside.horizon;
       state = record { now = c.self.inside.now; ended = c.self.inside.ended.items; places = c.self.inside.places.items; tags = c.self.inside.tags.items };
     } in
-    let seen : track ≡ c.args.self.now = c.self.view_is in
-    let inside : c.args.j.0 < length track.plan.graph.tasks = subst (λ (v : TrackView). c.args.j.0 < length v.plan.graph.tasks) (sym seen) c.requires in
+    let inside : c.args.j.0 < length track.plan.graph.tasks = subst (λ (v : TrackView). c.args.j.0 < length v.plan.graph.tasks) (sym c.self.view_is) c.requires in
     let l = c.self.invariant.first_jobs.tasks in
-    subst (λ (v : TrackView). IsFirstOf (run_of v) v.state c.args.j.0 c.index.result.now) seen
+    subst (λ (v : TrackView). IsFirstOf (run_of v) v.state c.args.j.0 c.index.result.now) c.self.view_is
     (first_of (run_of track) track.state c.args.j.0 c.index.result.now inside
     (c.self.invariant.first_jobs.each c.args.j.0 c.index.result.now
     (slice_get_read c.self.inside.firsts.items (length c.self.inside.firsts.items) c.args.j.0 c.index.result.now refl (omega (arith, l, inside)) c.index.ensures)))

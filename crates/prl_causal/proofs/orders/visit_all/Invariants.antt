@@ -1,6 +1,6 @@
 use Rattle.std.proofs.Common.{◌<◌, ℕ, []}
 use Rattle.prl_causal.specs.Vocabulary.{IsMarked, IsSorted}
-use Rattle.prl_causal.proofs.orders.order.Given as goal
+use Rattle.prl_causal.proofs.orders.visit_all.Given as goal
 
 abbrev pub invariant-loop-from : goal.invariant-loop-from
 invariant-loop-from l = record {
