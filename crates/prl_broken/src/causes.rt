@@ -3,7 +3,7 @@
 use prl_base::TaskNo;
 
 /// A job, and its encoded dates in ticks.
-#[derive(Clone, Copy, PartialEq, Eq)]
+#[derive(Clone, Copy)]
 pub struct DatedJob {
     pub task: TaskNo,
     /// The number of the job, counted from 0.
@@ -13,7 +13,7 @@ pub struct DatedJob {
 }
 
 /// What an event that breaks a rule is about.
-#[derive(Clone, Copy, PartialEq, Eq)]
+#[derive(Clone, Copy)]
 pub enum Cause {
     /// The act is of this job, which is not released yet.
     Early(DatedJob),
@@ -40,7 +40,7 @@ pub enum Cause {
 }
 
 /// The tick at which an event breaks a rule, and what it is about.
-#[derive(Clone, Copy, PartialEq, Eq)]
+#[derive(Clone, Copy)]
 pub struct Finding {
     pub tick: u64,
     pub cause: Cause,

@@ -12,7 +12,7 @@ use prl_plan::{Plan, horizon_jobs_are_counted, look_ups_fit, plan_is_one};
 pub(crate) const DATES: u64 = 4_294_967_296;
 
 /// A job with its encoded dates, and when it is released by its task's clock.
-#[derive(Clone, Copy, PartialEq, Eq)]
+#[derive(Clone, Copy)]
 pub(crate) struct Next {
     pub(crate) job: DatedJob,
     pub(crate) own: u64,

@@ -17,7 +17,7 @@ use std::alloc::{AllocError, Global};
 const MOST: u32 = 4096;
 
 /// The first unfinished job of a task.
-#[derive(Clone, Copy, PartialEq, Eq)]
+#[derive(Clone, Copy)]
 pub struct Left {
     pub task: TaskNo,
     /// The number of the job, counted from 0.

@@ -8,6 +8,6 @@ mod reading;
 mod words;
 
 pub use endings::{Stop, finish};
-pub use faults::{Fault, end, unfit, unfit_for, why_of};
+pub use faults::{Fault, Piece, end, unfit, unfit_for, why_of, why_with};
 pub use reading::read_named;
 pub use words::{after_name, are_pairs, asks_help, number_up_to, value_of};

@@ -1,7 +1,11 @@
 -- Where a tick stands in a picture.
-use Rattle.std.specs.Prelude.{◌+◌, ◌-◌, ◌*◌, ◌/◌, ◌&&◌, ℕ, Bool, min, nat_lt}
+use Rattle.std.specs.Prelude.{◌+◌, ◌-◌, ◌*◌, ◌/◌, ◌<◌, ◌^◌, ◌&&◌, ℕ, Bool, min, nat_lt}
 use Rattle.prl_drawing.specs.declared.scales.TheConstants.{LEFT, WIDTH}
 use Rattle.prl_drawing.specs.declared.scales.Scale.{Scale}
+
+-- some ticks are drawn, and these fit in 34 bits
+abbrev pub IsScale : Scale → Type 0
+IsScale scale = (scale.from < 2 ^ 32) × (0 < scale.span) × (scale.span < 2 ^ 33)
 
 -- in tenths of a pixel, from the left: the width is shared by the ticks of the span
 abbrev pub x_of : Scale → ℕ → ℕ

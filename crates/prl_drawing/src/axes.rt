@@ -1,14 +1,18 @@
 //! What each picture begins with, and lines at ticks with when these are.
 
-ghost use Rattle.std.specs.Prelude.{◌<◌, ◌^◌};
+ghost use Rattle.std.specs.Prelude.{◌<◌};
+ghost use Rattle.prl_drawing.specs.Scales.{IsScale};
 
 use crate::scales::{Scale, x_of};
-use crate::texts::{push, push_attribute};
+use crate::texts::{push, push_all};
 use crate::units::{Unit, push_time};
 use std::alloc::AllocError;
 
 /// How wide a picture is, in tenths of a pixel.
 const WHOLE: u64 = 12_000;
+
+/// What a picture begins with, up to the number of its height.
+const SVG: &str = "<svg xmlns=\"http://www.w3.org/2000/svg\" width=\"1200\" height=\"";
 
 /// Ticks with a line lie so many powers of ten apart, or twice or five times as many.
 static SHARES: [u64; 3] = [1, 2, 5];
@@ -23,14 +27,12 @@ pub struct Axis {
 
 /// Appends what a picture of this height begins with.
 pub fn push_svg(text: &mut Vec<u8>, height: u64) -> Result<(), AllocError> {
-    push(
-        text,
-        "<svg xmlns=\"http://www.w3.org/2000/svg\" width=\"1200\"",
-    )?;
-    push_attribute(text, " height=\"", height / 10)?;
-    push_attribute(text, "\" viewBox=\"0 0 ", WHOLE)?;
-    push_attribute(text, " ", height)?;
-    push(text, "\">\n")
+    let attributes = [
+        (SVG, height / 10),
+        ("\" viewBox=\"0 0 ", WHOLE),
+        (" ", height),
+    ];
+    push_all(text, &attributes, "\">\n")
 }
 
 /// How far ticks with a line lie apart that are this power of ten or a share of it apart, where fewer
@@ -67,12 +69,14 @@ fn push_tick(
     x: u64,
     tick: u64,
 ) -> Result<(), AllocError> {
-    push_attribute(text, "<path class=\"g\" d=\"M", x)?;
-    push_attribute(text, " ", axis.top)?;
-    push_attribute(text, "V", axis.bottom)?;
-    push_attribute(text, "\"/><text class=\"x\" x=\"", x)?;
-    push_attribute(text, "\" y=\"", axis.times)?;
-    push(text, "\">")?;
+    let attributes = [
+        ("<path class=\"g\" d=\"M", x),
+        (" ", axis.top),
+        ("V", axis.bottom),
+        ("\"/><text class=\"x\" x=\"", x),
+        ("\" y=\"", axis.times),
+    ];
+    push_all(text, &attributes, "\">")?;
     push_time(text, unit, tick)?;
     push(text, "</text>\n")
 }
@@ -85,8 +89,7 @@ pub fn push_times(
     axis: Axis,
     most: u64,
 ) -> Result<(), AllocError>
-    requires from { scale.from < 2 ^ 32 }
-    requires span { (0 < scale.span) × (scale.span < 2 ^ 33) }
+    requires range { IsScale scale }
 {
     let step = step_of(scale.span, most);
     let end = scale.from + scale.span;
@@ -100,8 +103,8 @@ pub fn push_times(
 
 /// Appends what the times are told in.
 pub fn push_unit_name(text: &mut Vec<u8>, unit: &Unit, axis: Axis) -> Result<(), AllocError> {
-    push_attribute(text, "<text class=\"u\" x=\"1500\" y=\"", axis.times)?;
-    push(text, "\">")?;
+    let front = "<text class=\"u\" x=\"1500\" y=\"";
+    push_all(text, &[(front, axis.times)], "\">")?;
     push(text, unit.name)?;
     push(text, "</text>\n")
 }

@@ -1,7 +1,8 @@
 //! Rectangles in the colours of tasks, and over the ticks of an interval.
 
-ghost use Rattle.std.specs.Prelude.{◌≡◌, ◌++◌, ◌<◌, ◌^◌, OnOk};
+ghost use Rattle.std.specs.Prelude.{◌≡◌, ◌++◌, OnOk};
 ghost use Rattle.prl_drawing.specs.Boxes.{box_text, coloured_text, place_text, sides_text};
+ghost use Rattle.prl_drawing.specs.Scales.{IsScale};
 
 use crate::rows::colour_of;
 use crate::scales::{Scale, x_within};
@@ -80,8 +81,7 @@ pub fn push_box(
     top: u64,
     height: u64,
 ) -> Result<(), AllocError>
-    requires from { scale.from < 2 ^ 32 }
-    requires span { (0 < scale.span) × (scale.span < 2 ^ 33) }
+    requires range { IsScale scale }
     ensures { OnOk result (text.new.items ≡ text.old.items ++ box_text scale task from to top height) }
 {
     let left = x_within(scale, from);

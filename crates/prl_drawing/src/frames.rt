@@ -1,11 +1,12 @@
 //! What stands around the windows of a picture: its head, the ticks, and the names of rows.
 
 ghost use Rattle.std.specs.Prelude.{◌<◌, ◌^◌};
+ghost use Rattle.prl_drawing.specs.Scales.{IsScale};
 
 use crate::axes::{Axis, push_svg, push_times, push_unit_name};
 use crate::rows::{TOP, row_of};
 use crate::scales::{LEFT, Scale, WIDTH};
-use crate::texts::{push, push_attribute};
+use crate::texts::{push, push_all, push_attribute};
 use crate::units::Unit;
 use std::alloc::AllocError;
 
@@ -79,8 +80,7 @@ pub fn push_ticks(
     unit: &Unit,
     bottom: u64,
 ) -> Result<(), AllocError>
-    requires from { scale.from < 2 ^ 32 }
-    requires span { (0 < scale.span) × (scale.span < 2 ^ 33) }
+    requires range { IsScale scale }
 {
     let axis = Axis {
         top: TOP,
@@ -95,9 +95,12 @@ pub fn push_ticks(
 fn push_row(text: &mut Vec<u8>, y: u64) -> Result<(), AllocError>
     requires { y < 2 ^ 42 }
 {
-    push_attribute(text, "<path class=\"l\" d=\"M100 ", y)?;
-    push_attribute(text, "H", LEFT + WIDTH + 200)?;
-    push_attribute(text, "\"/><text x=\"100\" y=\"", y + 190)
+    let attributes = [
+        ("<path class=\"l\" d=\"M100 ", y),
+        ("H", LEFT + WIDTH + 200),
+        ("\"/><text x=\"100\" y=\"", y + 190),
+    ];
+    push_all(text, &attributes, "")
 }
 
 /// Appends the name of a task, its period and its WCET, and a line above its row.
@@ -120,10 +123,12 @@ pub fn push_name(
     }
     push(text, "\">")?;
     text.extend_from_slice(name)?;
-    push_attribute(text, "</text><text class=\"k\" x=\"100\" y=\"", y + 320)?;
-    push_attribute(text, "\">period ", period)?;
-    push_attribute(text, ", wcet ", u64::from(wcet))?;
-    push(text, "</text>\n")
+    let attributes = [
+        ("</text><text class=\"k\" x=\"100\" y=\"", y + 320),
+        ("\">period ", period),
+        (", wcet ", u64::from(wcet)),
+    ];
+    push_all(text, &attributes, "</text>\n")
 }
 
 /// Appends what a row of the processor begins with.

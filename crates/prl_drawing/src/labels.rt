@@ -5,7 +5,7 @@ ghost use Rattle.std.specs.Prelude.{◌+◌, ◌<◌, ◌^◌};
 use crate::boxes::{LEAST, push_telling};
 use crate::rows::{colour_of, row_of};
 use crate::scales::{Scale, x_of};
-use crate::texts::{push, push_attribute};
+use crate::texts::{push, push_all, push_attribute};
 use crate::units::{Unit, push_time};
 use std::alloc::AllocError;
 
@@ -34,16 +34,15 @@ pub fn push_title(
     unit: &Unit,
     left_out: u64,
 ) -> Result<(), AllocError> {
-    push_attribute(text, "<text x=\"100\" y=\"190\">hyperperiod ", hyper)?;
-    push_attribute(
-        text,
-        " ticks; jobs that are released from tick ",
-        scale.from,
-    )?;
-    push_attribute(text, " on and before tick ", scale.until)?;
+    let attributes = [
+        ("<text x=\"100\" y=\"190\">hyperperiod ", hyper),
+        (" ticks; jobs that are released from tick ", scale.from),
+        (" on and before tick ", scale.until),
+    ];
+    push_all(text, &attributes, "")?;
     if left_out > 0 {
-        push_attribute(text, "; ", left_out)?;
-        push(text, " later jobs of the range are not drawn")?;
+        let tail = " later jobs of the range are not drawn";
+        push_all(text, &[("; ", left_out)], tail)?;
     }
     push_unit(text, unit)?;
     push(text, "</text>\n")
@@ -52,8 +51,7 @@ pub fn push_title(
 /// Appends that the task of a name acts at a tick, at the end of what is told.
 fn push_acting(text: &mut Vec<u8>, name: &[u8], tick: u64) -> Result<(), AllocError> {
     text.extend_from_slice(name)?;
-    push_attribute(text, " acts at tick ", tick)?;
-    push(text, "</title></rect>\n")
+    push_all(text, &[(" acts at tick ", tick)], "</title></rect>\n")
 }
 
 /// Appends the sign of a task that acts at a tick, and what is told of it.
@@ -88,9 +86,11 @@ fn push_label(
         return Ok(());
     }
     let middle = left.saturating_add(width / 2);
-    push_attribute(text, "<text class=\"j\" x=\"", middle)?;
-    push_attribute(text, "\" y=\"", row_of(row) + 195)?;
-    push(text, "\">")?;
+    let attributes = [
+        ("<text class=\"j\" x=\"", middle),
+        ("\" y=\"", row_of(row) + 195),
+    ];
+    push_all(text, &attributes, "\">")?;
     text.extend_from_slice(name)?;
     push(text, "</text>\n")
 }

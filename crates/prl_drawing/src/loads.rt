@@ -1,7 +1,7 @@
 //! What the row of a processor tells: for how many ticks it is busy, or the interval in which its jobs
 //! ask for more than there is.
 
-ghost use Rattle.std.specs.Prelude.{◌<◌, ◌^◌};
+ghost use Rattle.prl_drawing.specs.Scales.{IsScale};
 
 use crate::boxes::push_place;
 use crate::frames::push_processor;
@@ -9,7 +9,7 @@ use crate::marks::push_frame;
 use crate::rows::{TOP, row_of};
 use crate::scales::{Scale, is_seen, x_within};
 use crate::shapes::Shape;
-use crate::texts::{push, push_attribute};
+use crate::texts::{push, push_all};
 use std::alloc::AllocError;
 
 /// How wide an overloaded interval is that has its demand written in it.
@@ -43,33 +43,33 @@ pub fn push_load(text: &mut Vec<u8>, row: u32, load: Load) -> Result<(), AllocEr
     push(text, load.legend)?;
     push_processor(text, row)?;
     let share = load.busy.saturating_mul(100) / load.ticks.max(1);
-    push_attribute(text, load.name, share)?;
-    push(text, " %")?;
-    push_second(text, row)?;
-    push_attribute(text, "\">busy ", load.busy)?;
-    push_attribute(text, " of ", load.ticks)?;
-    push(text, " ticks</text>\n")
+    push_all(text, &[(load.name, share)], " %")?;
+    let attributes = [
+        second_line(row),
+        ("\">busy ", load.busy),
+        (" of ", load.ticks),
+    ];
+    push_all(text, &attributes, " ticks</text>\n")
 }
 
-/// Appends what the second line of the processor's row begins with.
-pub fn push_second(text: &mut Vec<u8>, row: u32) -> Result<(), AllocError> {
-    push_attribute(
-        text,
-        "</text><text class=\"k\" x=\"100\" y=\"",
-        row_of(row) + 320,
-    )
+/// The attribute that the second line of the processor's row begins with.
+pub fn second_line(row: u32) -> (&'static str, u64) {
+    let front = "</text><text class=\"k\" x=\"100\" y=\"";
+    (front, row_of(row) + 320)
 }
 
 /// Appends the demand of an overloaded interval, and its length.
 fn push_demand(text: &mut Vec<u8>, row: u32, overload: Overload) -> Result<(), AllocError> {
     push_processor(text, row)?;
     push(text, ": overload")?;
-    push_second(text, row)?;
-    push_attribute(text, "\">", overload.from)?;
-    push_attribute(text, " to ", overload.to)?;
-    push_attribute(text, ": demand ", overload.demand)?;
-    push_attribute(text, ", has ", overload.to.saturating_sub(overload.from))?;
-    push(text, "</text>\n")
+    let attributes = [
+        second_line(row),
+        ("\">", overload.from),
+        (" to ", overload.to),
+        (": demand ", overload.demand),
+        (", has ", overload.to.saturating_sub(overload.from)),
+    ];
+    push_all(text, &attributes, "</text>\n")
 }
 
 /// Appends the demand of an overloaded interval in its mark, where that is wide enough.
@@ -83,11 +83,13 @@ fn push_inside(
     if width < WIDE {
         return Ok(());
     }
-    push_attribute(text, "<text class=\"k\" x=\"", left.saturating_add(40))?;
-    push_attribute(text, "\" y=\"", row_of(row) + 190)?;
-    push_attribute(text, "\">demand ", overload.demand)?;
-    push_attribute(text, " in ", overload.to.saturating_sub(overload.from))?;
-    push(text, " ticks</text>\n")
+    let attributes = [
+        ("<text class=\"k\" x=\"", left.saturating_add(40)),
+        ("\" y=\"", row_of(row) + 190),
+        ("\">demand ", overload.demand),
+        (" in ", overload.to.saturating_sub(overload.from)),
+    ];
+    push_all(text, &attributes, " ticks</text>\n")
 }
 
 /// Appends the mark of an overloaded interval, over the rows of all tasks and that of the processor,
@@ -98,8 +100,7 @@ pub fn push_overload(
     row: u32,
     overload: Overload,
 ) -> Result<(), AllocError>
-    requires from { scale.from < 2 ^ 32 }
-    requires span { (0 < scale.span) × (scale.span < 2 ^ 33) }
+    requires range { IsScale scale }
 {
     push(text, LEGEND)?;
     push_demand(text, row, overload)?;

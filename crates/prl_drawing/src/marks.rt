@@ -4,7 +4,7 @@
 use crate::boxes::{LEAST, push_place};
 use crate::rows::{COLOURS, GAP, colour_of, row_of};
 use crate::shapes::Shape;
-use crate::texts::{push, push_attribute};
+use crate::texts::{push, push_all, push_attribute};
 use crate::window_texts::HIGH;
 use std::alloc::AllocError;
 
@@ -29,9 +29,8 @@ pub fn push_bar(text: &mut Vec<u8>, shape: &Shape) -> Result<(), AllocError> {
 
 /// Appends a line at an own date of a job.
 fn push_own(text: &mut Vec<u8>, x: u64, row: u32) -> Result<(), AllocError> {
-    push_attribute(text, "<path class=\"o\" d=\"M", x)?;
-    push_attribute(text, " ", row_of(row) + 30)?;
-    push(text, "v260\"/>\n")
+    let attributes = [("<path class=\"o\" d=\"M", x), (" ", row_of(row) + 30)];
+    push_all(text, &attributes, "v260\"/>\n")
 }
 
 /// Appends lines at the own release and the own deadline of a job, where they are not the encoded ones.
@@ -66,18 +65,18 @@ pub fn push_arrow(
     before: &Shape,
     after: &Shape,
 ) -> Result<(), AllocError> {
-    let lane = row_of(before.row) + LANE;
-    push_attribute(text, "<path class=\"a e", colour_of(before.task))?;
-    if delayed {
-        push(text, " d")?;
-    }
-    push_attribute(text, "\" d=\"M", before.bar.min(before.right))?;
-    push_attribute(text, " ", row_of(before.row) + 220)?;
-    push_attribute(text, "V", lane)?;
-    push_attribute(text, "H", trunk_of(before, after))?;
-    push_attribute(text, "V", row_of(after.row) + 150)?;
-    push_attribute(text, "H", after.left)?;
-    push(text, "\"/>\n")
+    let tail = if delayed { " d" } else { "" };
+    let colour = colour_of(before.task);
+    push_all(text, &[("<path class=\"a e", colour)], tail)?;
+    let attributes = [
+        ("\" d=\"M", before.bar.min(before.right)),
+        (" ", row_of(before.row) + 220),
+        ("V", row_of(before.row) + LANE),
+        ("H", trunk_of(before, after)),
+        ("V", row_of(after.row) + 150),
+        ("H", after.left),
+    ];
+    push_all(text, &attributes, "\"/>\n")
 }
 
 /// Whether the windows of both jobs are wide enough for an arrow to be followed.

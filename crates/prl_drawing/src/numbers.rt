@@ -2,7 +2,7 @@
 
 use crate::rows::row_of;
 use crate::shapes::Shape;
-use crate::texts::{push, push_attribute};
+use crate::texts::push_all;
 use std::alloc::AllocError;
 
 /// How wide a digit is, in tenths of a pixel.
@@ -41,14 +41,15 @@ fn push_number(text: &mut Vec<u8>, shape: &Shape) -> Result<(), AllocError> {
     if width < width_of(shape.job).saturating_add(FREE) {
         return Ok(());
     }
-    push_attribute(
-        text,
-        "<text class=\"j\" x=\"",
-        shape.left.saturating_add(width / 2),
-    )?;
-    push_attribute(text, "\" y=\"", row_of(shape.row) + 165)?;
-    push_attribute(text, "\">", shape.job)?;
-    push(text, "</text>\n")
+    let attributes = [
+        (
+            "<text class=\"j\" x=\"",
+            shape.left.saturating_add(width / 2),
+        ),
+        ("\" y=\"", row_of(shape.row) + 165),
+        ("\">", shape.job),
+    ];
+    push_all(text, &attributes, "</text>\n")
 }
 
 /// Appends the numbers of the jobs, over all else.

@@ -1,7 +1,7 @@
 //! Where a tick stands in a picture.
 
 ghost use Rattle.std.specs.Prelude.{◌≡◌, ◌<◌, ◌^◌};
-ghost use Rattle.prl_drawing.specs.Scales.{is_seen, x_of, x_within};
+ghost use Rattle.prl_drawing.specs.Scales.{is_seen, IsScale, x_of, x_within};
 
 /// Where the first tick stands, in tenths of a pixel.
 pub const LEFT: u64 = 1_600;
@@ -10,7 +10,7 @@ pub const LEFT: u64 = 1_600;
 pub const WIDTH: u64 = 10_000;
 
 /// What ticks are drawn, and how wide.
-#[derive(Clone, Copy, PartialEq, Eq)]
+#[derive(Clone, Copy)]
 pub struct Scale {
     /// The first tick.
     pub from: u64,
@@ -31,8 +31,7 @@ pub fn x_of(scale: Scale, tick: u64) -> u64
 
 /// Where a tick stands; one behind the last stands where that does.
 pub fn x_within(scale: Scale, tick: u64) -> u64
-    requires from { scale.from < 2 ^ 32 }
-    requires span { (0 < scale.span) × (scale.span < 2 ^ 33) }
+    requires range { IsScale scale }
     ensures { result ≡ x_within scale tick }
 {
     x_of(scale, tick.min(scale.from + scale.span))

@@ -1,7 +1,7 @@
 //! A job as a picture shows it.
 
 /// A job, its dates in ticks, and where they stand.
-#[derive(Clone, Copy, PartialEq, Eq)]
+#[derive(Clone, Copy)]
 pub struct Shape {
     /// The row that it stands in.
     pub row: u32,

@@ -10,7 +10,7 @@ use std::alloc::AllocError;
 pub const MOST_DIGITS: usize = 9;
 
 /// How long a tick is: so many parts of a unit, of which the unit has so many.
-#[derive(Clone, Copy, PartialEq, Eq)]
+#[derive(Clone, Copy)]
 pub struct Unit {
     pub parts: u64,
     pub whole: u64,

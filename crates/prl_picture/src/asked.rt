@@ -10,8 +10,10 @@ ghost use Rattle.prl_views.specs.Shown.{IsOfPlan};
 
 use crate::ranges::MAX_UNTIL;
 use crate::words::FORM;
-use prl_base::{TaskNo, push_number};
-use prl_companions::{Fault, Stop, number_up_to, read_named, unfit, unfit_for, value_of, why_of};
+use prl_base::TaskNo;
+use prl_companions::{
+    Fault, Piece, Stop, number_up_to, read_named, unfit, unfit_for, value_of, why_of, why_with,
+};
 use prl_cores::{CoresFault, Spread, read_cores, spread, spread_plans_keep_facts};
 use prl_edf::analyse;
 use prl_io::Files;
@@ -60,10 +62,11 @@ fn events_in<F: Files>(
 fn missing(alloc: Global, plan: &Plan, task: TaskNo) -> Result<Vec<u8>, AllocError>
     requires { task.0 < length plan.now.graph.tasks }
 {
-    let mut why = Vec::new(alloc);
-    why.extend_from_slice(b"99 core missing ")?;
-    why.extend_from_slice(task_of(plan, task).name.bytes())?;
-    Ok(why)
+    let front = Piece::Text(b"99 core missing ");
+    why_with(
+        alloc,
+        &[front, Piece::Text(task_of(plan, task).name.bytes())],
+    )
 }
 
 /// Why a text of processors does not fit.
@@ -181,32 +184,35 @@ fn listed<F: Files>(
     }
 }
 
+/// The name of a task; no bytes where the plan has no such one.
+fn name_of(plan: &Plan, task: TaskNo) -> &[u8] {
+    if (task.0 as usize) < plan.graph().tasks.len() {
+        task_of(plan, task).name.bytes()
+    } else {
+        b""
+    }
+}
+
 /// The words `95 units`, the name of a task and the number of a job.
 fn units_of(alloc: Global, plan: &Plan, task: TaskNo, job: u64) -> Result<Vec<u8>, AllocError> {
-    let mut why = Vec::new(alloc);
-    why.extend_from_slice(b"95 units ")?;
-    if (task.0 as usize) < plan.graph().tasks.len() {
-        why.extend_from_slice(task_of(plan, task).name.bytes())?;
-    }
-    why.extend_from_slice(b" ")?;
-    push_number(&mut why, job)?;
-    Ok(why)
+    let front = Piece::Text(b"95 units ");
+    let name = Piece::Text(name_of(plan, task));
+    why_with(alloc, &[front, name, Piece::Text(b" "), Piece::Number(job)])
 }
 
 /// A text with a number, words and another number.
-fn two_numbers(
+fn two_numbers<'x>(
     alloc: Global,
-    front: &str,
+    front: &'x [u8],
     first: u64,
-    middle: &str,
+    middle: &'x [u8],
     second: u64,
 ) -> Result<Vec<u8>, AllocError> {
-    let mut why = Vec::new(alloc);
-    why.extend_from_slice(front.as_bytes())?;
-    push_number(&mut why, first)?;
-    why.extend_from_slice(middle.as_bytes())?;
-    push_number(&mut why, second)?;
-    Ok(why)
+    let (front, middle) = (Piece::Text(front), Piece::Text(middle));
+    why_with(
+        alloc,
+        &[front, Piece::Number(first), middle, Piece::Number(second)],
+    )
 }
 
 /// The line that `prelude` tells of a table that is refused.
@@ -216,10 +222,10 @@ fn table_line(alloc: Global, plan: &Plan, fault: TableFault) -> Result<Vec<u8>, 
         TableFault::Piece(line) => why_of(alloc, "94 piece ", line),
         TableFault::Units { task, job } => units_of(alloc, plan, task, job),
         TableFault::Clash { first, second } => {
-            two_numbers(alloc, "96 clash ", first, " ", second)
+            two_numbers(alloc, b"96 clash ", first, b" ", second)
         }
         TableFault::Order { edge, job } => {
-            two_numbers(alloc, "97 order edge ", u64::from(edge.0), " job ", job)
+            two_numbers(alloc, b"97 order edge ", u64::from(edge.0), b" job ", job)
         }
         TableFault::Memory => Err(AllocError),
     }

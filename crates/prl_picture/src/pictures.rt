@@ -14,27 +14,20 @@ use crate::ranges::{MAX_UNTIL, left_out, scale_of};
 use crate::words::{FORM, HELP, OPTIONS, range_of, tick_unit, whole_before};
 use prl_base::Seq;
 use prl_companions::{
-    Fault, Stop, after_name, are_pairs, asks_help, end, read_named, unfit_for, value_of,
+    Fault, Piece, Stop, after_name, are_pairs, asks_help, end, read_named, unfit_for, value_of,
+    why_with,
 };
 use prl_io::{Files, Sink};
 use prl_plan::Plan;
 use prl_plantext::{PlanFault, read_plan};
 use prl_views::{View, picture_of};
-use std::alloc::{AllocError, Global};
+use std::alloc::Global;
 
 /// The most bytes of a plan's text.
 pub const MAX_PLAN: u64 = 33_554_432;
 
 /// Why there is no picture.
 const NO_PLAN: &str = "not the text of a plan";
-
-/// The words that the plan has no task of this name.
-fn no_task(alloc: Global, name: &[u8]) -> Result<Vec<u8>, AllocError> {
-    let mut why = Vec::new(alloc);
-    why.extend_from_slice(b"no task ")?;
-    why.extend_from_slice(name)?;
-    Ok(why)
-}
 
 /// The rows of the task of a name and its neighbours.
 fn near_of(alloc: Global, words: &[String], plan: &Plan, name: &[u8]) -> Result<Vec<u32>, Fault>
@@ -45,7 +38,8 @@ fn near_of(alloc: Global, words: &[String], plan: &Plan, name: &[u8]) -> Result<
         Some(task) => Ok(near_rows(alloc, plan, task)?),
         None => {
             let file = value_of(b"--plan", words).unwrap_or(b"");
-            Err(unfit_for(alloc, file, no_task(alloc, name)))
+            let why = why_with(alloc, &[Piece::Text(b"no task "), Piece::Text(name)]);
+            Err(unfit_for(alloc, file, why))
         }
     }
 }

@@ -9,9 +9,9 @@ use Rattle.prl_plan.specs.Plans.{PlanView}
 use Rattle.prl_stages.specs.Planned.{HasPlan}
 use Rattle.prl_stages.specs.PlansAlone.{program_alone}
 use Rattle.prl_steps.specs.Flows.{FlowView}
-use Rattle.prl_readings.specs.declared.forms.Form.{Form}
+use Rattle.prl_plot.specs.declared.forms.Form.{Form}
 use Rattle.prl_plot.specs.Inputs.{inputs_of}
-use Rattle.prl_readings.specs.Rows.{flows_of}
+use Rattle.prl_plot.specs.Rows.{flows_of}
 
 -- the flows are those of the rows in the file of this name
 abbrev pub AreFlows : Folder → Form → List FlowView → List ℕ → Type 0

@@ -5,7 +5,7 @@ use Rattle.prl_plan.specs.declared.graphs.Kind.{Kind}
 use Rattle.prl_plan.specs.declared.graphs.Kind.TheVariants as kinds
 use Rattle.prl_plan.specs.declared.graphs.Task.{Task}
 use Rattle.prl_plan.specs.declared.graphs.TaskGraph.{TaskGraph}
-use Rattle.prl_readings.specs.declared.forms.Input.{Input}
+use Rattle.prl_plot.specs.declared.forms.Input.{Input}
 
 abbrev pub input_by : Kind → Task → List Input
 input_by (kinds.Sensor k) task = record { name = task.name; clock = task.clock } ∷ []

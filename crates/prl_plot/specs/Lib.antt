@@ -4,3 +4,5 @@ pub mod Inputs
 pub mod Asked
 -- the plots
 pub mod Answers
+-- the rows of flows
+pub mod Rows

@@ -6,14 +6,15 @@ ghost use Rattle.prl_companions.specs.Pairs.{value_of};
 ghost use Rattle.prl_plot.specs.Asked.{AreFlows, AreSensors, IsAsked, IsPlanAsked, dated_form, timed_form};
 
 use crate::faults::bad_rows;
+use crate::forms::Form;
 use crate::inputs::inputs_of;
+use crate::rows::read_flows;
 use crate::words::FORM;
 use prl_base::{Label, Seq};
 use prl_calls::plan_of;
 use prl_companions::{Fault, Stop, read_named, unfit_for, value_of};
 use prl_io::Files;
 use prl_plan::Plan;
-use prl_readings::{Form, read_flows};
 use prl_steps::Flow;
 use std::alloc::{AllocError, Global};
 

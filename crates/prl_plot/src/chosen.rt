@@ -5,9 +5,9 @@ ghost use Rattle.std.specs.List.{filter};
 ghost use Rattle.std.specs.String.{string_bytes};
 ghost use Rattle.prl_plot.specs.Asked.{AreChosen, is_named};
 
+use crate::rows::place_of;
 use prl_base::len_before;
 use prl_companions::{Fault, unfit_for, value_of};
-use prl_readings::place_of;
 use prl_steps::Flow;
 use std::alloc::{AllocError, Global};
 

@@ -4,9 +4,9 @@ ghost use Rattle.std.specs.Prelude.{◌≡◌, ◌++◌, IfOk, OnOk};
 ghost use Rattle.std.specs.List.{flat_map};
 ghost use Rattle.prl_plot.specs.Inputs.{input_of, inputs_of};
 
+use crate::forms::Input;
 use prl_base::Label;
 use prl_plan::{Kind, Plan, Task};
-use prl_readings::Input;
 use std::alloc::{AllocError, Global};
 
 /// Adds the sensor that a task reads, if it reads one.

@@ -1,13 +1,22 @@
 //! The program that draws rows of sensors and actuators: what its words ask for, the files that they name,
-//! the flows and the range, and why there are no plots. It stands on `prl_calls` for the clocks of a
-//! program's sensors, and on `prl_readings`, `prl_steps`, `prl_drawing`, `prl_io` and `prl_companions`.
+//! their rows as flows, the range, and why there are no plots. It stands on `prl_calls` for the clocks of a
+//! program's sensors, on `csv` for records, on `prl_sensors` for their fields, and on `prl_steps`, `prl_drawing`, `prl_io` and
+//! `prl_companions`.
 #![tactic(auto)]
 
 mod asked;
 mod chosen;
+mod entries;
 mod faults;
+mod forms;
 mod inputs;
 mod plots;
+mod records;
+mod row_faults;
+mod rows;
 mod words;
 
+pub use forms::{Form, Input};
 pub use plots::plot;
+pub use row_faults::RowFault;
+pub use rows::{place_of, read_flows};

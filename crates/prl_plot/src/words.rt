@@ -6,8 +6,7 @@ ghost use Rattle.prl_base.specs.Decimals.{decimal_of};
 ghost use Rattle.prl_companions.specs.Pairs.{value_of};
 ghost use Rattle.prl_plot.specs.Asked.{IsRange};
 
-use prl_base::decimal_of;
-use prl_companions::value_of;
+use prl_companions::{number_up_to, value_of};
 use prl_drawing::{Scale, Unit, unit_of};
 use prl_steps::{Flow, Sample};
 
@@ -50,17 +49,6 @@ pub static OPTIONS: [&[u8]; 8] = [
     b"--tick",
 ];
 
-/// The tick that a word writes.
-fn tick_of(word: &[u8]) -> Option<u64>
-    ensures small { IfSome result (λ tick. tick ≤ MAX_UNTIL) }
-    ensures exact { IfSome result (λ tick. decimal_of word.now ≡ Some tick) }
-{
-    match decimal_of(word) {
-        None => None,
-        Some(tick) => { if tick <= MAX_UNTIL { Some(tick) } else { None } }
-    }
-}
-
 /// The first tick that the words ask for.
 fn first_of(words: &[String]) -> Option<u64>
     ensures small { IfSome result (λ tick. tick ≤ MAX_UNTIL) }
@@ -68,7 +56,7 @@ fn first_of(words: &[String]) -> Option<u64>
 {
     match value_of(b"--from", words) {
         None => Some(0),
-        Some(word) => tick_of(word),
+        Some(word) => number_up_to(MAX_UNTIL, word),
     }
 }
 
@@ -110,7 +98,7 @@ fn last_of(words: &[String], flows: &[Flow], from: u64) -> Option<u64>
                 None
             }
         }
-        Some(word) => tick_of(word),
+        Some(word) => number_up_to(MAX_UNTIL, word),
     }
 }
 

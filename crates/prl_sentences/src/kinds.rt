@@ -8,7 +8,7 @@ use prl_base::line_len;
 use prl_plan::Rule;
 
 /// The files that a line may speak of, or by which more is told of it.
-#[derive(Clone, Copy, PartialEq, Eq)]
+#[derive(Clone, Copy)]
 pub enum Part {
     Program,
     Bodies,
@@ -20,7 +20,7 @@ pub enum Part {
 }
 
 /// How a line tells the place of its fault.
-#[derive(Clone, Copy, PartialEq, Eq)]
+#[derive(Clone, Copy)]
 pub enum Target {
     /// It tells no place.
     Nowhere,
@@ -39,7 +39,7 @@ pub enum Target {
 }
 
 /// What is told beside the place and the sentence, of the files that are named.
-#[derive(Clone, Copy, PartialEq, Eq)]
+#[derive(Clone, Copy)]
 pub enum Detail {
     /// Nothing.
     Nothing,

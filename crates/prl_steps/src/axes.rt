@@ -1,10 +1,10 @@
 //! The head of a picture of plots, and the axis of time below them.
 
-ghost use Rattle.std.specs.Prelude.{◌<◌, ◌^◌};
+ghost use Rattle.prl_drawing.specs.Scales.{IsScale};
 
 use crate::panes::{BETWEEN, FIRST};
 use prl_drawing::{
-    Axis, LEFT, Scale, Unit, WIDTH, push, push_attribute, push_svg, push_times, push_unit_name,
+    Axis, LEFT, Scale, Unit, WIDTH, push, push_all, push_svg, push_times, push_unit_name,
 };
 use std::alloc::AllocError;
 
@@ -35,12 +35,14 @@ pub(crate) fn push_opening(text: &mut Vec<u8>, bottom: u64) -> Result<(), AllocE
     push(text, STYLE)
 }
 
-/// Appends the line of the axis.
-fn push_line(text: &mut Vec<u8>, axis: Axis) -> Result<(), AllocError> {
-    push_attribute(text, "<path class=\"l\" d=\"M", LEFT)?;
-    push_attribute(text, " ", axis.bottom)?;
-    push_attribute(text, "H", LEFT + WIDTH)?;
-    push(text, "\"/>")
+/// Appends a line over the whole range: what stands before and behind its places.
+pub(crate) fn push_line(
+    text: &mut Vec<u8>,
+    front: &str,
+    y: u64,
+    tail: &str,
+) -> Result<(), AllocError> {
+    push_all(text, &[(front, LEFT), (" ", y), ("H", LEFT + WIDTH)], tail)
 }
 
 /// Appends lines at some ticks, and below the last pane when they are, in this unit.
@@ -50,8 +52,7 @@ pub(crate) fn push_axis(
     unit: &Unit,
     bottom: u64,
 ) -> Result<(), AllocError>
-    requires from { scale.from < 2 ^ 32 }
-    requires span { (0 < scale.span) × (scale.span < 2 ^ 33) }
+    requires range { IsScale scale }
 {
     let axis = Axis {
         top: FIRST + BETWEEN / 2,
@@ -59,6 +60,6 @@ pub(crate) fn push_axis(
         times: bottom.saturating_add(200),
     };
     push_times(text, scale, unit, axis, LABELS)?;
-    push_line(text, axis)?;
+    push_line(text, "<path class=\"l\" d=\"M", axis.bottom, "\"/>")?;
     push_unit_name(text, unit, axis)
 }

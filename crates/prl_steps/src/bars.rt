@@ -1,8 +1,9 @@
 //! The steps that begin in one pixel column, as one.
 
-ghost use Rattle.std.specs.Prelude.{◌≡◌, ◌<◌, ◌^◌, [], IfOk, length};
+ghost use Rattle.std.specs.Prelude.{◌≡◌, ◌<◌, [], IfOk, length};
 ghost use Rattle.prl_drawing.specs.declared.scales.Scale.{Scale as AnyScale};
 ghost use Rattle.prl_steps.specs.Bars.{bars_of, column_of, joined};
+ghost use Rattle.prl_drawing.specs.Scales.{IsScale};
 
 use crate::samples::Step;
 use prl_drawing::{LEFT, Scale, x_within};
@@ -15,7 +16,7 @@ pub const COLUMNS: usize = 1_000;
 pub const PIXEL: u64 = 10;
 
 /// Some steps that begin in one column.
-#[derive(Clone, Copy, PartialEq, Eq)]
+#[derive(Clone, Copy)]
 pub struct Bar {
     /// Where the first one begins.
     pub x: u64,
@@ -27,8 +28,7 @@ pub struct Bar {
 
 /// The pixel column of a tick; the last one for a tick behind it.
 fn column_of(scale: Scale, tick: u64) -> usize
-    requires from { scale.from < 2 ^ 32 }
-    requires span { (0 < scale.span) × (scale.span < 2 ^ 33) }
+    requires range { IsScale scale }
     ensures exact { result ≡ column_of scale tick }
     ensures small { result < COLUMNS }
 {
@@ -38,8 +38,7 @@ fn column_of(scale: Scale, tick: u64) -> usize
 
 /// A step before those of a bar.
 fn joined(scale: Scale, step: Step, bar: Option<Bar>) -> Bar
-    requires from { scale.from < 2 ^ 32 }
-    requires span { (0 < scale.span) × (scale.span < 2 ^ 33) }
+    requires range { IsScale scale }
     ensures { result ≡ joined scale step bar }
 {
     let x = x_within(scale, step.from);
@@ -73,8 +72,7 @@ fn no_bars(alloc: Global) -> Result<Vec<Option<Bar>>, AllocError>
 
 /// The bar of each pixel column, of the steps that begin there.
 pub fn bars_of(alloc: Global, scale: Scale, steps: &[Step]) -> Result<Vec<Option<Bar>>, AllocError>
-    requires from { scale.from < 2 ^ 32 }
-    requires span { (0 < scale.span) × (scale.span < 2 ^ 33) }
+    requires range { IsScale scale }
     ensures { IfOk result (λ bars. bars.items ≡ bars_of scale steps.now) }
 {
     let mut bars = no_bars(alloc)?;

@@ -21,7 +21,7 @@ pub const BETWEEN: u64 = 240;
 pub const FIRST: u64 = 0;
 
 /// A small plot: where its bottom is, how high it is, and the levels that its bottom and its top stand for.
-#[derive(Clone, Copy, PartialEq, Eq)]
+#[derive(Clone, Copy)]
 pub struct Pane {
     pub bottom: u64,
     pub height: u64,

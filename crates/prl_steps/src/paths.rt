@@ -1,8 +1,9 @@
 //! The line of a flow as SVG.
 
-ghost use Rattle.std.specs.Prelude.{◌≡◌, ◌<◌, ◌++◌, ◌^◌, OnOk, Some};
+ghost use Rattle.std.specs.Prelude.{◌≡◌, ◌++◌, OnOk, Some};
 ghost use Rattle.std.specs.List.{flat_map};
 ghost use Rattle.prl_steps.specs.Paths.{bar_text, closing_text, move_text, opening_text, path_text, reach_text};
+ghost use Rattle.prl_drawing.specs.Scales.{IsScale};
 
 use crate::bars::{Bar, bars_of};
 use crate::panes::{Pane, y_of};
@@ -60,8 +61,7 @@ fn push_opening(
     colour: u32,
     step: Step,
 ) -> Result<(), AllocError>
-    requires from { scale.from < 2 ^ 32 }
-    requires span { (0 < scale.span) × (scale.span < 2 ^ 33) }
+    requires range { IsScale scale }
     ensures { OnOk result (text.new.items ≡ text.old.items ++ opening_text scale pane ty colour step) }
 {
     let x = x_within(scale, step.from);
@@ -101,8 +101,7 @@ pub fn push_path(
     colour: u32,
     steps: &[Step],
 ) -> Result<(), AllocError>
-    requires from { scale.from < 2 ^ 32 }
-    requires span { (0 < scale.span) × (scale.span < 2 ^ 33) }
+    requires range { IsScale scale }
     ensures { OnOk result (text.new.items ≡ text.old.items ++ path_text scale pane ty colour steps.now) }
 {
     match steps {

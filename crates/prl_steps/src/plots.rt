@@ -2,6 +2,7 @@
 
 ghost use Rattle.std.specs.Prelude.{◌≡◌, ◌<◌, ◌≤◌, ◌++◌, ◌+◌, ◌*◌, ◌^◌, IfOk, OnOk, length};
 ghost use Rattle.prl_steps.specs.Plots.{ArePlotsOf, bottom_of, plot_text, plots_text};
+ghost use Rattle.prl_drawing.specs.Scales.{IsScale};
 
 use crate::axes::{push_axis, push_opening};
 use crate::flows::Flow;
@@ -42,8 +43,7 @@ fn push_plot(
     colour: u32,
     flow: &Flow,
 ) -> Result<(), AllocError>
-    requires from { scale.from < 2 ^ 32 }
-    requires span { (0 < scale.span) × (scale.span < 2 ^ 33) }
+    requires range { IsScale scale }
     ensures { OnOk result (text.new.items ≡ text.old.items ++ plot_text scale bottom colour flow.now) }
 {
     let steps = seen_steps(alloc, scale, flow.samples())?;
@@ -60,8 +60,7 @@ fn push_plots(
     colour: u32,
     flows: &[Flow],
 ) -> Result<(), AllocError>
-    requires from { scale.from < 2 ^ 32 }
-    requires span { (0 < scale.span) × (scale.span < 2 ^ 33) }
+    requires range { IsScale scale }
     requires above { above + 1000 * length flows.now < 2 ^ 62 }
     requires colour { colour + length flows.now < 2 ^ 32 }
     ensures { OnOk result (text.new.items ≡ text.old.items ++ plots_text scale above colour flows.now) }
@@ -85,8 +84,7 @@ fn push_words(
     flow: &Flow,
     told: bool,
 ) -> Result<(), AllocError>
-    requires from { scale.from < 2 ^ 32 }
-    requires span { (0 < scale.span) × (scale.span < 2 ^ 33) }
+    requires range { IsScale scale }
 {
     let steps = seen_steps(alloc, scale, flow.samples())?;
     let pane = pane_of(flow.ty(), bottom, &steps);
@@ -105,8 +103,7 @@ fn push_all_words(
     flows: &[Flow],
     told: bool,
 ) -> Result<(), AllocError>
-    requires from { scale.from < 2 ^ 32 }
-    requires span { (0 < scale.span) × (scale.span < 2 ^ 33) }
+    requires range { IsScale scale }
 {
     let mut bottom: u64 = FIRST;
     for flow in flows {
@@ -118,8 +115,7 @@ fn push_all_words(
 
 /// What stands below the lines: the axis, the names and the levels.
 fn below(alloc: Global, flows: &[Flow], scale: Scale, unit: &Unit) -> Result<Vec<u8>, AllocError>
-    requires from { scale.from < 2 ^ 32 }
-    requires span { (0 < scale.span) × (scale.span < 2 ^ 33) }
+    requires range { IsScale scale }
 {
     let bottom = last_bottom(flows);
     let mut text = Vec::new(alloc);
@@ -131,8 +127,7 @@ fn below(alloc: Global, flows: &[Flow], scale: Scale, unit: &Unit) -> Result<Vec
 
 /// What stands above the lines.
 fn above(alloc: Global, flows: &[Flow], scale: Scale) -> Result<Vec<u8>, AllocError>
-    requires from { scale.from < 2 ^ 32 }
-    requires span { (0 < scale.span) × (scale.span < 2 ^ 33) }
+    requires range { IsScale scale }
 {
     let mut text = Vec::new(alloc);
     push_all_words(alloc, &mut text, scale, flows, true)?;

@@ -1,11 +1,12 @@
 //! The names of flows, the levels that their panes show, and what is told where the mouse rests.
 
+use crate::axes::push_line;
 use crate::flows::Flow;
 use crate::levels::{ZERO, push_level};
 use crate::panes::{Pane, y_of};
 use crate::samples::Step;
 use prl_base::Ty;
-use prl_drawing::{LEFT, WIDTH, push, push_attribute, push_telling};
+use prl_drawing::{LEFT, WIDTH, push, push_all, push_attribute, push_telling};
 use std::alloc::AllocError;
 
 /// How many letters of a name there is room for; longer ones are smaller.
@@ -17,32 +18,25 @@ const LETTER: u64 = 120;
 /// How near to the end of a pane the level 0 has no number of its own.
 const NEAR: u64 = 110;
 
+/// What a line ends with.
+const LINE_END: &str = "\"/>\n";
+
 /// Appends the name of a flow.
 fn push_name(text: &mut Vec<u8>, name: &[u8], y: u64) -> Result<(), AllocError> {
     let letters = name.len() as u64;
     push_attribute(text, "<text x=\"100\" y=\"", y)?;
     if letters > LETTERS {
-        push_attribute(text, "\" style=\"font-size:", LETTER * LETTERS / letters)?;
-        push(text, "px")?;
+        let size = LETTER * LETTERS / letters;
+        push_all(text, &[("\" style=\"font-size:", size)], "px")?;
     }
     push(text, "\">")?;
     text.extend_from_slice(name)?;
     push(text, "</text>\n")
 }
 
-/// Appends a line over the whole range.
-fn push_line(text: &mut Vec<u8>, front: &str, y: u64) -> Result<(), AllocError> {
-    push(text, front)?;
-    push_attribute(text, " d=\"M", LEFT)?;
-    push_attribute(text, " ", y)?;
-    push_attribute(text, "H", LEFT + WIDTH)?;
-    push(text, "\"/>\n")
-}
-
 /// Appends the number of a level, left of where that stands.
 fn push_number(text: &mut Vec<u8>, level: u64, y: u64) -> Result<(), AllocError> {
-    push_attribute(text, "<text class=\"v\" x=\"1560\" y=\"", y)?;
-    push(text, "\">")?;
+    push_all(text, &[("<text class=\"v\" x=\"1560\" y=\"", y)], "\">")?;
     push_level(text, level)?;
     push(text, "</text>\n")
 }
@@ -53,7 +47,7 @@ fn push_zero(text: &mut Vec<u8>, pane: Pane) -> Result<(), AllocError> {
         return Ok(());
     }
     let y = y_of(pane, ZERO);
-    push_line(text, "<path class=\"z\"", y)?;
+    push_line(text, "<path class=\"z\" d=\"M", y, LINE_END)?;
     if y_of(pane, pane.high).saturating_add(NEAR) > y
         || y.saturating_add(NEAR) > y_of(pane, pane.low)
     {
@@ -65,12 +59,12 @@ fn push_zero(text: &mut Vec<u8>, pane: Pane) -> Result<(), AllocError> {
 /// Appends the levels that a pane shows: the least and the greatest, each once, and 0 between them.
 fn push_levels(text: &mut Vec<u8>, pane: Pane) -> Result<(), AllocError> {
     let top = y_of(pane, pane.high);
-    push_line(text, "<path class=\"g\"", top)?;
+    push_line(text, "<path class=\"g\" d=\"M", top, LINE_END)?;
     push_number(text, pane.high, top.saturating_add(30))?;
     if pane.low == pane.high {
         return Ok(());
     }
-    push_line(text, "<path class=\"g\"", pane.bottom)?;
+    push_line(text, "<path class=\"g\" d=\"M", pane.bottom, LINE_END)?;
     push_number(text, pane.low, pane.bottom.saturating_add(30))?;
     push_zero(text, pane)
 }
@@ -85,16 +79,15 @@ pub(crate) fn push_title(
     let middle = pane.bottom.saturating_sub(pane.height / 2);
     push_name(text, flow.name(), middle.saturating_add(40))?;
     if steps.is_empty() {
-        push_attribute(
-            text,
+        let place = [(
             "<text class=\"k\" x=\"1700\" y=\"",
             middle.saturating_add(40),
-        )?;
-        return push(text, "\">no value in this range</text>\n");
+        )];
+        return push_all(text, &place, "\">no value in this range</text>\n");
     }
     match flow.ty() {
         Ty::Int => push_levels(text, pane),
-        Ty::Bool => push_line(text, "<path class=\"l\"", pane.bottom),
+        Ty::Bool => push_line(text, "<path class=\"l\" d=\"M", pane.bottom, LINE_END),
     }
 }
 

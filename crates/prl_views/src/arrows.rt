@@ -10,7 +10,7 @@ use crate::shapes::{shape_of, shown_count};
 use crate::shown::Shown;
 use crate::views::{View, row_in};
 use prl_base::{EdgeNo, Op};
-use prl_drawing::{is_followed, push, push_arrow, push_arrow_legend, push_attribute};
+use prl_drawing::{is_followed, push_all, push_arrow, push_arrow_legend};
 use prl_plan::{Edge, Operand, Plan, Producer, plan_is_one};
 use std::alloc::AllocError;
 
@@ -133,11 +133,9 @@ fn push_left_out(text: &mut Vec<u8>, left_out: u64) -> Result<(), AllocError> {
     if left_out == 0 {
         return Ok(());
     }
-    push_attribute(text, "<text x=\"4900\" y=\"670\">not drawn: ", left_out)?;
-    push(
-        text,
-        " arrows at windows that are too narrow for them</text>\n",
-    )
+    let front = "<text x=\"4900\" y=\"670\">not drawn: ";
+    let tail = " arrows at windows that are too narrow for them</text>\n";
+    push_all(text, &[(front, left_out)], tail)
 }
 
 /// Appends the arrows of all edges whose windows are wide enough, what they mean, and how many are left out.

@@ -4,9 +4,7 @@ ghost use Rattle.std.specs.Prelude.{◌<◌, ◌^◌, length};
 
 use crate::look_ups::{edge_of, job_count, operand_of, task_of};
 use prl_base::{EdgeNo, TaskNo};
-use prl_drawing::{
-    Scale, Shape, push, push_attribute, push_bar, push_own_dates, push_telling, row_of,
-};
+use prl_drawing::{Scale, Shape, push, push_all, push_bar, push_own_dates, push_telling, row_of};
 use prl_plan::{Operand, Plan, Producer, plan_is_one};
 use std::alloc::AllocError;
 
@@ -29,7 +27,7 @@ fn push_read(
         (Producer::Port { task, .. }, Operand::From(job)) => {
             push(text, "; reads ")?;
             push_name(text, plan, task)?;
-            push_attribute(text, " job ", job)
+            push_all(text, &[(" job ", job)], "")
         }
         (Producer::Port { .. }, Operand::Const(_)) => push(text, "; reads an initial value"),
         (Producer::Constant(_), _) => push(text, "; reads a constant"),
@@ -88,10 +86,13 @@ fn push_dates(text: &mut Vec<u8>, plan: &Plan, shape: &Shape) -> Result<(), Allo
 {
     let task = task_of(plan, TaskNo(shape.task));
     text.extend_from_slice(task.name.bytes())?;
-    push_attribute(text, " job ", shape.job)?;
-    push_attribute(text, ": from ", shape.release)?;
-    push_attribute(text, " to ", shape.deadline)?;
-    push_attribute(text, ", wcet ", u64::from(task.wcet))
+    let attributes = [
+        (" job ", shape.job),
+        (": from ", shape.release),
+        (" to ", shape.deadline),
+        (", wcet ", u64::from(task.wcet)),
+    ];
+    push_all(text, &attributes, "")
 }
 
 /// Appends what is told of a job where the mouse rests on its window.

@@ -1,8 +1,10 @@
 //! The picture of a view of a plan.
 
 ghost use Rattle.std.specs.Prelude.{◌≡◌, ◌++◌, IfOk};
+ghost use Rattle.std.specs.List.{flat_map};
+ghost use Rattle.prl_drawing.specs.Windows.{window_text};
 ghost use Rattle.prl_views.specs.Drawn.{IsPictureOf};
-ghost use Rattle.prl_views.specs.Shown.{IsOfPlan};
+ghost use Rattle.prl_views.specs.Shown.{IsOfPlan, IsPiecesText};
 ghost use Rattle.prl_views.specs.Views.{IsView};
 
 use crate::arrows::push_arrows;
@@ -52,14 +54,31 @@ fn below(
     Ok(text)
 }
 
-/// Three texts one after another, behind a first one.
-fn joined(first: Vec<u8>, second: &[u8], third: &[u8], fourth: &[u8]) -> Result<Vec<u8>, AllocError>
-    ensures { IfOk result (λ text. text.items ≡ first.items ++ second.now ++ third.now ++ fourth.now) }
+/// The windows of jobs, and the pieces of the run.
+fn inside(
+    alloc: Global,
+    plan: &Plan,
+    shown: &Shown,
+    view: &View,
+    shapes: &[Shape],
+) -> Result<(Vec<u8>, Vec<u8>), AllocError>
+    requires view { IsView plan.now view.now }
+    requires shown { IsOfPlan plan.now shown.now }
+    ensures windows { IfOk result (λ made. made.0.items ≡ flat_map window_text shapes.now) }
+    ensures pieces { IfOk result (λ made. IsPiecesText view.now shown.now made.1.items) }
+{
+    let windows = windows(alloc, shapes)?;
+    Ok((windows, pieces(alloc, plan, view, shown)?))
+}
+
+/// Texts one after another, behind a first one.
+fn joined(first: Vec<u8>, two: &(Vec<u8>, Vec<u8>), last: &[u8]) -> Result<Vec<u8>, AllocError>
+    ensures { IfOk result (λ text. text.items ≡ first.items ++ two.now.0.items ++ two.now.1.items ++ last.now) }
 {
     let mut text = first;
-    text.extend_from_slice(second)?;
-    text.extend_from_slice(third)?;
-    text.extend_from_slice(fourth)?;
+    text.extend_from_slice(&two.0)?;
+    text.extend_from_slice(&two.1)?;
+    text.extend_from_slice(last)?;
     Ok(text)
 }
 
@@ -77,9 +96,8 @@ pub fn picture_of(
     ensures { IfOk result (λ text. IsPictureOf plan.now shown.now view.now text.items) }
 {
     let shapes = shapes_of(alloc, plan, shown, view)?;
-    let first = below(alloc, plan, shown, view, unit, left_out)?;
-    let second = windows(alloc, &shapes)?;
-    let third = pieces(alloc, plan, view, shown)?;
-    let fourth = above(alloc, plan, shown, view, &shapes)?;
-    joined(first, &second, &third, &fourth)
+    let inside = inside(alloc, plan, shown, view, &shapes)?;
+    let above = above(alloc, plan, shown, view, &shapes)?;
+    let below = below(alloc, plan, shown, view, unit, left_out)?;
+    joined(below, &inside, &above)
 }

@@ -7,6 +7,7 @@ ghost use Rattle.std.specs.List.{flat_map, position_or_len};
 ghost use Rattle.prl_plan.specs.declared.limits.TheConstants.{MAX_TASKS};
 ghost use Rattle.prl_views.specs.declared.parts.Part.{Part as AnyPart};
 ghost use Rattle.prl_views.specs.Parts.{ArePartsOf, IsWithin, is_act_seen, part_text, processor_row, seen_one, tick_width, used_of, used_one};
+ghost use Rattle.prl_drawing.specs.Scales.{IsScale};
 
 use crate::acts::{Act, is_in};
 use crate::verdicts::HIGH;
@@ -137,8 +138,7 @@ fn is_act_seen(scale: Scale, act: Act) -> bool
 
 /// How wide a tick is drawn in the row of a processor.
 fn tick_width(scale: Scale, tick: u64) -> u64
-    requires from { scale.from < 2 ^ 32 }
-    requires span { (0 < scale.span) × (scale.span < 2 ^ 33) }
+    requires range { IsScale scale }
     requires tick { tick < 2 ^ 34 }
     ensures { result ≡ tick_width scale tick }
 {
@@ -149,8 +149,7 @@ fn tick_width(scale: Scale, tick: u64) -> u64
 
 /// The part of its tick that act number `j` is drawn in.
 fn part_of(scale: Scale, processors: &[u32], acts: &[Act], act: Act, j: usize) -> Part
-    requires from { scale.from < 2 ^ 32 }
-    requires span { (0 < scale.span) × (scale.span < 2 ^ 33) }
+    requires range { IsScale scale }
     requires tick { act.tick < 2 ^ 34 }
     requires act { j ≤ length acts.now }
     ensures act { result.act ≡ act }
@@ -178,8 +177,7 @@ fn push_seen(
     act: Act,
     j: usize,
 ) -> Result<(), AllocError>
-    requires from { scale.from < 2 ^ 32 }
-    requires span { (0 < scale.span) × (scale.span < 2 ^ 33) }
+    requires range { IsScale scale }
     requires act { j ≤ length acts.now }
     ensures each { OnOk result (map (λ (part : AnyPart). part.act) parts.new.items ≡ map (λ (part : AnyPart). part.act) parts.old.items ++ seen_one scale act) }
     ensures within { OnOk result (All (IsWithin scale) parts.old.items → All (IsWithin scale) parts.new.items) }
@@ -197,8 +195,7 @@ pub(crate) fn parts_of(
     processors: &[u32],
     acts: &[Act],
 ) -> Result<Vec<Part>, AllocError>
-    requires from { scale.from < 2 ^ 32 }
-    requires span { (0 < scale.span) × (scale.span < 2 ^ 33) }
+    requires range { IsScale scale }
     ensures { IfOk result (λ parts. ArePartsOf scale acts.now parts.items) }
 {
     let mut parts = Vec::new(alloc);

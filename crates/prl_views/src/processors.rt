@@ -6,7 +6,7 @@ ghost use Rattle.prl_views.specs.Parts.{used_of};
 
 use crate::look_ups::task_of;
 use crate::parts::{MOST_PROCESSORS, Part, processor_row};
-use prl_drawing::{push, push_attribute, push_part_name, push_processor, push_second};
+use prl_drawing::{push_all, push_part_name, push_processor, second_line};
 use prl_plan::Plan;
 use std::alloc::AllocError;
 
@@ -32,11 +32,13 @@ pub(crate) fn push_rows(
 {
     for (k, processor) in used.iter().enumerate() {
         let row = rows.saturating_add(k as u32);
+        let attributes = [
+            (" ", u64::from(*processor)),
+            second_line(row),
+            ("\">tasks ", tasks_on(processors, *processor)),
+        ];
         push_processor(text, row)?;
-        push_attribute(text, " ", u64::from(*processor))?;
-        push_second(text, row)?;
-        push_attribute(text, "\">tasks ", tasks_on(processors, *processor))?;
-        push(text, "</text>\n")?;
+        push_all(text, &attributes, "</text>\n")?;
     }
     Ok(())
 }

@@ -1,12 +1,13 @@
 //! What is drawn beside the windows: what a schedule does, the run of one processor, a run on several
 //! processors, or a static cyclic table.
 
-ghost use Rattle.std.specs.Prelude.{◌≡◌, ◌≤◌, ◌<◌, ◌^◌, IfOk, length, map};
+ghost use Rattle.std.specs.Prelude.{◌≡◌, ◌≤◌, IfOk, length, map};
 ghost use Rattle.std.specs.List.{flat_map};
 ghost use Rattle.prl_plan.specs.declared.limits.TheConstants.{MAX_TASKS};
 ghost use Rattle.prl_tables.specs.Tables.{IsGood};
 ghost use Rattle.prl_views.specs.Shown.{IsPiecesText, IsOfPlan, IsPartsText, piece_of, piece_text};
 ghost use Rattle.prl_views.specs.Views.{IsView};
+ghost use Rattle.prl_drawing.specs.Scales.{IsScale};
 
 use crate::acts::acts_of;
 use crate::parts::{part_texts, parts_of, used_of};
@@ -58,8 +59,7 @@ pub(crate) fn rows_of(alloc: Global, view: &View, shown: &Shown) -> Result<u32, 
 
 /// The pieces of a run of one processor, each once.
 fn run_pieces(alloc: Global, view: &View, pieces: &[Piece]) -> Result<Vec<u8>, AllocError>
-    requires from { view.now.scale.from < 2 ^ 32 }
-    requires span { (0 < view.now.scale.span) × (view.now.scale.span < 2 ^ 33) }
+    requires range { IsScale view.now.scale }
     requires few { length view.now.rows ≤ MAX_TASKS }
     ensures { IfOk result (λ text. text.items ≡ flat_map (piece_text view.now) pieces.now) }
 {
@@ -92,8 +92,7 @@ fn run_parts(
     spread: &Spread,
     events: &[Event],
 ) -> Result<Vec<u8>, AllocError>
-    requires from { view.now.scale.from < 2 ^ 32 }
-    requires span { (0 < view.now.scale.span) × (view.now.scale.span < 2 ^ 33) }
+    requires range { IsScale view.now.scale }
     requires few { length view.now.rows ≤ MAX_TASKS }
     ensures { IfOk result (λ text. IsPartsText view.now spread.now events.now text.items) }
 {

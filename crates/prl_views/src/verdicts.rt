@@ -1,9 +1,10 @@
 //! The pieces of a run of one processor, below the windows of their tasks and in the row of the
 //! processor.
 
-ghost use Rattle.std.specs.Prelude.{◌≡◌, ◌++◌, ◌<◌, ◌≤◌, ◌^◌, OnOk, length};
+ghost use Rattle.std.specs.Prelude.{◌≡◌, ◌++◌, ◌≤◌, OnOk, length};
 ghost use Rattle.prl_plan.specs.declared.limits.TheConstants.{MAX_TASKS};
 ghost use Rattle.prl_views.specs.Shown.{high_text, low_text, piece_text};
+ghost use Rattle.prl_drawing.specs.Scales.{IsScale};
 
 use crate::views::{View, row_in};
 use prl_drawing::{GAP, is_seen, push_box, row_of};
@@ -21,8 +22,7 @@ pub const BELOW: u64 = 310;
 
 /// Appends a piece below the windows of its task, where that has a row.
 fn push_low(text: &mut Vec<u8>, view: &View, piece: &Piece) -> Result<(), AllocError>
-    requires from { view.now.scale.from < 2 ^ 32 }
-    requires span { (0 < view.now.scale.span) × (view.now.scale.span < 2 ^ 33) }
+    requires range { IsScale view.now.scale }
     requires few { length view.now.rows ≤ MAX_TASKS }
     ensures { OnOk result (text.new.items ≡ text.old.items ++ low_text view.now piece.now) }
 {
@@ -36,8 +36,7 @@ fn push_low(text: &mut Vec<u8>, view: &View, piece: &Piece) -> Result<(), AllocE
 
 /// Appends a piece that is drawn: below the windows of its task, and in the row of the processor.
 fn push_both(text: &mut Vec<u8>, view: &View, piece: &Piece) -> Result<(), AllocError>
-    requires from { view.now.scale.from < 2 ^ 32 }
-    requires span { (0 < view.now.scale.span) × (view.now.scale.span < 2 ^ 33) }
+    requires range { IsScale view.now.scale }
     requires few { length view.now.rows ≤ MAX_TASKS }
     ensures { OnOk result (text.new.items ≡ text.old.items ++ (low_text view.now piece.now ++ high_text view.now piece.now)) }
 {
@@ -49,8 +48,7 @@ fn push_both(text: &mut Vec<u8>, view: &View, piece: &Piece) -> Result<(), Alloc
 
 /// Appends a piece, where some of its ticks are drawn.
 pub(crate) fn push_piece(text: &mut Vec<u8>, view: &View, piece: &Piece) -> Result<(), AllocError>
-    requires from { view.now.scale.from < 2 ^ 32 }
-    requires span { (0 < view.now.scale.span) × (view.now.scale.span < 2 ^ 33) }
+    requires range { IsScale view.now.scale }
     requires few { length view.now.rows ≤ MAX_TASKS }
     ensures { OnOk result (text.new.items ≡ text.old.items ++ piece_text view.now piece.now) }
 {

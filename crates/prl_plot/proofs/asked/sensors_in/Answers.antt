@@ -2,7 +2,7 @@ use Rattle.std.proofs.Common.{◌≡◌, ℕ, List, map, subst}
 use Rattle.std.specs.String.{string_bytes}
 use Rattle.std.proofs.lemmas.Result.{IfOk-weaker}
 use Rattle.prl_plan.specs.Plans.{PlanView}
-use Rattle.prl_readings.specs.declared.forms.Form.{Form}
+use Rattle.prl_plot.specs.declared.forms.Form.{Form}
 use Rattle.prl_steps.specs.Flows.{FlowView}
 use Rattle.prl_companions.specs.Faults.{Folder}
 use Rattle.prl_plot.specs.Asked.{AreFlows, AreSensors, IsPlanAsked, timed_form}

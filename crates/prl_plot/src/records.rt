@@ -3,7 +3,7 @@
 ghost use Rattle.std.specs.Prelude.{◌≡◌};
 ghost use Rattle.std.specs.Option.{option_map};
 ghost use Rattle.csv.specs.Records.{fields_of};
-ghost use Rattle.prl_readings.specs.Rows.{first_two, four, is_header};
+ghost use Rattle.prl_plot.specs.Rows.{first_two, four, is_header};
 
 use csv::ByteRecord;
 use prl_sensors::field;

@@ -4,7 +4,7 @@ use std::alloc::AllocError;
 
 /// Why a text is no rows of flows. A record's number counts the records before it, from 1; a header counts, and empty
 /// lines do not.
-#[derive(Clone, Copy, PartialEq, Eq)]
+#[derive(Clone, Copy)]
 pub enum RowFault {
     /// The record of this number has not as many fields as a row, or no name of a flow.
     Row(u64),
@@ -19,7 +19,7 @@ pub enum RowFault {
 
 impl From<AllocError> for RowFault {
     ghost use Rattle.std.specs.Prelude.{◌≡◌};
-    ghost use Rattle.prl_readings.specs.declared.faults.RowFault.TheVariants.{Memory};
+    ghost use Rattle.prl_plot.specs.declared.row_faults.RowFault.TheVariants.{Memory};
 
     ghost from_gives = { λ _ e. e ≡ Memory };
 

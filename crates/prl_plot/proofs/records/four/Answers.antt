@@ -1,7 +1,7 @@
 use Rattle.std.proofs.Common.{◌≡◌, ℕ, List, [], ◌∷◌, length, Some, arith, rules}
 use Rattle.csv.specs.Records.{field_at, fields_of}
-use Rattle.prl_readings.specs.Rows.{four}
-use Rattle.prl_readings.proofs.records.four.Goals as goal
+use Rattle.prl_plot.specs.Rows.{four}
+use Rattle.prl_plot.proofs.records.four.Goals as goal
 
 of_four : (xs : List (List ℕ)) (a b c d : List ℕ) → length xs ≡ 4 → field_at xs 0 ≡ Some a → field_at xs 1 ≡ Some b → field_at xs 2 ≡ Some c
     → field_at xs 3 ≡ Some d → Some (a, b, c, d) ≡ four xs

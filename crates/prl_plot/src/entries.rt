@@ -5,12 +5,12 @@ ghost use Rattle.std.specs.Option.{option_and_then, option_map};
 ghost use Rattle.csv.specs.Records.{fields_of};
 ghost use Rattle.prl_base.specs.Vocabulary.{GivesBut, decimal_of, integer_of};
 ghost use Rattle.prl_base.specs.declared.values.Value.TheVariants as values;
-ghost use Rattle.prl_readings.specs.Rows.{clock_of, date_on, dated_entry, entry_of, on_clock, timed_entry, value_of, with_date};
+ghost use Rattle.prl_plot.specs.Rows.{clock_of, date_on, dated_entry, entry_of, on_clock, timed_entry, value_of, with_date};
 ghost use Rattle.prl_sensors.specs.SensorRows.{truth_of};
 
-use crate::faults::RowFault;
 use crate::forms::{Form, Input};
 use crate::records::{Four, four};
+use crate::row_faults::RowFault;
 use csv::ByteRecord;
 use prl_base::{Clock, Value, decimal_of};
 use prl_sensors::{Fields, int_of, three, truth_of};

@@ -1,8 +1,8 @@
 use Rattle.std.proofs.Common.{◌≡◌, ℕ, List, []}
 use Rattle.prl_sensors.specs.SensorRows.{records_of}
 use Rattle.prl_sensors.specs.code.Left.{HasLeft}
-use Rattle.prl_readings.specs.Rows.{with_records}
-use Rattle.prl_readings.proofs.rows.read_flows.Given as goal
+use Rattle.prl_plot.specs.Rows.{with_records}
+use Rattle.prl_plot.proofs.rows.read_flows.Given as goal
 
 -- what is left of the records makes of the flows so far what all records make of none
 abbrev pub invariant-loop-number : goal.invariant-loop-number

@@ -3,12 +3,12 @@
 ghost use Rattle.std.specs.Prelude.{◌≡◌, ◌<◌, ◌≤◌, ◌++◌, ◌∷◌, [], OnOk, length, option_copied, slice_get};
 ghost use Rattle.csv.specs.Records.{fields_of};
 ghost use Rattle.prl_base.specs.Reading.{GivesBut};
-ghost use Rattle.prl_readings.specs.Rows.{added, added_at, begun, flows_of, is_after, is_of, place_of, with_record, with_row};
+ghost use Rattle.prl_plot.specs.Rows.{added, added_at, begun, flows_of, is_after, is_of, place_of, with_record, with_row};
 
 use crate::entries::{Entry, entry_of};
-use crate::faults::RowFault;
 use crate::forms::Form;
 use crate::records::is_header;
+use crate::row_faults::RowFault;
 use csv::ByteRecord;
 use prl_base::{Name, NameFault, Ty, Value};
 use prl_sensors::{read_record, reader_of};

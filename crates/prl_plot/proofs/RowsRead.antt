@@ -1,9 +1,9 @@
 -- Rows record by record.
 use Rattle.std.proofs.Common.{◌≡◌, ℕ, ◌+◌, List, [], ◌∷◌, Ok, Err, refl}
 use Rattle.prl_steps.specs.Flows.{FlowView}
-use Rattle.prl_readings.specs.Rows.{with_record, with_records}
-use Rattle.prl_readings.specs.declared.faults.RowFault.{RowFault}
-use Rattle.prl_readings.specs.declared.forms.Form.{Form}
+use Rattle.prl_plot.specs.Rows.{with_record, with_records}
+use Rattle.prl_plot.specs.declared.row_faults.RowFault.{RowFault}
+use Rattle.prl_plot.specs.declared.forms.Form.{Form}
 
 -- the flows after one more record
 pub one_more : (form : Form) (number : ℕ) (flows more : List FlowView) (fields : List (List ℕ)) (left rest : List (List (List ℕ)))

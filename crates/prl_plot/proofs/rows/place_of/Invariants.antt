@@ -1,6 +1,6 @@
 use Rattle.std.proofs.Common.{◌≡◌, ◌+◌, drop}
-use Rattle.prl_readings.specs.Rows.{place_of}
-use Rattle.prl_readings.proofs.rows.place_of.Given as goal
+use Rattle.prl_plot.specs.Rows.{place_of}
+use Rattle.prl_plot.proofs.rows.place_of.Given as goal
 
 -- no flow that was passed has the name
 abbrev pub invariant-loop-i : goal.invariant-loop-i

@@ -1,8 +1,8 @@
 use Rattle.std.proofs.Common.{◌∙◌, sym}
 use Rattle.csv.specs.Records.{fields_of}
 use Rattle.std.proofs.lemmas.Result.{err_from_is_err_and}
-use Rattle.prl_readings.proofs.RowsRead.{one_more, no_more, all_read}
-use Rattle.prl_readings.proofs.rows.read_flows.Goals as goal
+use Rattle.prl_plot.proofs.RowsRead.{one_more, no_more, all_read}
+use Rattle.prl_plot.proofs.rows.read_flows.Goals as goal
 
 pub returns-then-not-branch : goal.returns-then-not-branch
 returns-then-not-branch c =

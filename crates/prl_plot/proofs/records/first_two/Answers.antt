@@ -1,7 +1,7 @@
 use Rattle.std.proofs.Common.{◌≡◌, ◌≤◌, ℕ, List, [], ◌∷◌, length, Some, arith, rules}
 use Rattle.csv.specs.Records.{field_at, fields_of}
-use Rattle.prl_readings.specs.Rows.{first_two}
-use Rattle.prl_readings.proofs.records.first_two.Goals as goal
+use Rattle.prl_plot.specs.Rows.{first_two}
+use Rattle.prl_plot.proofs.records.first_two.Goals as goal
 
 of_two : (xs : List (List ℕ)) (a b : List ℕ) → 2 ≤ length xs → field_at xs 0 ≡ Some a → field_at xs 1 ≡ Some b → Some (a, b) ≡ first_two xs
 unfolding field_at

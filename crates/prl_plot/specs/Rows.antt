@@ -16,10 +16,10 @@ use Rattle.prl_sensors.specs.SensorRows.{records_of, three, truth_of}
 use Rattle.prl_steps.specs.Flows.{FlowView}
 use Rattle.prl_steps.specs.Levels.{level_of}
 use Rattle.prl_steps.specs.declared.samples.Sample.{Sample}
-use Rattle.prl_readings.specs.declared.faults.RowFault.{RowFault}
-use Rattle.prl_readings.specs.declared.faults.RowFault.TheVariants as faults
-use Rattle.prl_readings.specs.declared.forms.Form.{Form}
-use Rattle.prl_readings.specs.declared.forms.Input.{Input}
+use Rattle.prl_plot.specs.declared.row_faults.RowFault.{RowFault}
+use Rattle.prl_plot.specs.declared.row_faults.RowFault.TheVariants as faults
+use Rattle.prl_plot.specs.declared.forms.Form.{Form}
+use Rattle.prl_plot.specs.declared.forms.Input.{Input}
 
 -- what a row says: whose value it is, at which date, and the value
 abbrev pub Entry : Type 0

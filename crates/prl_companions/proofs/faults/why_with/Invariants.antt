@@ -1,0 +1,8 @@
+use Rattle.std.proofs.Common.{◌≡◌, take}
+use Rattle.std.specs.List.{flat_map}
+use Rattle.prl_companions.specs.Faults.{piece_text}
+use Rattle.prl_companions.proofs.faults.why_with.Given as goal
+
+-- the pieces that were passed
+abbrev pub invariant-loop-piece : goal.invariant-loop-piece
+invariant-loop-piece l = l.why.items ≡ flat_map piece_text (take l.piece-index l.pieces)

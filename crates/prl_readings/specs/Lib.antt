@@ -1,2 +1,0 @@
--- the rows of flows
-pub mod Rows
