@@ -2,6 +2,7 @@
 use Rattle.std.proofs.Common.{◌≡◌, ◌≤◌, ◌++◌, ℕ, Bool, List, [], ◌∷◌, drop, Option, Some, None, Result, refl, sym, ap, ◌∙◌, inl, inr, subst, arith}
 use Rattle.prl_app.specs.Vocabulary.{Ending, IsAnswerOf, IsAnswerStop, Status, Answers, AsksForThreads, Outside, Ends, IsEndOf, IsExact, IsOverrunOf, IsTold, Means, NoFault, NoneFailed, ran_of}
 use Rattle.prl_app.specs.Vocabulary.{status_of, line_of, IsWrittenBy, line_is}
+use Rattle.prl_app.specs.code.Performed.{Performs}
 use Rattle.prl_app.specs.declared.endings.Ending.TheVariants as endings
 use Rattle.prl_stages.specs.Vocabulary.{Folder, Given, IsContent, IsGiven, IsGivenIn, IsGivenTo, content_of, file_of, Comes, stages_of, HasOverrun}
 use Rattle.prl_stages.specs.declared.faults.Fault.{Fault}
@@ -158,7 +159,7 @@ written_ends words old new text ran ending means (inl h) none = subst (Ends word
 written_ends words old new text ran ending means (inr h) none = subst (Ends words old new) (sym h.0) (text, means, h.1, none)
 
 -- why there is no text
-pub stop_ends : (words : List (List ℕ)) (old new : Outside) (c : Command) → command_of words ≡ Some c → (stop : Stop) → IsAnswerStop old.files new.files c stop
+stop_ends : (words : List (List ℕ)) (old new : Outside) (c : Command) → command_of words ≡ Some c → (stop : Stop) → IsAnswerStop old.files new.files c stop
     → new.out ≡ old.out → Ends words old new (endings.Stopped stop)
 stop_ends words old new c asked (stops.Unread part) h same =
     let at = h.0.2 in (
@@ -180,6 +181,10 @@ stop_ends words old new c asked (stops.Unread part) h same =
 stop_ends words old new c asked (stops.Refused stage fault) h same =
     (record { command = c; asked = asked; given = h.0.0; is_given = h.0.1; comes = h.0.2 }, same, h.1)
 stop_ends words old new c asked stops.Memory h same = (same, h)
+
+pub stop_performs : (words : List (List ℕ)) (old new : FolderView) (out : SinkView) (c : Command) → command_of words ≡ Some c → (stop : Stop)
+    → IsAnswerStop old new c stop → Performs words old new out out (endings.Stopped stop)
+stop_performs words old new out c asked stop h err_old err_new = stop_ends words (outside old out err_old) (outside new out err_new) c asked stop h refl
 
 -- a run that was overrun
 pub overrun_ends : (words : List (List ℕ)) (old new : Outside) (c : Command) → command_of words ≡ Some c → c.mode ≡ modes.Run → 2 ≤ c.workers → (plan : PlanView) (stopped : Stopped)

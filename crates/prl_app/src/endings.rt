@@ -61,25 +61,38 @@ fn status_of_stop(stop: &Stop) -> u8
     }
 }
 
+/// The code of the status that tells an ending.
+fn code_of(ending: &Ending) -> u8
+    ensures { result ≡ status_of ending.now }
+{
+    match ending {
+        Ending::Done(_) => 0,
+        Ending::Words => 2,
+        Ending::Unwritten(_) => 4,
+        Ending::Overrun(_, _) => 5,
+        Ending::Stopped(stop) => status_of_stop(stop),
+    }
+}
+
+/// What was run.
+fn ran_of(ending: Ending) -> Ran
+    ensures { result ≡ ran_of ending }
+{
+    match ending {
+        Ending::Done(ran) | Ending::Unwritten(ran) => ran,
+        Ending::Overrun(_, stopped) => Ran::Stopped(stopped),
+        Ending::Words | Ending::Stopped(_) => Ran::Not,
+    }
+}
+
 /// The status that tells an ending, with what was run.
 pub fn status_of(ending: Ending) -> Status
     ensures code { result.code ≡ status_of ending }
     ensures ran { result.ran ≡ ran_of ending }
 {
-    match ending {
-        Ending::Done(ran) => Status { code: 0, ran },
-        Ending::Words => Status {
-            code: 2,
-            ran: Ran::Not,
-        },
-        Ending::Unwritten(ran) => Status { code: 4, ran },
-        Ending::Stopped(stop) => Status {
-            code: status_of_stop(&stop),
-            ran: Ran::Not,
-        },
-        Ending::Overrun(_, stopped) => Status {
-            code: 5,
-            ran: Ran::Stopped(stopped),
-        },
+    let code = code_of(&ending);
+    Status {
+        code,
+        ran: ran_of(ending),
     }
 }

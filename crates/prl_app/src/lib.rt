@@ -1,6 +1,6 @@
 //! The command `prelude`: the text that a command line asks for, its statuses, its lines on `err`, and the top calls `prelude`
-//! and `prelude_alone`. It stands on the stages of `prl_stages`, their calls in `prl_calls`, the modes of `prl_planning` and
-//! `prl_executions` and the words of `prl_arguments`, and hands on what these say to callers.
+//! and `prelude_alone`. It stands on the stages of `prl_stages`, their calls in `prl_calls`, the modes of `prl_executions` and the
+//! words of `prl_arguments`, and hands on what these say to callers.
 #![tactic(auto)]
 
 mod endings;

@@ -10,11 +10,11 @@ ghost use Rattle.prl_app.specs.code.Modes.{HasFiles, RunsNothing};
 use crate::generated::generated_text;
 use prl_arguments::{Command, Mode};
 use prl_calls::{Request, read_request};
-use prl_executions::{Outcome, cores_text, cycle_text, replayed_text, run_outcome, run_text};
-use prl_io::{Files, Probe};
-use prl_planning::{
-    accepted_text, edf_text, flows_text, made_text, planned_text, print_text, scheduled_text,
+use prl_executions::{
+    Outcome, accepted_text, cores_text, cycle_text, edf_text, flows_text, made_text, planned_text,
+    print_text, replayed_text, run_outcome, run_text, scheduled_text,
 };
+use prl_io::{Files, Probe};
 use prl_stages::{MAX_BODIES, MAX_PROGRAM, Ran, Stop};
 use std::alloc::Global;
 use std::sync::Wait;

@@ -141,3 +141,16 @@ file_stop old mid new c part (stops.Refused stage fault) folder failed next h =
     subst (λ (s : Stage). IsStopOfFiles old new c (stops.Refused s fault)) (sym h.0)
     ((r.0, r.1, refused_at r.0 files (stages.File part) fault r.3 r.2), h.2 ∙ failed)
 file_stop old mid new c part stops.Memory folder failed next h = h ∙ failed
+
+-- the same of files that are read after others, none of whose readings failed
+pub stop_after : (old mid new : FolderView) (c : Command) (stop : Stop) → mid.folder ≡ old.folder → mid.failed ≡ old.failed
+    → IsStopOfFiles mid new c stop → IsStopOfFiles old new c stop
+stop_after old mid new c (stops.Unread part) folder failed h = (
+  (h.0.0, subst (λ (told : Option Folder). IsGiven told c h.0.0) folder h.0.1, h.0.2),
+  h.1,
+  h.2,
+  h.3 ∙ ap (λ (names : List (List ℕ)). names ++ (h.1 ∷ [])) failed,
+)
+stop_after old mid new c (stops.Refused stage fault) folder failed h =
+    ((h.0.0, subst (λ (told : Option Folder). IsGiven told c h.0.0) folder h.0.1, h.0.2), h.1 ∙ failed)
+stop_after old mid new c stops.Memory folder failed h = h ∙ failed

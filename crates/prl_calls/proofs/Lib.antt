@@ -1,5 +1,4 @@
 mod Contents
 mod Found
-pub mod Joined
 pub mod Schedules
 pub mod Stops

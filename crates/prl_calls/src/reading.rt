@@ -1,8 +1,9 @@
 //! The files of a command, which are read first.
 
-ghost use Rattle.std.specs.Prelude.{◌≡◌, ◌≤◌, Ok, IfOk, IfErr, is_some, length};
+ghost use Rattle.std.specs.Prelude.{◌≡◌, ◌≤◌, ℕ, List, Ok, IfOk, IfErr, is_some, length};
 ghost use Rattle.prl_stages.specs.Given.{IsContent, IsGiven, most_of};
 ghost use Rattle.prl_calls.specs.Stops.{texts_give, IsRequestOf, IsFileStop, IsStopOfFiles};
+ghost use Rattle.prl_calls.specs.code.Texts.{AreFirst, AreLater};
 
 use prl_arguments::Command;
 use prl_base::Label;
@@ -57,6 +58,43 @@ fn read_part<F: Files>(
     }
 }
 
+/// The bytes of the program, of the bodies and of the rows.
+fn first_texts<F: Files>(
+    alloc: Global,
+    files: &mut F,
+    command: &Command,
+) -> Result<(Vec<u8>, Vec<u8>, Vec<u8>), Stop>
+    ensures given { IfOk result (λ made. AreFirst (F.seen files.old).folder command.now made.0.items made.1.items made.2.items) }
+    ensures program { IfOk result (λ made. length made.0.items ≤ MAX_PROGRAM) }
+    ensures bodies { IfOk result (λ made. length made.1.items ≤ MAX_BODIES) }
+    ensures stop { IfErr result (IsStopOfFiles (F.seen files.old) (F.seen files.new) command.now) }
+    ensures failed { IfOk result (λ _. (F.seen files.new).failed ≡ (F.seen files.old).failed) }
+    ensures kept { (F.seen files.new).folder ≡ (F.seen files.old).folder }
+{
+    let program = read_part(alloc, files, InputFile::Program, &command.program)?;
+    let bodies = read_part(alloc, files, InputFile::Bodies, &command.bodies)?;
+    let sensors = read_part(alloc, files, InputFile::Sensors, &command.sensors)?;
+    Ok((program, bodies, sensors))
+}
+
+/// The bytes of the schedule, of the table and of the processors, which are read after the others.
+fn later_texts<F: Files>(
+    alloc: Global,
+    files: &mut F,
+    command: &Command,
+) -> Result<(Vec<u8>, Vec<u8>, Vec<u8>), Stop>
+    ensures given { IfOk result (λ made. AreLater (F.seen files.old).folder command.now made.0.items made.1.items made.2.items) }
+    ensures stop { (program bodies sensors : List ℕ) → AreFirst (F.seen files.old).folder command.now program bodies sensors
+        → IfErr result (IsStopOfFiles (F.seen files.old) (F.seen files.new) command.now) }
+    ensures failed { IfOk result (λ _. (F.seen files.new).failed ≡ (F.seen files.old).failed) }
+    ensures kept { (F.seen files.new).folder ≡ (F.seen files.old).folder }
+{
+    let schedule = read_part(alloc, files, InputFile::Schedule, &command.schedule)?;
+    let table = read_part(alloc, files, InputFile::Table, &command.table)?;
+    let cores = read_part(alloc, files, InputFile::Cores, &command.cores)?;
+    Ok((schedule, table, cores))
+}
+
 /// The bytes of the files that the command names, read in the order of `Texts`.
 fn read_texts<F: Files>(alloc: Global, files: &mut F, command: &Command) -> Result<Texts, Stop>
     ensures given { IfOk result (λ texts. IsGiven (F.seen files.old).folder command.now (texts_give texts (is_some command.now.schedule) command.now.node command.now.until)) }
@@ -66,19 +104,15 @@ fn read_texts<F: Files>(alloc: Global, files: &mut F, command: &Command) -> Resu
     ensures failed { IfOk result (λ _. (F.seen files.new).failed ≡ (F.seen files.old).failed) }
     ensures kept { (F.seen files.new).folder ≡ (F.seen files.old).folder }
 {
-    let program = read_part(alloc, files, InputFile::Program, &command.program)?;
-    let bodies = read_part(alloc, files, InputFile::Bodies, &command.bodies)?;
-    let sensors = read_part(alloc, files, InputFile::Sensors, &command.sensors)?;
-    let schedule = read_part(alloc, files, InputFile::Schedule, &command.schedule)?;
-    let table = read_part(alloc, files, InputFile::Table, &command.table)?;
-    let cores = read_part(alloc, files, InputFile::Cores, &command.cores)?;
+    let first = first_texts(alloc, files, command)?;
+    let later = later_texts(alloc, files, command)?;
     Ok(Texts {
-        program,
-        bodies,
-        sensors,
-        schedule,
-        table,
-        cores,
+        program: first.0,
+        bodies: first.1,
+        sensors: first.2,
+        schedule: later.0,
+        table: later.1,
+        cores: later.2,
     })
 }
 

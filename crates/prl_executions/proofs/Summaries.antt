@@ -1,7 +1,5 @@
--- The list of events that is dispatched is replayed, and the line of a summary from its pieces.
-use Rattle.std.proofs.Common.{◌≡◌, ◌≢◌, ◌++◌, ◌∙◌, ℕ, ℤ, List, [], length, Some, refl, ap, subst, codes, decimal}
-use Rattle.std.specs.Fmt.{signed_decimal}
-use Rattle.std.proofs.lemmas.List.{append_assoc}
+-- The list of events that is dispatched is replayed, and its replay and a run have their summary.
+use Rattle.std.proofs.Common.{◌≡◌, ◌≢◌, ◌∙◌, ℕ, ℤ, List, length, Some, refl, ap, subst}
 use Rattle.prl_base.specs.declared.numbers.TaskNo.{TaskNo}
 use Rattle.prl_board.specs.Closings.{ClosedView, IsClosed}
 use Rattle.prl_core.specs.Cores.{CoreView, constants, opened, opened_on}
@@ -19,7 +17,6 @@ use Rattle.prl_schedules.specs.Dispatches.{IsDispatched}
 use Rattle.prl_stages.specs.declared.ran.Ran.TheVariants as runs
 use Rattle.prl_stages.specs.Vocabulary.{Given, IsSummary, sum_of, summary_line, meant_flows}
 use Rattle.prl_track.specs.declared.seen.Seen.{Seen}
-use Rattle.prl_calls.proofs.Joined.{joined}
 use Rattle.prl_executions.specs.declared.ready.Ready.{Ready}
 use Rattle.prl_executions.specs.code.Generated.{IsReplayed}
 use Rattle.prl_executions.specs.Ready.{IsReady}
@@ -41,29 +38,6 @@ no_fault law r placement list told fault one same legal complete fails some =
     law (opened r.plan r.bodies r.sensors r.horizon) list fault legal complete
     (subst (λ (events : List Event). IsRunFault (opened r.plan r.bodies r.sensors r.horizon) events fault) same
     (subst (λ (p : Placement). IsRunFault (opened_on r.plan p r.bodies r.sensors r.horizon) told fault) one (fails some)))
-
-pairs : (a x b y c z d w e v f u : List ℕ) (rest : List ℕ)
-    → (a ++ x) ++ ((b ++ y) ++ ((c ++ z) ++ ((d ++ w) ++ ((e ++ v) ++ ((f ++ u) ++ rest)))))
-    ≡ a ++ (x ++ (b ++ (y ++ (c ++ (z ++ (d ++ (w ++ (e ++ (v ++ (f ++ (u ++ rest)))))))))))
-pairs a x b y c z d w e v f u rest =
-    append_assoc a x _
-    ∙ ap (λ t. a ++ (x ++ t)) (append_assoc b y _
-    ∙ ap (λ t. b ++ (y ++ t)) (append_assoc c z _
-    ∙ ap (λ t. c ++ (z ++ t)) (append_assoc d w _
-    ∙ ap (λ t. d ++ (w ++ t)) (append_assoc e v _
-    ∙ ap (λ t. e ++ (v ++ t)) (append_assoc f u rest)))))
-
--- the text after each piece
-pub summary_pieces : (seed size tasks edges jobs reads : ℕ) (sum : ℤ) (t0 t1 t2 t3 t4 t5 t6 t7 t8 t9 : List ℕ) → t0 ≡ []
-    → t1 ≡ t0 ++ (codes "seed " ++ decimal seed) → t2 ≡ t1 ++ (codes " size " ++ decimal size) → t3 ≡ t2 ++ (codes " tasks " ++ decimal tasks)
-    → t4 ≡ t3 ++ (codes " edges " ++ decimal edges) → t5 ≡ t4 ++ (codes " jobs " ++ decimal jobs) → t6 ≡ t5 ++ (codes " reads " ++ decimal reads)
-    → t7 ≡ t6 ++ codes " sum " → t8 ≡ t7 ++ signed_decimal sum → t9 ≡ t8 ++ codes "\n" → t9 ≡ summary_line seed size tasks edges jobs reads sum
-summary_pieces seed size tasks edges jobs reads sum t0 t1 t2 t3 t4 t5 t6 t7 t8 t9 e0 e1 e2 e3 e4 e5 e6 e7 e8 e9 =
-    rw (e9, e8, e7, e6, e5, e4, e3, e2, e1, e0)
-    (joined (codes "seed " ++ decimal seed) (codes " size " ++ decimal size) (codes " tasks " ++ decimal tasks) (codes " edges " ++ decimal edges)
-    (codes " jobs " ++ decimal jobs) (codes " reads " ++ decimal reads) (codes " sum ") (signed_decimal sum) (codes "\n")
-    ∙ pairs (codes "seed ") (decimal seed) (codes " size ") (decimal size) (codes " tasks ") (decimal tasks) (codes " edges ") (decimal edges)
-    (codes " jobs ") (decimal jobs) (codes " reads ") (decimal reads) (codes " sum " ++ (signed_decimal sum ++ codes "\n")))
 
 module _ (g : Given) (r : Ready) (ready : IsReady g r) (law : ShownLaws) (closed : ClosedView) (its : closed.constants ≡ Some (known_of r gates.Gated)) (ended : HasEnded closed)
     (is_closed : IsClosed (known_of r gates.Gated) closed.words closed.seats) where

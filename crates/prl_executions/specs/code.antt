@@ -1,3 +1,5 @@
 pub mod Faults
+pub mod Flows
 pub mod Generated
+pub mod Numbered
 pub mod Placed

@@ -1,21 +1,21 @@
 //! Mode `generate`: a program is made from a number and a size; the dispatched list of its plan is replayed, its tasks run on a
 //! board, and a line sums up both.
 
-ghost use Rattle.std.specs.Prelude.{◌≡◌, ◌≤◌, ◌++◌, List, Some, IfOk, OnOk, length};
+ghost use Rattle.std.specs.Prelude.{◌≡◌, ◌≤◌, List, Some, IfOk, length};
 ghost use Rattle.prl_flow.specs.declared.programs.OutFlow.{OutFlow as AnyFlow};
 ghost use Rattle.prl_results.specs.Shown.{AreShown};
 ghost use Rattle.prl_rule.specs.declared.views.Constants.{Constants};
 ghost use Rattle.prl_stages.specs.Given.{generated};
 ghost use Rattle.prl_stages.specs.Ran.{IsSummary, sum_of, summary_line, with_value, with_values};
 ghost use Rattle.prl_executions.specs.Ready.{IsReady};
-ghost use Rattle.prl_executions.specs.code.Generated.{IsReplayed, numbered};
+ghost use Rattle.prl_executions.specs.code.Generated.{IsReplayed};
 ghost use Rattle.prl_calls.specs.Stops.{given_of};
 
+use crate::lines::push_summary;
 use crate::ready::Ready;
 use crate::running::closed_alone;
-use itoa::Buffer;
 use prl_arguments::Gate;
-use prl_base::{Value, push_number};
+use prl_base::Value;
 use prl_board::Closed;
 use prl_calls::{Request, Texts};
 use prl_flow::OutFlow;
@@ -113,14 +113,6 @@ fn sum_of(outs: &[OutFlow]) -> Result<i128, AllocError>
     Ok(sum)
 }
 
-/// Appends a name and a number.
-fn push_numbered(text: &mut Vec<u8>, name: &[u8], number: u64) -> Result<(), AllocError>
-    ensures { OnOk result (text.new.items ≡ text.old.items ++ numbered name.now number) }
-{
-    text.extend_from_slice(name)?;
-    push_number(text, number)
-}
-
 /// The line of a summary: a number, a size, how many tasks, edges, jobs and reads there are, and a sum.
 fn summary(
     alloc: Global,
@@ -134,18 +126,8 @@ fn summary(
     ensures { IfOk result (λ text. text.items ≡
         summary_line seed size (length plan.now.graph.tasks) (length plan.now.graph.edges) jobs reads sum) }
 {
-    let graph = plan.graph();
-    let mut buffer = Buffer::new();
     let mut text = Vec::new(alloc);
-    push_numbered(&mut text, b"seed ", seed)?;
-    push_numbered(&mut text, b" size ", u64::from(size))?;
-    push_numbered(&mut text, b" tasks ", graph.tasks.len() as u64)?;
-    push_numbered(&mut text, b" edges ", graph.edges.len() as u64)?;
-    push_numbered(&mut text, b" jobs ", jobs)?;
-    push_numbered(&mut text, b" reads ", reads)?;
-    text.extend_from_slice(b" sum ")?;
-    text.extend_from_slice(buffer.format(sum).as_bytes())?;
-    text.push(b'\n')?;
+    push_summary(&mut text, seed, size, plan, jobs, reads, sum)?;
     Ok(text)
 }
 

@@ -8,8 +8,8 @@ ghost use Rattle.prl_flow.specs.Uses.{IsOrder};
 ghost use Rattle.prl_graph.specs.TaskGraphs.{IsGraphOf};
 ghost use Rattle.prl_names.specs.Uses.{used_imports};
 ghost use Rattle.prl_types.specs.Typing.{IsTyped};
-ghost use Rattle.prl_stages.specs.Vocabulary.{HasClocks, AreBodies, IsMain, HasWords, HasRows};
-ghost use Rattle.prl_stages.specs.Vocabulary.{HasHorizon, front, graphed, planned, ran};
+ghost use Rattle.prl_stages.specs.Vocabulary.{HasClocks, AreBodies, IsMain, IsProgram, HasWords};
+ghost use Rattle.prl_stages.specs.Vocabulary.{HasRows, HasHorizon, front, graphed, planned, ran};
 ghost use Rattle.prl_calls.specs.Stops.{given_of, AllHold, StopsIn};
 ghost use Rattle.prl_executions.specs.Ready.{IsReady};
 
@@ -97,36 +97,57 @@ fn graph_and_bodies(
     Ok((made, bodies))
 }
 
-/// The bodies, the plan and its horizon.
+/// The plan of the task graph with its words, and its horizon.
+fn plan_to_horizon(
+    alloc: Global,
+    request: &Request,
+    graphed: (TaskGraph, Words),
+) -> Result<(Plan, Horizon), Stop>
+    requires { HasWords (given_of request.now) graphed.0 graphed.1.of }
+    ensures graph { IfOk result (λ made. made.0.graph ≡ graphed.0) }
+    ensures horizon { IfOk result (λ made. HasHorizon (given_of request.now) made.0 made.1) }
+    ensures holds { IfOk result (λ _. AllHold (given_of request.now) (planned ++ (Stage.Horizon ∷ []))) }
+    ensures stop { IfErr result (StopsIn (given_of request.now) (planned ++ (Stage.Horizon ∷ []))) }
+{
+    let plan = make_planned(alloc, request, graphed)?;
+    let horizon = make_horizon(request, &plan)?;
+    Ok((plan, horizon))
+}
+
+/// The bodies, and the plan with its horizon.
 fn plan_of_replay(
     alloc: Global,
     request: &Request,
     typed: &Typed<'_>,
     flat: &Flat,
     clocks: &Clocks,
-) -> Result<(Bodies, Plan, Horizon), Stop>
+) -> Result<(Bodies, (Plan, Horizon)), Stop>
     requires bodies { length request.now.texts.bodies.items ≤ MAX_BODIES }
     requires main { IsMain (given_of request.now) (program_tree typed.now.program) typed.now.main }
     requires clocks { HasClocks (given_of request.now) flat.now clocks.now.of }
     ensures bodies { IfOk result (λ made. AreBodies (given_of request.now) (map body_tree made.0)) }
     ensures have { IfOk result (λ made. HaveBodiesOf (program_tree typed.now.program).imports (used_imports (program_tree typed.now.program) typed.now.main) made.0) }
-    ensures graph { IfOk result (λ made. IsGraphOf flat.now clocks.now.of made.1.graph) }
-    ensures horizon { IfOk result (λ made. HasHorizon (given_of request.now) made.1 made.2) }
+    ensures graph { IfOk result (λ made. IsGraphOf flat.now clocks.now.of made.1.0.graph) }
+    ensures horizon { IfOk result (λ made. HasHorizon (given_of request.now) made.1.0 made.1.1) }
     ensures holds { IfOk result (λ _. AllHold (given_of request.now) (graphed ++ (Stage.Bodies ∷ []) ++ planned ++ (Stage.Horizon ∷ []))) }
     ensures stop { IfErr result (StopsIn (given_of request.now) (graphed ++ (Stage.Bodies ∷ []) ++ planned ++ (Stage.Horizon ∷ []))) }
 {
     let made = graph_and_bodies(alloc, request, typed, flat, clocks)?;
     let (graphed, bodies) = made;
-    let plan = make_planned(alloc, request, graphed)?;
-    let horizon = make_horizon(request, &plan)?;
-    Ok((bodies, plan, horizon))
+    let plan = plan_to_horizon(alloc, request, graphed)?;
+    Ok((bodies, plan))
 }
 
-/// The bodies and the rows of what is evaluated.
-fn bodies_and_rows(run: Run) -> (Bodies, Sensors)
-    ensures { result ≡ (run.bodies, run.sensors) }
+/// What a run needs, of what is evaluated and of a plan with its horizon.
+fn ready_of(run: Run, plan: (Plan, Horizon)) -> Ready
+    ensures { result ≡ record { plan = plan.0; bodies = run.bodies; sensors = run.sensors; horizon = plan.1 } }
 {
-    (run.bodies, run.sensors)
+    Ready {
+        plan: plan.0,
+        bodies: run.bodies,
+        sensors: run.sensors,
+        horizon: plan.1,
+    }
 }
 
 /// What a run needs, after the clocks of the flows.
@@ -147,16 +168,24 @@ fn ready_with(
     ensures stop { IfErr result (StopsIn (given_of request.now) ran) }
 {
     let made = plan_of_replay(alloc, request, typed, &front.0, &front.2)?;
-    let (bodies, plan, horizon) = made;
+    let (bodies, plan) = made;
     let run = run_with(alloc, request, front, bodies)?;
-    program_is_ready(request, typed, &run, &plan, horizon);
-    let (bodies, sensors) = bodies_and_rows(run);
-    Ok(Ready {
-        plan,
-        bodies,
-        sensors,
-        horizon,
-    })
+    program_is_ready(request, typed, &run, &plan.0, plan.1);
+    Ok(ready_of(run, plan))
+}
+
+/// What a run needs, after the types.
+fn typed_ready(alloc: Global, request: &Request, typed: &Typed<'_>) -> Result<Ready, Stop>
+    requires program { IsProgram (given_of request.now) (program_tree typed.now.program) }
+    requires bodies { length request.now.texts.bodies.items ≤ MAX_BODIES }
+    requires main { IsMain (given_of request.now) (program_tree typed.now.program) typed.now.main }
+    requires typed { IsTyped (program_tree typed.now.program) (given_of request.now).node typed.now.main typed.now.types }
+    ensures ready { IfOk result (IsReady (given_of request.now)) }
+    ensures holds { IfOk result (λ _. AllHold (given_of request.now) (Stage.Expansion ∷ Stage.Causality ∷ Stage.Clocks ∷ ran)) }
+    ensures stop { IfErr result (StopsIn (given_of request.now) (Stage.Expansion ∷ Stage.Causality ∷ Stage.Clocks ∷ ran)) }
+{
+    let front = flat_of(alloc, request, typed)?;
+    ready_with(alloc, request, typed, front)
 }
 
 /// What a run needs: the stages of the modes that run tasks.
@@ -169,6 +198,5 @@ pub fn make_ready(alloc: Global, request: &Request) -> Result<Ready, Stop>
 {
     let program = read_program(alloc, request)?;
     let typed = check_types(alloc, request, &program)?;
-    let front = flat_of(alloc, request, &typed)?;
-    ready_with(alloc, request, &typed, front)
+    typed_ready(alloc, request, &typed)
 }

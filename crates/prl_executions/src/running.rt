@@ -138,6 +138,13 @@ fn ended_outcome(
     Ok(Outcome::Ended(text, Ran::Ended(closed)))
 }
 
+/// What a run of several workers has come to that was overrun.
+fn overrun_outcome(ready: Ready, stopped: Stopped) -> Outcome
+    ensures { result ≡ Outcome.Overrun ready.plan stopped }
+{
+    Outcome::Overrun(ready.plan, stopped)
+}
+
 /// Mode `run` with several workers, after its stages. It may wait.
 fn outcome_of<R: Threads + Wait + Sync, P: Probe>(
     rt: &R,
@@ -164,7 +171,7 @@ fn outcome_of<R: Threads + Wait + Sync, P: Probe>(
         probe,
     ) {
         Ok(closed) => ended_outcome(alloc, request, &ready, gate, closed),
-        Err(RunFault::Overrun(stopped)) => Ok(Outcome::Overrun(ready.plan, stopped)),
+        Err(RunFault::Overrun(stopped)) => Ok(overrun_outcome(ready, stopped)),
         Err(RunFault::Memory) => Err(AllocError),
     }
 }

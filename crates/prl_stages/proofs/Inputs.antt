@@ -20,34 +20,25 @@ use Rattle.prl_solutions.specs.Conditions.{AreTypedRows}
 use Rattle.prl_stages.specs.Runs.{inputs_of, needs_of, type_of_flow}
 
 -- the variables of a node are no more than all flows
-inputs_within : {F R N : Type 0} (e : Entered F R N) → length (entered_inputs e) ≤ length (flows_in e)
-inputs_within (entered ins outs locals rights) =
+within : {F R N : Type 0} (e : Entered F R N) → (length (entered_inputs e) ≤ length (flows_in e)) × (length (entered_outputs e) ≤ length (flows_in e))
+within (entered ins outs locals rights) =
     let a = length-append ins outs in
     let b = length-append (ins ++ outs) locals in
-    let c = length-append ((ins ++ outs) ++ locals) (right_flows rights) in omega (arith, a, b, c)
+    let c = length-append ((ins ++ outs) ++ locals) (right_flows rights) in (omega (arith, a, b, c), omega (arith, a, b, c))
 
-outputs_within : {F R N : Type 0} (e : Entered F R N) → length (entered_outputs e) ≤ length (flows_in e)
-outputs_within (entered ins outs locals rights) =
-    let a = length-append ins outs in
-    let b = length-append (ins ++ outs) locals in
-    let c = length-append ((ins ++ outs) ++ locals) (right_flows rights) in omega (arith, a, b, c)
+few_of : (all : ℕ) (marked : List ℕ) (flows : List FlowNo) → all ≤ 4096 → length marked ≤ all → flows ≡ map flow_no marked → length flows ≤ 4096
+few_of all marked flows few inside is =
+    let count : length flows ≡ length marked = ap length is ∙ length-map marked flow_no in
+    omega (arith, few, inside, count)
 
 -- main has no more inputs and outputs than a program may have flows
 pub few_inputs : (p : ProgramTree) (main : ℕ) (tys : List Ty) (flat : FlatProgram) → IsExpanded p main tys flat → length flat.ins ≤ 4096
 few_inputs p main tys flat x =
-    let few = x.few in
-    let within = inputs_within x.expansion in
-    let count : length flat.ins ≡ length (entered_inputs x.expansion) =
-    ap (λ (f : FlatProgram). length f.ins) x.flat_is ∙ length-map (entered_inputs x.expansion) flow_no in
-    omega (arith, few, within, count)
+    few_of (length (flows_in x.expansion)) (entered_inputs x.expansion) flat.ins x.few (within x.expansion).0 (ap (λ (f : FlatProgram). f.ins) x.flat_is)
 
 pub few_outputs : (p : ProgramTree) (main : ℕ) (tys : List Ty) (flat : FlatProgram) → IsExpanded p main tys flat → length flat.outs ≤ 4096
 few_outputs p main tys flat x =
-    let few = x.few in
-    let within = outputs_within x.expansion in
-    let count : length flat.outs ≡ length (entered_outputs x.expansion) =
-    ap (λ (f : FlatProgram). length f.outs) x.flat_is ∙ length-map (entered_outputs x.expansion) flow_no in
-    omega (arith, few, within, count)
+    few_of (length (flows_in x.expansion)) (entered_outputs x.expansion) flat.outs x.few (within x.expansion).1 (ap (λ (f : FlatProgram). f.outs) x.flat_is)
 
 abbrev no_flow : FlowNo
 no_flow = record { 0 = 0 }

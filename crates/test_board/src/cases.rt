@@ -70,7 +70,7 @@ const NOTHING: Shown = Shown {
 };
 
 /// The sensor's first value stands in the cell.
-const WRITTEN: Shown = Shown {
+pub(crate) const WRITTEN: Shown = Shown {
     words: (4294967297, 4294967296),
     ..NOTHING
 };

@@ -8,8 +8,8 @@ ghost use Rattle.prl_rule.specs.declared.views.ClockPart.{ClockPart};
 ghost use Rattle.prl_board.specs.Vocabulary.{IsClockOf, AreSeatsOf, IsLoneOf};
 ghost use Rattle.test_board.specs.Pairs.{IsClosedPair, IsPair};
 
-use crate::cases::{CASES, Case, Did, letter_of};
-use crate::pairs::{pair, shown};
+use crate::cases::{Case, Did, letter_of};
+use crate::pairs::shown;
 use prl_base::TaskNo;
 use prl_board::{Board, ClockSeat, Closed, Lone, Place, Steps, TaskSeat, gather, open_board};
 use prl_body::Bodies;
@@ -113,7 +113,7 @@ fn holds_on<L: Ledger>(
 }
 
 /// Whether a case holds on a new board of the pair.
-fn holds(
+pub(crate) fn holds(
     alloc: Global,
     plan: &Plan,
     sensors: &Sensors,
@@ -128,25 +128,4 @@ fn holds(
     let bodies = Bodies::none(alloc);
     let (board, seats, clock) = open_board(alloc, plan, &bodies, sensors, horizon, case.gate)?;
     Ok(holds_on::<Brand>(Blank::new(1), board, seats, clock, case))
-}
-
-/// Fails with the name of the first case that does not hold.
-fn each_holds(alloc: Global, plan: &Plan, sensors: &Sensors, horizon: Horizon) -> Result<(), Fail>
-    requires pair { IsPair plan.now }
-    requires horizon { IsHorizon plan.now horizon }
-    requires bodies { HaveTaskBodies plan.now.graph [] }
-    requires rows { HaveTypedRows plan.now.graph horizon.until sensors.now }
-{
-    for case in CASES.iter() {
-        if !holds(alloc, plan, sensors, horizon, case)? {
-            return Err(case.name.into());
-        }
-    }
-    Ok(())
-}
-
-#[test]
-fn each_case_holds_for_one_thread(rt: HostRuntime) -> Result<(), Fail> {
-    let made = pair(rt.alloc())?;
-    each_holds(rt.alloc(), &made.0, &made.1, made.2)
 }

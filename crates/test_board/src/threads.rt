@@ -10,7 +10,7 @@ ghost use Rattle.prl_board.specs.Vocabulary.{IsClockOf, AreSeatsOf};
 ghost use Rattle.prl_seats.specs.JobSeats.{IsSeatOf, JobSeatView};
 ghost use Rattle.test_board.specs.Pairs.{IsPair};
 
-use crate::cases::Shown;
+use crate::cases::{Shown, WRITTEN};
 use crate::pairs::{pair, shown};
 use crate::seats::{act, closed_pair, tick};
 use prl_board::{Board, ClockSeat, Gate, TaskSeat, open_board};
@@ -71,9 +71,7 @@ fn shown_after<R: Threads + Sync>(
 const WITHOUT_THE_READER: Shown = Shown {
     now: 1,
     done: (1, 0),
-    words: (4294967297, 4294967296),
-    ended: false,
-    values: 0,
+    ..WRITTEN
 };
 
 /// What is shown where both tasks have ended their first jobs.

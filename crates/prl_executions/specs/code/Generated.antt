@@ -1,5 +1,5 @@
 -- What private functions say of generated programs.
-use Rattle.std.specs.Prelude.{◌++◌, ℕ, List, decimal}
+use Rattle.std.specs.Prelude.{List}
 use Rattle.prl_core.specs.Cores.{opened}
 use Rattle.prl_flow.specs.declared.programs.OutFlow.{OutFlow}
 use Rattle.prl_flow.specs.Actuators.{AreUpTo}
@@ -17,7 +17,3 @@ pub record IsReplayed (r : Ready) (told : List Seen) (flows : List OutFlow) : Ty
   pub dispatched : IsDispatched (constants_of r.plan r.horizon) (opening (constants_of r.plan r.horizon)) events
   pub trace : IsTrace (opened r.plan r.bodies r.sensors r.horizon) events told flows
   pub up_to : AreUpTo r.horizon.until flows
-
--- a name and a number
-abbrev pub numbered : List ℕ → ℕ → List ℕ
-numbered name number = name ++ decimal number

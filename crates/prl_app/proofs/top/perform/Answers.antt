@@ -1,7 +1,7 @@
-use Rattle.std.proofs.Common.{ℕ, List, map, refl, subst}
+use Rattle.std.proofs.Common.{ℕ, List, map, subst}
 use Rattle.std.specs.String.{string_bytes}
 use Rattle.prl_app.specs.Vocabulary.{Outside, IsWrittenBy}
-use Rattle.prl_app.proofs.Exact.{stop_ends, written_ends}
+use Rattle.prl_app.proofs.Exact.{stop_performs, written_ends}
 use Rattle.prl_app.proofs.top.perform.Goals as goal
 
 pub returns-in-Ok-clause-ends : goal.returns-in-Ok-clause-ends
@@ -15,9 +15,6 @@ returns-in-Ok-clause-ends g c = λ err_old err_new.
     (subst (λ (t : List ℕ). IsWrittenBy old.out new.out t c.in-Ok.ran c.written.result) c.deref.ensures.value c.written.ensures) a.failed
 
 pub returns-in-Err-clause-ends : goal.returns-in-Err-clause-ends
-returns-in-Err-clause-ends g c = λ err_old err_new.
-    let words = map string_bytes c.args.words.now in
-    let out = g.S.Sink.seen c.args.out.now in
-    let old : Outside = record { files = g.F.Files.seen c.args.files.now; out = out; err = err_old } in
-    let new : Outside = record { files = g.F.Files.seen c.answer.new.files; out = out; err = err_new } in
-    stop_ends words old new c.args.command.now c.requires.asked c.in-Err.stop c.in-Err.ensures.stop refl
+returns-in-Err-clause-ends g c =
+    stop_performs (map string_bytes c.args.words.now) (g.F.Files.seen c.args.files.now) (g.F.Files.seen c.answer.new.files) (g.S.Sink.seen c.args.out.now)
+    c.args.command.now c.requires.asked c.in-Err.stop c.in-Err.ensures.stop

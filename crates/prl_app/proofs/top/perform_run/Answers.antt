@@ -1,7 +1,7 @@
 use Rattle.std.proofs.Common.{ℕ, List, map, refl, subst}
 use Rattle.std.specs.String.{string_bytes}
 use Rattle.prl_app.specs.Vocabulary.{Outside, IsWrittenBy, IsAnswerOf}
-use Rattle.prl_app.proofs.Exact.{overrun_ends, stop_ends, written_ends}
+use Rattle.prl_app.proofs.Exact.{overrun_ends, stop_performs, written_ends}
 use Rattle.prl_app.proofs.top.perform_run.Goals as goal
 
 pub returns-in-Ok-Ended-clause-ends : goal.returns-in-Ok-Ended-clause-ends
@@ -26,9 +26,6 @@ returns-in-Ok-Overrun-clause-ends g c = λ err_old err_new.
     overrun_ends words old new c.args.command.now c.requires.asked c.requires.mode c.requires.several c.in-Ok-Overrun.plan c.in-Ok-Overrun.stopped of refl a.failed
 
 pub returns-in-Err-clause-ends : goal.returns-in-Err-clause-ends
-returns-in-Err-clause-ends g c = λ err_old err_new.
-    let words = map string_bytes c.args.words.now in
-    let out = g.S.Sink.seen c.args.out.now in
-    let old : Outside = record { files = g.F.Files.seen c.args.files.now; out = out; err = err_old } in
-    let new : Outside = record { files = g.F.Files.seen c.answer_threads.new.files; out = out; err = err_new } in
-    stop_ends words old new c.args.command.now c.requires.asked c.in-Err.stop c.in-Err.ensures.stop refl
+returns-in-Err-clause-ends g c =
+    stop_performs (map string_bytes c.args.words.now) (g.F.Files.seen c.args.files.now) (g.F.Files.seen c.answer_threads.new.files) (g.S.Sink.seen c.args.out.now)
+    c.args.command.now c.requires.asked c.in-Err.stop c.in-Err.ensures.stop

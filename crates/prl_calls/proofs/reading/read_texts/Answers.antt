@@ -1,78 +1,18 @@
-use Rattle.std.proofs.Common.{refl, ◌∙◌}
+use Rattle.std.proofs.Common.{Option, sym, subst}
 use Rattle.std.proofs.lemmas.Result.{err_from_is_err_and}
-use Rattle.prl_stages.specs.declared.faults.InputFile.TheVariants as parts
-use Rattle.prl_calls.proofs.Contents.{file_stop, kept, program_next, bodies_next, sensors_next, schedule_next, table_next, cores_next}
+use Rattle.prl_stages.specs.Given.{Folder}
+use Rattle.prl_calls.specs.code.Texts.{AreFirst}
+use Rattle.prl_calls.proofs.Contents.{stop_after}
 use Rattle.prl_calls.proofs.reading.read_texts.Goals as goal
 
-pub returns-in_err-program-clause-stop : goal.returns-in_err-program-clause-stop
-returns-in_err-program-clause-stop g c =
-    let x = err_from_is_err_and c.from_residual.result c.from_residual.ensures.1 in
+pub returns-in_err-later-clause-stop : goal.returns-in_err-later-clause-stop
+returns-in_err-later-clause-stop g c =
+    let x = err_from_is_err_and c.from_residual-in_err-later.result c.from_residual-in_err-later.ensures.1 in
     let old = g.F.Files.seen c.args.files.now in
+    let mid = g.F.Files.seen c.first_texts.new.files in
+    let new = g.F.Files.seen c.later_texts.new.files in
     let command = c.args.command.now in
-    rw (x.1, x.2) (file_stop old old (g.F.Files.seen c.read_part.new.files) command parts.Program c.in_err-program.field-0.0 refl refl
-    (program_next old.folder command) c.in_err-program.ensures.stop)
-
-pub returns-in_err-bodies-clause-stop : goal.returns-in_err-bodies-clause-stop
-returns-in_err-bodies-clause-stop g c =
-    let x = err_from_is_err_and c.from_residual-in_err-bodies.result c.from_residual-in_err-bodies.ensures.1 in
-    let old = g.F.Files.seen c.args.files.now in
-    let command = c.args.command.now in
-    let p = c.in_ok-program.ensures in
-    rw (x.1, x.2) (file_stop old (g.F.Files.seen c.read_part.new.files) (g.F.Files.seen c.read_part-2.new.files) command parts.Bodies c.in_err-bodies.field-0.0 (p.kept) (p.failed)
-    (bodies_next old.folder command c.in_ok-program.program.items p.content) c.in_err-bodies.ensures.stop)
-
-pub returns-in_err-sensors-clause-stop : goal.returns-in_err-sensors-clause-stop
-returns-in_err-sensors-clause-stop g c =
-    let x = err_from_is_err_and c.from_residual-in_err-sensors.result c.from_residual-in_err-sensors.ensures.1 in
-    let old = g.F.Files.seen c.args.files.now in
-    let command = c.args.command.now in
-    let p = c.in_ok-program.ensures in
-    let b = c.in_ok-bodies.ensures in
-    let bodies = kept command parts.Bodies c.in_ok-bodies.bodies.items (p.kept) b.content in
-    rw (x.1, x.2) (file_stop old (g.F.Files.seen c.read_part-2.new.files) (g.F.Files.seen c.read_part-3.new.files) command parts.Sensors c.in_err-sensors.field-0.0 (b.kept ∙ p.kept) (b.failed ∙ p.failed)
-    (sensors_next old.folder command c.in_ok-program.program.items p.content c.in_ok-bodies.bodies.items bodies) c.in_err-sensors.ensures.stop)
-
-pub returns-in_err-schedule-clause-stop : goal.returns-in_err-schedule-clause-stop
-returns-in_err-schedule-clause-stop g c =
-    let x = err_from_is_err_and c.from_residual-in_err-schedule.result c.from_residual-in_err-schedule.ensures.1 in
-    let old = g.F.Files.seen c.args.files.now in
-    let command = c.args.command.now in
-    let p = c.in_ok-program.ensures in
-    let b = c.in_ok-bodies.ensures in
-    let s = c.in_ok-sensors.ensures in
-    let bodies = kept command parts.Bodies c.in_ok-bodies.bodies.items (p.kept) b.content in
-    let sensors = kept command parts.Sensors c.in_ok-sensors.sensors.items (b.kept ∙ p.kept) s.content in
-    rw (x.1, x.2) (file_stop old (g.F.Files.seen c.read_part-3.new.files) (g.F.Files.seen c.read_part-4.new.files) command parts.Schedule c.in_err-schedule.field-0.0 (s.kept ∙ b.kept ∙ p.kept) (s.failed ∙ b.failed ∙ p.failed)
-    (schedule_next old.folder command c.in_ok-program.program.items p.content c.in_ok-bodies.bodies.items bodies c.in_ok-sensors.sensors.items sensors) c.in_err-schedule.ensures.stop)
-
-pub returns-in_err-table-clause-stop : goal.returns-in_err-table-clause-stop
-returns-in_err-table-clause-stop g c =
-    let x = err_from_is_err_and c.from_residual-in_err-table.result c.from_residual-in_err-table.ensures.1 in
-    let old = g.F.Files.seen c.args.files.now in
-    let command = c.args.command.now in
-    let p = c.in_ok-program.ensures in
-    let b = c.in_ok-bodies.ensures in
-    let s = c.in_ok-sensors.ensures in
-    let e = c.in_ok-schedule.ensures in
-    let bodies = kept command parts.Bodies c.in_ok-bodies.bodies.items (p.kept) b.content in
-    let sensors = kept command parts.Sensors c.in_ok-sensors.sensors.items (b.kept ∙ p.kept) s.content in
-    let schedule = kept command parts.Schedule c.in_ok-schedule.schedule.items (s.kept ∙ b.kept ∙ p.kept) e.content in
-    rw (x.1, x.2) (file_stop old (g.F.Files.seen c.read_part-4.new.files) (g.F.Files.seen c.read_part-5.new.files) command parts.Table c.in_err-table.field-0.0 (e.kept ∙ s.kept ∙ b.kept ∙ p.kept) (e.failed ∙ s.failed ∙ b.failed ∙ p.failed)
-    (table_next old.folder command c.in_ok-program.program.items p.content c.in_ok-bodies.bodies.items bodies c.in_ok-sensors.sensors.items sensors c.in_ok-schedule.schedule.items schedule) c.in_err-table.ensures.stop)
-
-pub returns-in_err-cores-clause-stop : goal.returns-in_err-cores-clause-stop
-returns-in_err-cores-clause-stop g c =
-    let x = err_from_is_err_and c.from_residual-in_err-cores.result c.from_residual-in_err-cores.ensures.1 in
-    let old = g.F.Files.seen c.args.files.now in
-    let command = c.args.command.now in
-    let p = c.in_ok-program.ensures in
-    let b = c.in_ok-bodies.ensures in
-    let s = c.in_ok-sensors.ensures in
-    let e = c.in_ok-schedule.ensures in
-    let t = c.in_ok-table.ensures in
-    let bodies = kept command parts.Bodies c.in_ok-bodies.bodies.items (p.kept) b.content in
-    let sensors = kept command parts.Sensors c.in_ok-sensors.sensors.items (b.kept ∙ p.kept) s.content in
-    let schedule = kept command parts.Schedule c.in_ok-schedule.schedule.items (s.kept ∙ b.kept ∙ p.kept) e.content in
-    let table = kept command parts.Table c.in_ok-table.table.items (e.kept ∙ s.kept ∙ b.kept ∙ p.kept) t.content in
-    rw (x.1, x.2) (file_stop old (g.F.Files.seen c.read_part-5.new.files) (g.F.Files.seen c.read_part-6.new.files) command parts.Cores c.in_err-cores.field-0.0 (t.kept ∙ e.kept ∙ s.kept ∙ b.kept ∙ p.kept) (t.failed ∙ e.failed ∙ s.failed ∙ b.failed ∙ p.failed)
-    (cores_next old.folder command c.in_ok-program.program.items p.content c.in_ok-bodies.bodies.items bodies c.in_ok-sensors.sensors.items sensors c.in_ok-schedule.schedule.items schedule c.in_ok-table.table.items table) c.in_err-cores.ensures.stop)
+    let f = c.in_ok-first.ensures in
+    let made = c.in_ok-first.first in
+    let first = subst (λ (told : Option Folder). AreFirst told command made.0.items made.1.items made.2.items) (sym f.kept) f.given in
+    rw (x.1, x.2) (stop_after old mid new command c.in_err-later.field-0.0 f.kept f.failed (c.in_err-later.ensures.stop made.0.items made.1.items made.2.items first))

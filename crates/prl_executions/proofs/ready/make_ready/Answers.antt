@@ -1,38 +1,23 @@
-use Rattle.std.proofs.Common.{◌++◌, List, [], ◌∷◌, inr}
-use Rattle.std.proofs.lemmas.Result.{err_from_is_err_and}
+use Rattle.std.proofs.Common.{◌++◌, List, ◌∷◌, inr}
 use Rattle.prl_stages.specs.Stages.{front, ran}
 use Rattle.prl_stages.specs.declared.stages.Stage.{Stage}
 use Rattle.prl_stages.specs.declared.stages.Stage.TheVariants as stages
 use Rattle.prl_calls.specs.Stops.{given_of, AllHold, StopsIn}
-use Rattle.prl_calls.proofs.Stops.{both_hold, err_map, ok_map, stops_first, stops_rest}
+use Rattle.prl_calls.proofs.Stops.{err_map, ok_map}
 use Rattle.prl_executions.proofs.ready.make_ready.Goals as goal
 
--- the stages of the flat program
-abbrev flat : List Stage
-flat = stages.Expansion ∷ stages.Causality ∷ stages.Clocks ∷ []
-
-pub returns-in_err-front-clause-stop : goal.returns-in_err-front-clause-stop
-returns-in_err-front-clause-stop c =
-    let g = given_of c.args.request.now in
-    let p = err_from_is_err_and c.from_residual-in_err-front.result c.from_residual-in_err-front.ensures.1 in
-    rw (p.1, p.2) (inr (
-      c.in_ok-program.ensures.holds,
-      inr (c.in_ok-typed.ensures.holds, stops_first g flat ran c.in_err-front.field-0.0 c.in_err-front.ensures.stop),
-    ))
+-- the stages after the types
+abbrev rest : List Stage
+rest = stages.Expansion ∷ stages.Causality ∷ stages.Clocks ∷ ran
 
 pub returns-clause-holds : goal.returns-clause-holds
 returns-clause-holds c =
     let g = given_of c.args.request.now in
-    ok_map c.ready_with.result (λ _. AllHold g ran) (λ _. AllHold g (front ++ ran))
-    (λ ready rest. (c.in_ok-program.ensures.holds, (c.in_ok-typed.ensures.holds, both_hold g flat ran c.in_ok-front.ensures.holds rest)))
-    c.ready_with.ensures.holds
+    ok_map c.typed_ready.result (λ _. AllHold g rest) (λ _. AllHold g (front ++ ran))
+    (λ ready hold. (c.in_ok-program.ensures.holds, (c.in_ok-typed.ensures.holds, hold))) c.typed_ready.ensures.holds
 
 pub returns-clause-stop : goal.returns-clause-stop
 returns-clause-stop c =
     let g = given_of c.args.request.now in
-    err_map c.ready_with.result (StopsIn g ran) (StopsIn g (front ++ ran))
-    (λ stop at. inr (
-      c.in_ok-program.ensures.holds,
-      inr (c.in_ok-typed.ensures.holds, stops_rest g flat ran stop c.in_ok-front.ensures.holds at),
-    ))
-    c.ready_with.ensures.stop
+    err_map c.typed_ready.result (StopsIn g rest) (StopsIn g (front ++ ran))
+    (λ stop at. inr (c.in_ok-program.ensures.holds, inr (c.in_ok-typed.ensures.holds, at))) c.typed_ready.ensures.stop

@@ -1,4 +1,4 @@
-use Rattle.std.proofs.Common.{◌++◌, List, [], ◌∷◌, inl}
+use Rattle.std.proofs.Common.{◌++◌, List, [], ◌∷◌}
 use Rattle.std.proofs.lemmas.Result.{err_from_is_err_and}
 use Rattle.prl_stages.specs.Stages.{graphed, planned}
 use Rattle.prl_stages.specs.declared.stages.Stage.{Stage}
@@ -11,31 +11,17 @@ abbrev first : List Stage
 first = graphed ++ (stages.Bodies ∷ [])
 
 abbrev last : List Stage
-last = stages.Horizon ∷ []
+last = planned ++ (stages.Horizon ∷ [])
 
 pub returns-in_err-made-clause-stop : goal.returns-in_err-made-clause-stop
 returns-in_err-made-clause-stop c =
-    let g = given_of c.args.request.now in
     let p = err_from_is_err_and c.from_residual.result c.from_residual.ensures.1 in
-    rw (p.1, p.2) (stops_first g first (planned ++ last) c.in_err-made.field-0.0 c.in_err-made.ensures.stop)
+    rw (p.1, p.2) (stops_first (given_of c.args.request.now) first last c.in_err-made.field-0.0 c.in_err-made.ensures.stop)
 
 pub returns-in_err-plan-clause-stop : goal.returns-in_err-plan-clause-stop
 returns-in_err-plan-clause-stop c =
-    let g = given_of c.args.request.now in
     let p = err_from_is_err_and c.from_residual-in_err-plan.result c.from_residual-in_err-plan.ensures.1 in
-    let stop = c.in_err-plan.field-0.0 in
-    rw (p.1, p.2) (stops_rest g first (planned ++ last) stop c.in_ok-made.ensures.holds (stops_first g planned last stop c.in_err-plan.ensures.stop))
-
-pub returns-in_err-horizon-clause-stop : goal.returns-in_err-horizon-clause-stop
-returns-in_err-horizon-clause-stop c =
-    let g = given_of c.args.request.now in
-    let p = err_from_is_err_and c.from_residual-in_err-horizon.result c.from_residual-in_err-horizon.ensures.1 in
-    let stop = c.in_err-horizon.field-0.0 in
-    rw (p.1, p.2) (stops_rest g first (planned ++ last) stop c.in_ok-made.ensures.holds
-    (stops_rest g planned last stop c.in_ok-plan.ensures.holds (inl c.in_err-horizon.ensures.stop)))
+    rw (p.1, p.2) (stops_rest (given_of c.args.request.now) first last c.in_err-plan.field-0.0 c.in_ok-made.ensures.holds c.in_err-plan.ensures.stop)
 
 pub returns-clause-holds : goal.returns-clause-holds
-returns-clause-holds c =
-    let g = given_of c.args.request.now in
-    both_hold g first (planned ++ last) c.in_ok-made.ensures.holds
-    (both_hold g planned last c.in_ok-plan.ensures.holds (c.in_ok-horizon.ensures.holds, tt))
+returns-clause-holds c = both_hold (given_of c.args.request.now) first last c.in_ok-made.ensures.holds c.in_ok-plan.ensures.holds

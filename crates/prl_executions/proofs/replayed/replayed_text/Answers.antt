@@ -1,33 +1,19 @@
-use Rattle.std.proofs.Common.{◌++◌, List, [], ◌∷◌, inl}
+use Rattle.std.proofs.Common.{◌++◌, ◌∷◌, []}
 use Rattle.std.proofs.lemmas.Result.{err_from_is_err_and}
-use Rattle.prl_arguments.specs.declared.arguments.Mode.TheVariants as modes
-use Rattle.prl_stages.specs.Stages.{Holds, front, ran, stages_after}
-use Rattle.prl_stages.specs.declared.stages.Stage.{Stage}
+use Rattle.prl_stages.specs.Stages.{front, ran}
 use Rattle.prl_stages.specs.declared.stages.Stage.TheVariants as stages
-use Rattle.prl_calls.specs.Stops.{given_of, AllHold, StopsAt, StopsIn}
-use Rattle.prl_calls.proofs.Stops.{both_hold, err_map, ok_map, stops_first, stops_rest}
+use Rattle.prl_calls.specs.Stops.{given_of}
+use Rattle.prl_calls.proofs.Stops.{stops_first}
+use Rattle.prl_executions.proofs.Ends.{last_holds, last_stops}
 use Rattle.prl_executions.proofs.replayed.replayed_text.Goals as goal
-
--- the stages of a run, and those that follow
-abbrev first : List Stage
-first = front ++ ran
-
-abbrev last : List Stage
-last = stages.Schedule ∷ []
 
 pub returns-in_err-ready-clause-stop : goal.returns-in_err-ready-clause-stop
 returns-in_err-ready-clause-stop c =
     let x = err_from_is_err_and c.from_residual.result c.from_residual.ensures.1 in
-    rw (x.1, x.2) (stops_first (given_of c.args.request.now) first last c.in_err-ready.field-0.0 c.in_err-ready.ensures.stop)
+    rw (x.1, x.2) (stops_first (given_of c.args.request.now) (front ++ ran) (stages.Schedule ∷ []) c.in_err-ready.field-0.0 c.in_err-ready.ensures.stop)
 
 pub returns-clause-holds : goal.returns-clause-holds
-returns-clause-holds c =
-    let g = given_of c.args.request.now in
-    ok_map c.replay_of.result (λ _. Holds g stages.Schedule) (λ _. AllHold g (stages_after modes.Replay (c.args.request.now.named)))
-    (λ text schedule. both_hold g first last c.in_ok-ready.ensures.holds (schedule, tt)) c.replay_of.ensures.holds
+returns-clause-holds c = last_holds (given_of c.args.request.now) (front ++ ran) stages.Schedule c.in_ok-ready.ensures.holds c.replay_of.result c.replay_of.ensures.holds
 
 pub returns-clause-stop : goal.returns-clause-stop
-returns-clause-stop c =
-    let g = given_of c.args.request.now in
-    err_map c.replay_of.result (StopsAt g stages.Schedule) (StopsIn g (stages_after modes.Replay (c.args.request.now.named)))
-    (λ stop at. stops_rest g first last stop c.in_ok-ready.ensures.holds (inl at)) c.replay_of.ensures.stop
+returns-clause-stop c = last_stops (given_of c.args.request.now) (front ++ ran) stages.Schedule c.in_ok-ready.ensures.holds c.replay_of.result c.replay_of.ensures.stop

@@ -1,0 +1,90 @@
+use Rattle.std.proofs.Common.{◌≡◌, ◌∙◌, ℕ, List, Ok, ap, sym, subst, arith, length}
+use Rattle.std.proofs.lemmas.List.{length-map}
+use Rattle.prl_ast.specs.Trees.{program_tree}
+use Rattle.prl_base.specs.declared.operators.Clock.{Clock}
+use Rattle.prl_behaviours.specs.Behaviours.{state_in}
+use Rattle.prl_evaluation.specs.Evaluations.{AreSolution}
+use Rattle.prl_flow.specs.Vocabulary.{AreUpTo, actuator_text, HaveBodies, FlatProgram, Timed}
+use Rattle.prl_solutions.specs.Conditions.{clocks_in}
+use Rattle.prl_stages.specs.Runs.{rows_for}
+use Rattle.prl_stages.proofs.Inputs.{few_outputs}
+use Rattle.prl_stages.proofs.Meaning.{Laws, one, outs, state_is, up_to}
+use Rattle.prl_executions.proofs.flows.flows_of.Goals as goal
+
+pub values-requires-clause-bodies : goal.values-requires-clause-bodies
+values-requires-clause-bodies c =
+    let t = c.args.typed.now in
+    let x = c.requires.expanded in
+    let (g, is) = c.requires.given in
+    subst (λ (f : FlatProgram). HaveBodies f c.args.run.now.bodies) (sym x.flat_is)
+    (c.expansions_have_bodies.ensures (program_tree t.program) g.node t.main t.types x.expansion
+    c.main-main.ensures.range is.typed x.is c.args.run.now.bodies c.requires.have)
+
+pub values-requires-clause-rows : goal.values-requires-clause-rows
+values-requires-clause-rows c = let (g, is) = c.requires.given in (g, is.has)
+
+pub out_flows-requires-clause-few : goal.out_flows-requires-clause-few
+out_flows-requires-clause-few c =
+    let t = c.args.typed.now in few_outputs (program_tree t.program) t.main t.types c.args.run.now.flat c.requires.expanded
+
+pub out_flows-requires-clause-table : goal.out_flows-requires-clause-table
+out_flows-requires-clause-table c =
+    let s = c.in_ok-table.ensures.solution in
+    ap length (sym s.values_are) ∙ length-map s.state.flows (λ (f : Timed). f.values) ∙ s.is.flow_count
+
+pub lent_text-requires : goal.lent_text-requires
+lent_text-requires c =
+    let t = c.args.typed.now in
+    let run = c.args.run.now in
+    let until = c.args.until in
+    let (g, is) = c.requires.given in
+    let law : Laws = record {
+      solutions = c.behaviours_are_solutions.ensures;
+      states = c.behaviours_are_of_their_states.ensures;
+      clocks = c.clocks_are_unique.ensures.solutions;
+    } in
+    let told = c.deref.ensures.value ∙ c.in_ok-outs.ensures in
+    let all = up_to law (program_tree t.program) g.node t.main t.types run.flat is.typed c.requires.expanded
+    c.flows-flows.ensures.well_formed run.clocks.of is.has.rows.clocked.only run.bodies run.sensors until c.in_ok-table.table c.in_ok-table.ensures.solution in
+    (until, omega (arith, c.requires.until), subst (AreUpTo until) (sym told) all)
+
+pub returns-clause-text : goal.returns-clause-text
+returns-clause-text c = λ g is.
+    let t = c.args.typed.now in
+    let p = program_tree t.program in
+    let run = c.args.run.now in
+    let until = g.until in
+    let asked = g.node in
+    let formed = c.flows-flows.ensures.well_formed in
+    let only = is.has.rows.clocked.only in
+    let table = c.in_ok-table.table in
+    let solution = subst (λ (u : ℕ). AreSolution run.flat run.clocks.of run.bodies run.sensors u c.in_ok-table.table) (sym is.has.date) c.in_ok-table.ensures.solution in
+    let law : Laws = record {
+      solutions = c.behaviours_are_solutions.ensures;
+      states = c.behaviours_are_of_their_states.ensures;
+      clocks = c.clocks_are_unique.ensures.solutions;
+    } in
+    let told = c.deref.ensures.value ∙ c.in_ok-outs.ensures in
+    let all = up_to law p asked t.main t.types run.flat is.typed c.requires.expanded formed run.clocks.of only run.bodies run.sensors until table solution in
+    let behaviour = one law p asked t.main t.types run.flat is.typed c.requires.expanded formed run.clocks.of only run.bodies run.sensors until table solution in
+    let state = state_is law p asked t.main t.types run.flat is.typed c.requires.expanded formed run.clocks.of only run.bodies run.sensors until table solution in
+    let clocked : run.clocks.of ≡ clocks_in (state_in behaviour.one) = sym (ap clocks_in state ∙ solution.clocks_are) in
+    record {
+      meaning = record {
+        program = p;
+        main = t.main;
+        is_main = is.main;
+        bodies = run.bodies;
+        are_bodies = is.bodies;
+        rows = run.sensors;
+        one = behaviour;
+        flat = run.flat;
+        flattened = is.has.rows.clocked.causal.flattened;
+        read = subst (λ (cs : List Clock). rows_for g run.flat cs ≡ Ok run.sensors) clocked is.has.rows.read;
+      };
+      written =
+          c.in_ok-lent_text.ensures until (subst (AreUpTo until) (sym told) all)
+          ∙ ap (actuator_text until) told
+          ∙ ap (actuator_text until)
+          (outs law p asked t.main t.types run.flat is.typed c.requires.expanded formed run.clocks.of only run.bodies run.sensors until table solution);
+    }

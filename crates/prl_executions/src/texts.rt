@@ -1,0 +1,180 @@
+//! The texts of modes that run no task: of the program (`print`), of its plan (`plan`, `check`), and of what is made of it
+//! (`schedule`, `edf`, `table`).
+
+ghost use Rattle.std.specs.Prelude.{◌≡◌, ◌≤◌, IfOk, IfErr, length};
+ghost use Rattle.prl_stages.specs.Vocabulary.{HasPlan, accepted_line, HasHorizon, stages_after};
+ghost use Rattle.prl_stages.specs.Vocabulary.{Holds, IsText, make_refusal, HasMadeTable};
+ghost use Rattle.prl_tables.specs.Tables.{IsGood};
+ghost use Rattle.prl_calls.specs.Stops.{given_of, AllHold, StopsAt, StopsIn};
+
+use crate::lines::push_accepted;
+use prl_arguments::Mode;
+use prl_calls::{Request, checked_plan, make_horizon, planned_program, read_program};
+use prl_edf::{analyse, verdict_text};
+use prl_plan::{Horizon, Plan};
+use prl_plantext::plan_text;
+use prl_print::print;
+use prl_schedules::{dispatch, schedule_text};
+use prl_stages::{Fault, MAX_BODIES, MAX_PROGRAM, MakeRefusal, Stage, Stop};
+use prl_table::{MakeFault, Table, make, table_text};
+use std::alloc::{AllocError, Global};
+
+/// Mode `print`.
+pub fn print_text(alloc: Global, request: &Request) -> Result<Vec<u8>, Stop>
+    requires program { length request.now.texts.program.items ≤ MAX_PROGRAM }
+    ensures text { IfOk result (λ text. IsText (given_of request.now) Mode.Print text.items) }
+    ensures holds { IfOk result (λ _. AllHold (given_of request.now) (stages_after Mode.Print request.now.named)) }
+    ensures stop { IfErr result (StopsIn (given_of request.now) (stages_after Mode.Print request.now.named)) }
+{
+    let program = read_program(alloc, request)?;
+    Ok(print(alloc, &program)?)
+}
+
+/// Mode `plan`.
+pub fn planned_text(alloc: Global, request: &Request) -> Result<Vec<u8>, Stop>
+    requires program { length request.now.texts.program.items ≤ MAX_PROGRAM }
+    ensures text { IfOk result (λ text. IsText (given_of request.now) Mode.Plan text.items) }
+    ensures holds { IfOk result (λ _. AllHold (given_of request.now) (stages_after Mode.Plan request.now.named)) }
+    ensures stop { IfErr result (StopsIn (given_of request.now) (stages_after Mode.Plan request.now.named)) }
+{
+    let plan = planned_program(alloc, request)?;
+    Ok(plan_text(alloc, &plan)?)
+}
+
+/// The line that says how large the plan is.
+fn accepted(alloc: Global, plan: &Plan) -> Result<Vec<u8>, AllocError>
+    ensures { IfOk result (λ text. text.items ≡ accepted_line plan.now) }
+{
+    let mut text = Vec::new(alloc);
+    push_accepted(&mut text, plan)?;
+    Ok(text)
+}
+
+/// Mode `check`.
+pub fn accepted_text(alloc: Global, request: &Request) -> Result<Vec<u8>, Stop>
+    requires program { length request.now.texts.program.items ≤ MAX_PROGRAM }
+    requires bodies { length request.now.texts.bodies.items ≤ MAX_BODIES }
+    ensures text { IfOk result (λ text. IsText (given_of request.now) Mode.Check text.items) }
+    ensures holds { IfOk result (λ _. AllHold (given_of request.now) (stages_after Mode.Check request.now.named)) }
+    ensures stop { IfErr result (StopsIn (given_of request.now) (stages_after Mode.Check request.now.named)) }
+{
+    let plan = checked_plan(alloc, request)?;
+    Ok(accepted(alloc, &plan)?)
+}
+
+/// The plan of the program, and its horizon.
+fn plan_and_horizon(alloc: Global, request: &Request) -> Result<(Plan, Horizon), Stop>
+    requires program { length request.now.texts.program.items ≤ MAX_PROGRAM }
+    ensures found { IfOk result (λ made. HasHorizon (given_of request.now) made.0 made.1) }
+    ensures holds { IfOk result (λ _. AllHold (given_of request.now) (stages_after Mode.Schedule request.now.named)) }
+    ensures stop { IfErr result (StopsIn (given_of request.now) (stages_after Mode.Schedule request.now.named)) }
+{
+    let plan = planned_program(alloc, request)?;
+    let horizon = make_horizon(request, &plan)?;
+    Ok((plan, horizon))
+}
+
+/// The text of the dispatched list.
+fn dispatched(
+    alloc: Global,
+    request: &Request,
+    plan: &Plan,
+    horizon: Horizon,
+) -> Result<Vec<u8>, AllocError>
+    requires { HasHorizon (given_of request.now) plan.now horizon }
+    ensures { IfOk result (λ text. IsText (given_of request.now) Mode.Schedule text.items) }
+{
+    let events = dispatch(alloc, plan, horizon)?;
+    schedule_text(alloc, plan, &events)
+}
+
+/// Mode `schedule`.
+pub fn scheduled_text(alloc: Global, request: &Request) -> Result<Vec<u8>, Stop>
+    requires program { length request.now.texts.program.items ≤ MAX_PROGRAM }
+    ensures text { IfOk result (λ text. IsText (given_of request.now) Mode.Schedule text.items) }
+    ensures holds { IfOk result (λ _. AllHold (given_of request.now) (stages_after Mode.Schedule request.now.named)) }
+    ensures stop { IfErr result (StopsIn (given_of request.now) (stages_after Mode.Schedule request.now.named)) }
+{
+    let made = plan_and_horizon(alloc, request)?;
+    Ok(dispatched(alloc, request, &made.0, made.1)?)
+}
+
+/// The line of what the analysis of the plan finds.
+fn analysed(
+    alloc: Global,
+    request: &Request,
+    plan: &Plan,
+    horizon: Horizon,
+) -> Result<Vec<u8>, AllocError>
+    requires { HasHorizon (given_of request.now) plan.now horizon }
+    ensures { IfOk result (λ text. IsText (given_of request.now) Mode.Edf text.items) }
+{
+    let verdict = analyse(alloc, plan, horizon)?;
+    verdict_text(alloc, plan, horizon, &verdict)
+}
+
+/// Mode `edf`.
+pub fn edf_text(alloc: Global, request: &Request) -> Result<Vec<u8>, Stop>
+    requires program { length request.now.texts.program.items ≤ MAX_PROGRAM }
+    ensures text { IfOk result (λ text. IsText (given_of request.now) Mode.Edf text.items) }
+    ensures holds { IfOk result (λ _. AllHold (given_of request.now) (stages_after Mode.Edf request.now.named)) }
+    ensures stop { IfErr result (StopsIn (given_of request.now) (stages_after Mode.Edf request.now.named)) }
+{
+    let made = plan_and_horizon(alloc, request)?;
+    Ok(analysed(alloc, request, &made.0, made.1)?)
+}
+
+/// The refusal that a fault of making is; None is want of memory.
+fn make_refusal(fault: MakeFault) -> Option<MakeRefusal>
+    ensures { result ≡ make_refusal fault }
+{
+    match fault {
+        MakeFault::TooFar(tick) => Some(MakeRefusal::TooFar(tick)),
+        MakeFault::Limit(limit) => Some(MakeRefusal::Limit(limit)),
+        MakeFault::Overload { from, to, demand } => {
+            Some(MakeRefusal::Overload { from, to, demand })
+        }
+        MakeFault::Unsteady { at, .. } => Some(MakeRefusal::Unsteady(at)),
+        MakeFault::Memory => None,
+    }
+}
+
+/// The table that is made of the plan.
+fn make_table(alloc: Global, request: &Request, plan: &Plan) -> Result<Table, Stop>
+    requires { HasPlan (given_of request.now) plan.now }
+    ensures made { IfOk result (λ table. HasMadeTable (given_of request.now) plan.now table.entries) }
+    ensures good { IfOk result (λ table. IsGood plan.now table.entries) }
+    ensures holds { IfOk result (λ _. Holds (given_of request.now) Stage.Made) }
+    ensures stop { IfErr result (StopsAt (given_of request.now) Stage.Made) }
+{
+    let _ = request;
+    match make(alloc, plan) {
+        Ok(table) => Ok(table),
+        Err(fault) => match make_refusal(fault) {
+            Some(refusal) => Err(Stop::Refused(Stage::Made, Fault::Made(refusal))),
+            None => Err(Stop::Memory),
+        },
+    }
+}
+
+/// The text of the table that is made of the plan.
+fn table_of(alloc: Global, request: &Request, plan: &Plan) -> Result<Vec<u8>, Stop>
+    requires { HasPlan (given_of request.now) plan.now }
+    ensures text { IfOk result (λ text. IsText (given_of request.now) Mode.Table text.items) }
+    ensures holds { IfOk result (λ _. Holds (given_of request.now) Stage.Made) }
+    ensures stop { IfErr result (StopsAt (given_of request.now) Stage.Made) }
+{
+    let table = make_table(alloc, request, plan)?;
+    Ok(table_text(alloc, plan, &table)?)
+}
+
+/// Mode `table`.
+pub fn made_text(alloc: Global, request: &Request) -> Result<Vec<u8>, Stop>
+    requires program { length request.now.texts.program.items ≤ MAX_PROGRAM }
+    ensures text { IfOk result (λ text. IsText (given_of request.now) Mode.Table text.items) }
+    ensures holds { IfOk result (λ _. AllHold (given_of request.now) (stages_after Mode.Table request.now.named)) }
+    ensures stop { IfErr result (StopsIn (given_of request.now) (stages_after Mode.Table request.now.named)) }
+{
+    let plan = planned_program(alloc, request)?;
+    table_of(alloc, request, &plan)
+}

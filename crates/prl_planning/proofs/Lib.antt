@@ -1,2 +1,0 @@
-mod AcceptedLines
-mod TooMany

@@ -1,2 +1,0 @@
--- What private functions say to one another.
-pub mod code

@@ -1,0 +1,2 @@
+mod EvenUnits
+mod Jobs
