@@ -1,6 +1,5 @@
 -- What answers a command: its files, its stages, and what its mode means.
-use Rattle.std.proofs.Common.{◌≡◌, ◌++◌, ℕ, Bool, List, ◌∷◌, Option, Some, None, refl, sym, ap, ◌∙◌, subst, append_assoc}
-use Rattle.std.specs.Prelude.{is_some}
+use Rattle.prl_base.proofs.Standard.{◌≡◌, ◌++◌, ℕ, Bool, List, ◌∷◌, Option, Some, None, refl, sym, ap, ◌∙◌, subst, append_assoc, is_some}
 use Rattle.prl_io.specs.Views.{FolderView}
 use Rattle.prl_stages.specs.Vocabulary.{IsMeant, IsMeantIn, IsSummary, Folder, Given, IsGiven, IsGivenIn, generated, Comes, IsText, files, front, ran, stages_after, stages_of}
 use Rattle.prl_stages.specs.declared.stages.Stage.{Stage}

@@ -1,9 +1,6 @@
 -- Options are told by their names, and each is among all of them.
-use Rattle.std.proofs.Common.{◌≡◌, ◌<◌, ℕ, Bool, true, false, List, [], ◌∷◌, Option, Some, find, get_or, length, if◌then◌else◌, nat_lt, refl, sym, ap, subst, ◌∙◌}
-use Rattle.std.specs.List.{list_all}
-use Rattle.std.specs.Str.{bytes_eq}
-use Rattle.std.proofs.lemmas.Bool.{ltb-true}
-use Rattle.std.proofs.lemmas.Slice.Eq.{bytes_eq-Decides}
+use Rattle.prl_base.proofs.Standard.{◌≡◌, ◌<◌, ℕ, Bool, true, false, List, [], ◌∷◌, Option, Some, find, get_or, length, if◌then◌else◌, nat_lt, refl, sym, ap, subst, ◌∙◌, list_all, bytes_eq, ltb-true}
+use Rattle.prl_base.proofs.Standard.{bytes_eq-Decides}
 use Rattle.prl_arguments.specs.Vocabulary.{Setting, all_settings, is_same, name_of, place_of}
 use Rattle.prl_arguments.specs.declared.arguments.Setting.TheVariants as settings
 use Rattle.prl_arguments.proofs.Spelled.{and_left, and_right, the}

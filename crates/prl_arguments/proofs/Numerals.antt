@@ -1,9 +1,7 @@
 -- Numbers of digits as `clap` reads them.
-use Rattle.std.proofs.Common.{◌≡◌, ◌&&◌, ◌==◌, ◌-◌, ◌^◌, ℕ, true, false, List, [], ◌∷◌, drop, length, Some, None, nat_le, nat_lt, if◌then◌else◌, refl, ap, ◌∙◌, cond, arith, le-ltb, lt-ltb, leb-true, ne_eqb}
-use Rattle.std.proofs.lemmas.Option.{none-some}
-use Rattle.std.specs.Char.{digit_value, is_ascii_digit}
-use Rattle.std.specs.List.{list_all}
-use Rattle.std.specs.Str.Parse.{digits_value, without_leading_plus}
+use Rattle.prl_base.proofs.Standard.{◌≡◌, ◌&&◌, ◌==◌, ◌-◌, ◌^◌, ℕ, true, false, List, [], ◌∷◌, drop, length, Some, None, nat_le, nat_lt, if◌then◌else◌, refl, ap, ◌∙◌, cond, arith, none-some}
+use Rattle.prl_base.proofs.Standard.{digit_value, is_ascii_digit, list_all, digits_value, without_leading_plus}
+use Rattle.std.proofs.Common.{le-ltb, lt-ltb, leb-true, ne_eqb}
 use Rattle.clap.specs.ValueTests.{is_numeral, is_unsigned_in}
 use Rattle.prl_base.specs.Decimals.{are_digits, decimal_of}
 use Rattle.prl_arguments.proofs.Spelled.{and_left, and_right, the}

@@ -1,8 +1,7 @@
 -- Words as options: each with its value in its own word, or in the next.
-use Rattle.std.proofs.Common.{◌≡◌, ◌++◌, ◌&&◌, ℕ, zero, suc, Bool, true, false, not, List, [], ◌∷◌, drop, length, take, Option, Some, None, is_some, if◌then◌else◌, refl, sym, ap, subst, ◌∙◌, inl, inr, ◌⊎◌, take-append-drop, eqb-true, ◌==◌, codes}
-use Rattle.std.proofs.lemmas.Slice.Eq.{bytes_eq-Decides}
-use Rattle.std.proofs.lemmas.Option.{none-some}
-use Rattle.std.specs.Str.{bytes_eq}
+use Rattle.prl_base.proofs.Standard.{◌≡◌, ◌++◌, ◌&&◌, ℕ, zero, suc, Bool, true, false, not, List, [], ◌∷◌, drop, length, take, Option, Some, None, is_some, if◌then◌else◌, refl, sym, ap, subst, ◌∙◌}
+use Rattle.prl_base.proofs.Standard.{inl, inr, ◌⊎◌, ◌==◌, codes, bytes_eq-Decides, none-some, bytes_eq}
+use Rattle.std.proofs.Common.{take-append-drop, eqb-true}
 use Rattle.prl_base.specs.Options.{◌>>=◌}
 use Rattle.prl_arguments.specs.declared.arguments.Setting.{Setting}
 use Rattle.prl_arguments.specs.Arguments.{Named, Values, after_front, all_settings, first_option, is_value, name_of, named_by, named_in, or_else, own_value, value_from, with_option, with_options, with_value}

@@ -1,9 +1,7 @@
 -- The walk of `clap` over the words of options.
-use Rattle.std.proofs.Common.{◌≡◌, ◌&&◌, ◌==◌, ℕ, Bool, true, false, not, List, [], ◌∷◌, Option, Some, None, fold, codes, nat_lt, if◌then◌else◌, refl, sym, ap, ◌∙◌, option_and_then, inl, inr, ◌⊎◌}
-use Rattle.std.specs.Option.{option_map_or}
-use Rattle.std.specs.List.{list_all}
-use Rattle.std.specs.Str.{bytes_eq}
-use Rattle.std.proofs.lemmas.Slice.Eq.{bytes_eq-Decides}
+use Rattle.prl_base.proofs.Standard.{◌≡◌, ◌&&◌, ◌==◌, ℕ, Bool, true, false, not, List, [], ◌∷◌, Option, Some, None, fold, codes, nat_lt, if◌then◌else◌, refl, sym, ap, ◌∙◌, inl, inr, ◌⊎◌}
+use Rattle.prl_base.proofs.Standard.{option_map_or, list_all, bytes_eq, bytes_eq-Decides}
+use Rattle.std.proofs.Common.{option_and_then}
 use Rattle.clap.specs.Lexer.{long_of, long_of_rest, short_of, short_of_rest, strip_byte}
 use Rattle.clap.specs.Walk.{Held, Rule, Row, Step, Text, Waiting, Walk, after_flag, after_step, arg_by_id, arg_by_long, idle, long_met, long_or_other, next, option, option_word, reacted, settled, short_or_plain, trailing, used, used_by_id, walk_from, walked, with_default}
 use Rattle.clap.specs.Simple.{Shape, filled}

@@ -1,6 +1,5 @@
 -- Lists of which each element has a property, lists that are put together, and mapped lists.
-use Rattle.std.proofs.Common.{◌≡◌, ℕ, zero, suc, List, [], ◌∷◌, ◌++◌, map, Some, slice_get, refl, subst}
-use Rattle.std.specs.List.{AllByRecursion}
+use Rattle.prl_base.proofs.Standard.{◌≡◌, ℕ, zero, suc, List, [], ◌∷◌, ◌++◌, map, Some, slice_get, refl, subst, AllByRecursion}
 
 pub some_inner : {A : Type 0} (x y : A) → Some x ≡ Some y → x ≡ y
 some_inner x y e = cc

@@ -1,7 +1,6 @@
 -- A text has one shape, and what stands in it in order is all that it holds.
-use Rattle.std.proofs.Common.{suc, ◌≡◌, ℕ, List, [], ◌∷◌, ◌++◌, length, Option, Some, None, refl, sym, ap, ◌∙◌, arith}
-use Rattle.std.specs.Prelude.{reverse, slice_get}
-use Rattle.std.proofs.lemmas.List.{length-append, length-reverse, reverse-reverse}
+use Rattle.prl_base.proofs.Standard.{suc, ◌≡◌, ℕ, List, [], ◌∷◌, ◌++◌, length, Option, Some, None, refl, sym, ap, ◌∙◌, arith, reverse, slice_get, length-reverse, reverse-reverse}
+use Rattle.std.proofs.lemmas.List.{length-append}
 use Rattle.prl_ast.specs.declared.declarations.Import.{Import}
 use Rattle.prl_ast.specs.Trees.{Tree, tree, Root, const, var, apply, group, Trees, none, more, EquationTree, NodeTree, ProgramTree}
 use Rattle.prl_names.specs.Lookups.{callee_of}

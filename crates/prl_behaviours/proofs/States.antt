@@ -1,7 +1,6 @@
 -- Behaviours and their states.
-use Rattle.std.proofs.Common.{◌≡◌, ◌+◌, ℕ, List, [], ◌∷◌, ◌++◌, map, length, slice_index_or, refl, sym, ap, ◌∙◌, arith}
-use Rattle.std.specs.List.{range_with_len}
-use Rattle.std.proofs.lemmas.List.{length-map, append_assoc, length-append}
+use Rattle.prl_base.proofs.Standard.{◌≡◌, ◌+◌, ℕ, List, [], ◌∷◌, ◌++◌, map, length, slice_index_or, refl, sym, ap, ◌∙◌, arith, range_with_len, length-map}
+use Rattle.std.proofs.lemmas.List.{append_assoc, length-append}
 use Rattle.prl_ast.specs.Trees.{ProgramTree}
 use Rattle.prl_flow.specs.States.{State, flow_at, registers_at}
 use Rattle.prl_behaviours.specs.Vocabulary.{Entered, flows_in, imports_in, Behaviour, behaviour_of, state_in, IsText}

@@ -1,7 +1,5 @@
 -- What a call of a seat leaves to the one thread that has lent it the view that has all parts.
-use Rattle.std.proofs.Common.{◌≡◌, ◌<◌, ℕ, sym, ap, ◌∙◌, subst, set, get_or, length, length-set, arith, List, [], Some, None}
-use Rattle.std.proofs.lemmas.Option.{slice_get_within}
-use Rattle.std.specs.Prelude.{slice_get}
+use Rattle.prl_base.proofs.Standard.{◌≡◌, ◌<◌, ℕ, sym, ap, ◌∙◌, subst, set, get_or, length, length-set, arith, List, [], Some, None, slice_get_within, slice_get}
 use lib.ListN.{get_elem?}
 use Rattle.atomic_table.specs.Seated.{TableId}
 use Rattle.prl_rule.specs.Vocabulary.{bare, ticked, with_clock, with_part, LookTold, part_of}

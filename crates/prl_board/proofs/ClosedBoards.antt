@@ -1,11 +1,7 @@
 -- What the table says at the end is what a closed board shows.
-use Rattle.std.proofs.Common.{◌≡◌, ◌<◌, ℕ, zero, suc, List, [], ◌∷◌, length, get_or, inl, inr, refl, sym, ap, ◌∙◌, subst, arith, Bool, Some}
-use Rattle.std.proofs.lemmas.Bool.{cases_lt}
-use Rattle.std.proofs.lemmas.List.{get_or_past}
-use Rattle.std.proofs.lemmas.Option.{slice_get_within}
+use Rattle.prl_base.proofs.Standard.{◌≡◌, ◌<◌, ℕ, zero, suc, List, [], ◌∷◌, length, get_or, inl, inr, refl, sym, ap, ◌∙◌, subst, arith, Bool, Some, cases_lt, get_or_past, slice_get_within, slice_get}
 use mathlib.Core.Option.{some, some-injective, some-ne-none}
 use lib.ListN.{get_elem?}
-use Rattle.std.specs.Prelude.{slice_get}
 use Rattle.prl_rule.specs.Vocabulary.{part_of, run_of, values_of, reached, PlanLaws}
 use Rattle.prl_rule.specs.declared.views.ClockPart.{ClockPart}
 use Rattle.prl_rule.specs.declared.views.Constants.{Constants}

@@ -1,7 +1,5 @@
 -- Lists of which one place is read or set.
-use Rattle.std.proofs.Common.{◌≡◌, ◌≢◌, ℕ, zero, suc, ◌<◌, ◌⊎◌, refl, ap, inl, inr, ⊎_elim, arith, set, get_or, length, List, [], ◌∷◌, Some}
-use Rattle.std.specs.Prelude.{slice_get}
-use Rattle.std.proofs.lemmas.Option.{slice_get_read}
+use Rattle.prl_base.proofs.Standard.{◌≡◌, ◌≢◌, ℕ, zero, suc, ◌<◌, ◌⊎◌, refl, ap, inl, inr, ⊎_elim, arith, set, get_or, length, List, [], ◌∷◌, Some, slice_get, slice_get_read}
 
 -- what is read at a place stands there
 pub read_there : {A : Type 0} (xs : List A) (i : ℕ) (x : A) → i < length xs → x ≡ get_or xs i x → slice_get xs i ≡ Some x

@@ -1,7 +1,5 @@
 -- What an actuator's task has read.
-use Rattle.std.proofs.Common.{◌≡◌, ◌<◌, ◌≤◌, ℕ, List, length, take, ◌∙◌, arith}
-use Rattle.std.specs.Prelude.{slice_get}
-use Rattle.std.proofs.lemmas.List.{length-take-le}
+use Rattle.prl_base.proofs.Standard.{◌≡◌, ◌<◌, ◌≤◌, ℕ, List, length, take, ◌∙◌, arith, slice_get, length-take-le}
 use Rattle.prl_base.specs.declared.values.Value.{Value}
 use Rattle.prl_flow.proofs.Lists.{slice_get_take}
 use Rattle.prl_values.specs.JobValues.{reads_of_job}

@@ -1,6 +1,5 @@
 -- Jobs that are due and have not been seen to end.
-use Rattle.std.proofs.Common.{◌≡◌, ℕ, ◌+◌, ◌<◌, ◌≤◌, get_or, inl, inr, arith, ap}
-use Rattle.std.proofs.lemmas.Bool.{cases_order}
+use Rattle.prl_base.proofs.Standard.{◌≡◌, ℕ, ◌+◌, ◌<◌, ◌≤◌, get_or, inl, inr, arith, ap, cases_order}
 use Rattle.prl_plan.specs.Vocabulary.{RunConstants, HasPlanFacts, IsJob}
 use Rattle.prl_rule.specs.Known.{run_of}
 use Rattle.prl_rule.specs.declared.views.ClockPart.{ClockPart}

@@ -1,8 +1,6 @@
 -- What the actions of a seat's job ask of its worker, and what they leave.
-use Rattle.std.proofs.Common.{◌≡◌, ◌+◌, ◌/◌, ◌%◌, ◌<◌, ◌≤◌, ℕ, false, length, get_or, set, take, sum, Option, Some, inl, inr, refl, sym, ◌∙◌, ap, subst, arith}
-use Rattle.std.specs.Prelude.{slice_get, pos, unwrap_or}
-use Rattle.std.proofs.Math.Nat.{mod-lt}
-use Rattle.std.proofs.lemmas.Option.{slice_get-get_or}
+use Rattle.prl_base.proofs.Standard.{◌≡◌, ◌+◌, ◌/◌, ◌%◌, ◌<◌, ◌≤◌, ℕ, false, length, get_or, set, take, sum, Option, Some, inl, inr, refl, sym, ◌∙◌, ap, subst, arith, slice_get, pos, unwrap_or}
+use Rattle.prl_base.proofs.Standard.{mod-lt, slice_get-get_or}
 use Rattle.prl_base.specs.Values.{FitsValue}
 use Rattle.prl_base.specs.declared.numbers.EdgeNo.{EdgeNo}
 use Rattle.prl_base.specs.declared.numbers.TaskNo.{TaskNo}

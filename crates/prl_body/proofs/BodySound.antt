@@ -1,6 +1,5 @@
 -- A checked body is well typed.
-use Rattle.std.proofs.Common.{◌≡◌, ◌+◌, ℕ, suc, List, [], ◌∷◌, map, slice_get, Option, Some, None, Result, Ok, Err, refl, ◌∙◌, ap, subst, arith}
-use Rattle.std.specs.Prelude.{if◌then◌else◌}
+use Rattle.prl_base.proofs.Standard.{◌≡◌, ◌+◌, ℕ, suc, List, [], ◌∷◌, map, slice_get, Option, Some, None, Result, Ok, Err, refl, ◌∙◌, ap, subst, arith, if◌then◌else◌}
 use Rattle.prl_base.specs.Vocabulary.{◌>>=◌, type_of}
 use Rattle.prl_base.specs.declared.values.Ty.{Ty}
 use Rattle.prl_ast.specs.declared.declarations.Import.{Import}

@@ -1,12 +1,7 @@
 -- What a search through a list for a name finds: the element at the first index of the name.
-use Rattle.std.proofs.Common.{◌≡◌, ◌+◌, ◌≤◌, ℕ, zero, suc, Bool, true, false, List, [], ◌∷◌, length, map, take, slice_get, slice_index_or, Option, Some, None, refl, sym, ◌∙◌, ap, subst, arith, ◌||◌, nat_lt}
-use Rattle.std.specs.Prelude.{if◌then◌else◌}
-use Rattle.std.specs.List.{list_any}
-use Rattle.std.specs.Option.{is_some, option_and_then, option_map}
-use Rattle.std.specs.Str.{bytes_eq}
-use Rattle.std.specs.BTreeMap.{BTreeMap}
-use Rattle.std.proofs.lemmas.Bool.{lt-ltb, le-ltb, ltb-true, ltb-false}
-use Rattle.std.proofs.lemmas.Option.{slice_get_past, slice_get_read}
+use Rattle.prl_base.proofs.Standard.{◌≡◌, ◌+◌, ◌≤◌, ℕ, zero, suc, Bool, true, false, List, [], ◌∷◌, length, map, take, slice_get, slice_index_or, Option, Some, None, refl, sym, ◌∙◌, ap, subst, arith}
+use Rattle.prl_base.proofs.Standard.{◌||◌, nat_lt, if◌then◌else◌, list_any, option_and_then, option_map, bytes_eq, BTreeMap, lt-ltb, le-ltb, ltb-true, ltb-false, slice_get_past, slice_get_read}
+use Rattle.std.specs.Option.{is_some}
 use denote.Ref.{Bor}
 use Rattle.prl_names.specs.Vocabulary.{index_from, index_of, AreIndices, found}
 use Rattle.prl_body.specs.Scopes.{first_named, is_before}

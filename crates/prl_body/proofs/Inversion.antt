@@ -1,6 +1,5 @@
 -- What a reading that is Ok says of its parts.
-use Rattle.std.proofs.Common.{◌≡◌, Bool, true, false, refl, Result, Ok, Err}
-use Rattle.std.specs.Prelude.{if◌then◌else◌}
+use Rattle.prl_base.proofs.Standard.{◌≡◌, Bool, true, false, refl, Result, Ok, Err, if◌then◌else◌}
 use Rattle.prl_base.specs.Reading.{◌>>=◌}
 
 pub record Both {A B F : Type 0} (r : Result A F) (f : A → Result B F) (y : B) : Type 0 where

@@ -1,6 +1,5 @@
 -- Lists that are built one element after another, and may fail.
-use Rattle.std.proofs.Common.{◌≡◌, List, [], ◌∷◌, ◌++◌, map, refl, sym, ap, ◌∙◌, append_assoc, Result, Ok, Err}
-use Rattle.std.proofs.lemmas.List.{append-nil, map-append}
+use Rattle.prl_base.proofs.Standard.{◌≡◌, List, [], ◌∷◌, ◌++◌, map, refl, sym, ap, ◌∙◌, append_assoc, Result, Ok, Err, append-nil, map-append}
 use Rattle.prl_base.specs.Reading.{◌>>=◌}
 use Rattle.prl_body.specs.declared.faults.BodyFault.{BodyFault}
 

@@ -1,9 +1,6 @@
 -- The searches of a body's names, each through one list.
-use Rattle.std.proofs.Common.{◌≡◌, ℕ, Bool, List, Option, [], ◌∷◌, map, take, refl, sym, ap, ◌∙◌, ◌||◌}
-use Rattle.std.specs.BTreeMap.{BTreeMap}
-use Rattle.std.specs.List.{list_any}
-use Rattle.std.specs.Option.{is_some, option_map}
-use Rattle.std.specs.Str.{bytes_eq}
+use Rattle.prl_base.proofs.Standard.{◌≡◌, ℕ, Bool, List, Option, [], ◌∷◌, map, take, refl, sym, ap, ◌∙◌, ◌||◌, BTreeMap, list_any, option_map, bytes_eq}
+use Rattle.std.specs.Option.{is_some}
 use denote.Ref.{Bor}
 use Rattle.prl_base.specs.Values.{type_of}
 use Rattle.prl_base.specs.declared.values.Ty.{Ty}

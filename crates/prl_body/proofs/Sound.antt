@@ -1,6 +1,5 @@
 -- The value of an expression has the expression's type.
-use Rattle.std.proofs.Common.{◌≡◌, ℕ, zero, suc, Bool, true, false, List, [], ◌∷◌, length, map, slice_get, slice_index_or, Some, refl, ◌∙◌, ap}
-use Rattle.std.specs.Prelude.{if◌then◌else◌, pos}
+use Rattle.prl_base.proofs.Standard.{◌≡◌, ℕ, zero, suc, Bool, true, false, List, [], ◌∷◌, length, map, slice_get, slice_index_or, Some, refl, ◌∙◌, ap, if◌then◌else◌, pos}
 use Rattle.prl_base.specs.Values.{type_of}
 use Rattle.prl_base.specs.declared.values.Ty.{Ty}
 use Rattle.prl_base.specs.declared.values.Value.{Value}

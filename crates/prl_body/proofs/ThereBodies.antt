@@ -1,8 +1,6 @@
 -- A checked body has a name exactly where a body of the text has it, and an import.
-use Rattle.std.proofs.Common.{◌≡◌, ℕ, Bool, true, false, List, [], ◌∷◌, ◌++◌, Option, Some, None, Result, Ok, refl, sym, ap, ◌∙◌, subst, ◌||◌, ◌&&◌}
+use Rattle.prl_base.proofs.Standard.{◌≡◌, ℕ, Bool, true, false, List, [], ◌∷◌, ◌++◌, Option, Some, None, Result, Ok, refl, sym, ap, ◌∙◌, subst, ◌||◌, ◌&&◌, bytes_eq, bytes_eq-Decides}
 use Rattle.std.specs.Option.{is_some}
-use Rattle.std.specs.Str.{bytes_eq}
-use Rattle.std.proofs.lemmas.Slice.Eq.{bytes_eq-Decides}
 use Rattle.prl_base.specs.Reading.{◌>>=◌}
 use Rattle.prl_ast.specs.declared.declarations.Import.{Import}
 use Rattle.prl_body.specs.Vocabulary.{BodyFault, BodyTree, checked_one, checked_bodies, has_text, has_body, import_named, TextTree}

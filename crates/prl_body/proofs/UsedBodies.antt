@@ -1,8 +1,6 @@
 -- The bodies of used imports are there, with the imports' ports.
-use Rattle.std.proofs.Common.{◌≡◌, ℕ, zero, suc, Bool, true, false, List, [], ◌∷◌, ◌++◌, map, slice_get, Option, Some, None, Result, Ok, Err, refl, sym, ap, ◌∙◌, subst}
-use Rattle.std.specs.Prelude.{if◌then◌else◌}
-use Rattle.std.specs.Str.{bytes_eq}
-use Rattle.std.proofs.lemmas.Slice.Eq.{bytes_eq-Decides}
+use Rattle.prl_base.proofs.Standard.{◌≡◌, ℕ, zero, suc, Bool, true, false, List, [], ◌∷◌, ◌++◌, map, slice_get, Option, Some, None, Result, Ok, Err, refl, sym, ap, ◌∙◌, subst, if◌then◌else◌, bytes_eq}
+use Rattle.prl_base.proofs.Standard.{bytes_eq-Decides}
 use Rattle.prl_base.specs.Reading.{◌>>=◌}
 use Rattle.prl_ast.specs.declared.declarations.Import.{Import}
 use Rattle.prl_body.specs.Vocabulary.{CheckedBody, BodyFault, body_named, RegisterTree, BodyTree, body_tree, typed_statements, output_values, resolved_registers, without_fault, checked_body}

@@ -1,9 +1,6 @@
 -- What the quotient is in 64 bits.
-use Rattle.std.proofs.Common.{◌≡◌, ◌≢◌, ◌/◌, ◌%◌, ◌^◌, ◌≤◌, ℕ, zero, suc, ℤ, pos, negsuc, neg_ℤ, FitsSigned, w64, to_z, of_z, refl, sym, ◌∙◌, arith}
-use Rattle.std.proofs.Math.Nat.{div-le_self}
-use Rattle.std.specs.Prelude.{int_div}
-use Rattle.std.specs.Int.{int_wrap, int_wrapping_div}
-use Rattle.std.proofs.lemmas.Int.{to_z-of_z, int_wrap_fits}
+use Rattle.prl_base.proofs.Standard.{◌≡◌, ◌≢◌, ◌/◌, ◌%◌, ◌^◌, ◌≤◌, ℕ, zero, suc, ℤ, pos, negsuc, neg_ℤ, FitsSigned, w64, to_z, of_z, refl, sym, ◌∙◌, arith, div-le_self, int_div, int_wrap}
+use Rattle.prl_base.proofs.Standard.{int_wrapping_div, to_z-of_z, int_wrap_fits}
 use Rattle.prl_bodyops.specs.Operators.{quotient}
 
 -- a number from 0 to 2^63, in 64 bits

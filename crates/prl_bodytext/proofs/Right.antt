@@ -1,6 +1,5 @@
 -- One token of look-ahead decides in bodies: the test computes.
-use Rattle.std.proofs.Common.{map, ◌≡◌, ◌<◌, ◌≤◌, List, length, Ok, refl}
-use Rattle.std.proofs.lemmas.List.{map-id}
+use Rattle.prl_base.proofs.Standard.{map, ◌≡◌, ◌<◌, ◌≤◌, List, length, Ok, refl, map-id}
 use Rattle.prl_base.specs.declared.places.Span.{Span}
 use Rattle.prl_body.specs.Texts.{Tree}
 use Rattle.prl_body.specs.declared.texts.RegisterText.{RegisterText}

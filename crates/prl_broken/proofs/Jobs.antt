@@ -1,10 +1,6 @@
 -- Jobs with their dates, and the runs that have them.
-use Rattle.std.proofs.Common.{◌≡◌, ◌+◌, ◌*◌, ◌<◌, ◌≤◌, ◌^◌, ◌⊎◌, ℕ, List, length, Option, Some, None, refl, sym, ap, subst, arith, inl, inr}
-use Rattle.std.specs.Prelude.{◌↔◌, pos, ◌+ℤ◌, ◌*ℤ◌, ◌<ℤ◌, slice_index}
-use Rattle.std.proofs.lemmas.Bool.{cases_eq, cases_lt}
-use Rattle.std.proofs.lemmas.Int.{ints}
-use Rattle.std.proofs.lemmas.Option.{slice_get-get_or}
-use Rattle.std.proofs.Math.Nat.{le-mul_of_pos_right}
+use Rattle.prl_base.proofs.Standard.{◌≡◌, ◌+◌, ◌*◌, ◌<◌, ◌≤◌, ◌^◌, ◌⊎◌, ℕ, List, length, Option, Some, None, refl, sym, ap, subst, arith, inl, inr, ◌↔◌, pos, ◌+ℤ◌, ◌*ℤ◌, ◌<ℤ◌, slice_index, cases_eq}
+use Rattle.prl_base.proofs.Standard.{cases_lt, ints, slice_get-get_or, le-mul_of_pos_right}
 use Rattle.prl_plan.specs.Vocabulary.{HasPlanFacts, IsJob, IsHorizonJob, job_count, no_task, task_at, IsPlan, PlanView, deadline_at, release_at, HasJob, IsUnfinished, first_unfinished, ExecState}
 use Rattle.prl_plan.specs.Vocabulary.{RunConstants}
 use Rattle.prl_plan.specs.declared.graphs.TaskGraph.{TaskGraph}

@@ -1,8 +1,6 @@
 -- Events one after another, and walks along them.
-use Rattle.std.proofs.Common.{◌≡◌, ◌≢◌, ◌+◌, ◌<◌, ◌≤◌, ◌^◌, ◌⊎◌, ℕ, zero, suc, List, [], ◌∷◌, length, get_or, set, take, None, Some, refl, sym, ◌∙◌, ap, subst, arith, inl, inr}
-use Rattle.std.specs.Prelude.{slice_get, slice_index}
-use Rattle.std.proofs.lemmas.Bool.{cases_lt}
-use Rattle.std.proofs.lemmas.List.{get_or_past, get_or_read}
+use Rattle.prl_base.proofs.Standard.{◌≡◌, ◌≢◌, ◌+◌, ◌<◌, ◌≤◌, ◌^◌, ◌⊎◌, ℕ, zero, suc, List, [], ◌∷◌, length, get_or, set, take, None, Some, refl, sym, ◌∙◌, ap, subst, arith, inl, inr, slice_get}
+use Rattle.prl_base.proofs.Standard.{slice_index, cases_lt, get_or_past, get_or_read}
 use Rattle.prl_base.specs.declared.numbers.TaskNo.{TaskNo}
 use Rattle.prl_plan.specs.Vocabulary.{HasPlanFacts, IsHorizon, constants_of, IsPlan, PlanView, actions_of, FirstBroken, HasJob, IsLegal, KeepsLegal, first_unfinished, ExecState, RunConstants}
 use Rattle.prl_plan.specs.Vocabulary.{action_at, after_action, after_event, after_events, moved, next_action, opening, IsSound}

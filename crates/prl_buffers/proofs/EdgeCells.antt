@@ -1,12 +1,7 @@
 -- The cells of an edge: the least number by the dates of one hyperperiod is the least at all, and shorter gaps tell the same.
-use Rattle.std.proofs.Common.{◌≡◌, ◌+◌, ◌-◌, ◌*◌, ◌/◌, ◌%◌, ◌<◌, ◌≤◌, ◌^◌, ◌↔◌, ℕ, zero, suc, List, [], ◌∷◌, length, take, sum, min, inl, inr, refl, sym, ◌∙◌, ap, subst, arith}
-use Rattle.std.specs.Prelude.{ℤ, pos, negsuc, ◌+ℤ◌, ◌-ℤ◌, ◌≤ℤ◌, ◌<ℤ◌, slice_index}
-use Rattle.std.proofs.Math.Nat.{mul-le-mul_left, div-eq_of_lt, mod-eq_of_lt}
-use Rattle.std.proofs.lemmas.Bool.{cases_lt}
-use Rattle.std.proofs.lemmas.Int.{ints}
-use Rattle.std.proofs.lemmas.Nat.{mod_below}
-use Rattle.std.proofs.lemmas.List.Sums.{sum_by-take-le, sum_by-cons}
-use Rattle.std.proofs.lemmas.Option.{slice_get-get_or, same_Some}
+use Rattle.prl_base.proofs.Standard.{◌≡◌, ◌+◌, ◌-◌, ◌*◌, ◌/◌, ◌%◌, ◌<◌, ◌≤◌, ◌^◌, ◌↔◌, ℕ, zero, suc, List, [], ◌∷◌, length, take, sum, min, inl, inr, refl, sym, ◌∙◌, ap, subst, arith, ℤ, pos, negsuc}
+use Rattle.prl_base.proofs.Standard.{◌+ℤ◌, ◌-ℤ◌, ◌≤ℤ◌, ◌<ℤ◌, slice_index, mul-le-mul_left, div-eq_of_lt, mod-eq_of_lt, cases_lt, ints, mod_below, sum_by-take-le, sum_by-cons, slice_get-get_or}
+use Rattle.prl_base.proofs.Standard.{same_Some}
 use Rattle.prl_plan.specs.Vocabulary.{used_at, EnumeratesUsed, IsLeastCount, IsUsed, IsOverBy, FitsInPeriod, span_of, encoded_release, encoded_deadline, first_instance, task_at, deadline_of}
 use Rattle.prl_plan.specs.Vocabulary.{preceding, ComesFrom, number_at}
 use Rattle.prl_plan.specs.declared.graphs.Edge.{Edge}

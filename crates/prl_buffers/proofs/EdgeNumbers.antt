@@ -1,10 +1,6 @@
 -- What the jobs of one hyperperiod read on an edge: the numbers fit, do not fall, and come again.
-use Rattle.std.proofs.Common.{◌≡◌, ◌+◌, ◌-◌, ◌*◌, ◌<◌, ◌≤◌, ◌^◌, ℕ, zero, suc, List, length, take, sum, inl, inr, sym, ◌∙◌, ap, arith}
-use Rattle.std.specs.Prelude.{ℤ, pos, ◌+ℤ◌, slice_index}
-use Rattle.std.proofs.Math.Nat.{mul-le-mul_left, mul-le-mul_right}
-use Rattle.std.proofs.lemmas.Bool.{cases_lt}
-use Rattle.std.proofs.lemmas.Int.{ints}
-use Rattle.std.proofs.lemmas.List.{take_all}
+use Rattle.prl_base.proofs.Standard.{◌≡◌, ◌+◌, ◌-◌, ◌*◌, ◌<◌, ◌≤◌, ◌^◌, ℕ, zero, suc, List, length, take, sum, inl, inr, sym, ◌∙◌, ap, arith, ℤ, pos, ◌+ℤ◌, slice_index, mul-le-mul_left}
+use Rattle.prl_base.proofs.Standard.{mul-le-mul_right, cases_lt, ints, take_all}
 use Rattle.prl_plan.specs.Vocabulary.{IsAskedFrom, ListsGaps, span_of, first_reader, natural, first_instance, IsEdge, task_at, walk, preceding, ComesFrom, number_at}
 use Rattle.prl_plan.specs.declared.graphs.Edge.{Edge}
 use Rattle.prl_plan.specs.declared.graphs.TaskGraph.{TaskGraph}

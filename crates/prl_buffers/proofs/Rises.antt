@@ -1,9 +1,6 @@
 -- Releases of one hyperperiod that come again in each: they do not fall, and those before a date are counted by division.
-use Rattle.std.proofs.Common.{◌≡◌, ◌+◌, ◌-◌, ◌*◌, ◌/◌, ◌%◌, ◌<◌, ◌≤◌, ◌↔◌, ℕ, List, length, inl, inr, ◌∙◌, ap, subst, arith}
-use Rattle.std.specs.Prelude.{slice_index}
-use Rattle.std.proofs.Math.Nat.{mul-le-mul_right, mod-add-div'}
-use Rattle.std.proofs.lemmas.Bool.{cases_lt}
-use Rattle.std.proofs.lemmas.Nat.{div-mul-add, mod-mul-add, mod_below}
+use Rattle.prl_base.proofs.Standard.{◌≡◌, ◌+◌, ◌-◌, ◌*◌, ◌/◌, ◌%◌, ◌<◌, ◌≤◌, ◌↔◌, ℕ, List, length, inl, inr, ◌∙◌, ap, subst, arith, slice_index, mul-le-mul_right, mod-add-div', cases_lt, div-mul-add}
+use Rattle.prl_base.proofs.Standard.{mod-mul-add, mod_below}
 use Rattle.prl_buffers.specs.code.Counts.{at_turn, AreReleased, IsLeastTurn}
 
 module _ (releases : List ℕ) (hyper : ℕ) (are : AreReleased releases hyper) where

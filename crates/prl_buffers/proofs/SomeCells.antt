@@ -1,10 +1,6 @@
 -- Where a task graph has words and encoded dates, its edges have their least cells.
-use Rattle.std.proofs.Common.{◌≡◌, ◌≢◌, ◌+◌, ◌-◌, ◌*◌, ◌/◌, ◌%◌, ◌<◌, ◌≤◌, ◌^◌, ◌⊎◌, ◌++◌, ℕ, zero, suc, List, [], ◌∷◌, Some, length, take, sum, min, inl, inr, refl, sym, subst, arith}
-use Rattle.std.specs.Prelude.{slice_get, slice_index}
-use Rattle.std.proofs.Math.Nat.{mul-le-mul_left, mod-add-div'}
-use Rattle.std.proofs.lemmas.Bool.{cases_eq, cases_lt}
-use Rattle.std.proofs.lemmas.Nat.{mod_below}
-use Rattle.std.proofs.lemmas.Option.{slice_get-get_or}
+use Rattle.prl_base.proofs.Standard.{◌≡◌, ◌≢◌, ◌+◌, ◌-◌, ◌*◌, ◌/◌, ◌%◌, ◌<◌, ◌≤◌, ◌^◌, ◌⊎◌, ◌++◌, ℕ, zero, suc, List, [], ◌∷◌, Some, length, take, sum, min, inl, inr, refl, sym, subst, arith}
+use Rattle.prl_base.proofs.Standard.{slice_get, slice_index, mul-le-mul_left, mod-add-div', cases_eq, cases_lt, mod_below, slice_get-get_or}
 use Rattle.prl_base.specs.declared.limits.What.TheVariants as whats
 use Rattle.prl_plan.specs.Vocabulary.{HasCells, AreLeastCells, ListsSums, encoded_release, encoded_deadline, AreShortGaps, edge_at, no_edge, ComesFrom, number_at}
 use Rattle.prl_plan.specs.declared.graphs.Edge.{Edge}

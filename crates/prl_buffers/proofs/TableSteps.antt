@@ -1,10 +1,6 @@
 -- The cells of the edges so far, with one more, and their numbers edge after edge.
-use Rattle.std.proofs.Common.{◌≡◌, ◌+◌, ◌<◌, ◌≤◌, ◌++◌, ℕ, zero, suc, List, [], ◌∷◌, Some, length, get_or, take, sum, inl, inr, refl, sym, ◌∙◌, ap, subst, arith}
-use Rattle.std.specs.Prelude.{slice_get, slice_index, slice_index_or}
-use Rattle.std.proofs.lemmas.Bool.{cases_lt}
-use Rattle.std.proofs.lemmas.List.{length_push, get_or_push, get_or_append_left}
-use Rattle.std.proofs.lemmas.List.Sums.{sum_by-cons}
-use Rattle.std.proofs.lemmas.Option.{slice_get-get_or, same_Some}
+use Rattle.prl_base.proofs.Standard.{◌≡◌, ◌+◌, ◌<◌, ◌≤◌, ◌++◌, ℕ, zero, suc, List, [], ◌∷◌, Some, length, get_or, take, sum, inl, inr, refl, sym, ◌∙◌, ap, subst, arith, slice_get, slice_index}
+use Rattle.prl_base.proofs.Standard.{slice_index_or, cases_lt, length_push, get_or_push, get_or_append_left, sum_by-cons, slice_get-get_or, same_Some}
 use Rattle.prl_plan.specs.Vocabulary.{AreLeastCells, HasCells, no_used, ListsSums, encoded_release, encoded_deadline, AreShortGaps, edge_at, no_edge, constants_in}
 use Rattle.prl_plan.specs.declared.graphs.Edge.{Edge}
 use Rattle.prl_plan.specs.declared.graphs.TaskGraph.{TaskGraph}

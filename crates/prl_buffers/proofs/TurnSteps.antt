@@ -1,9 +1,6 @@
 -- What the jobs of a hyperperiod read, one job more at a time.
-use Rattle.std.proofs.Common.{◌≡◌, ◌+◌, ◌<◌, ◌≤◌, ◌++◌, ℕ, List, [], ◌∷◌, length, take, sum, inl, inr, refl, sym, ◌∙◌, ap, subst, arith}
-use Rattle.std.specs.Prelude.{slice_index}
-use Rattle.std.proofs.lemmas.Bool.{cases_lt}
-use Rattle.std.proofs.lemmas.List.{take_all, take-append-le, length_push, get_or_push, get_or_append_left}
-use Rattle.std.proofs.lemmas.List.Sums.{sum_by-cons}
+use Rattle.prl_base.proofs.Standard.{◌≡◌, ◌+◌, ◌<◌, ◌≤◌, ◌++◌, ℕ, List, [], ◌∷◌, length, take, sum, inl, inr, refl, sym, ◌∙◌, ap, subst, arith, slice_index, cases_lt, take_all, take-append-le}
+use Rattle.prl_base.proofs.Standard.{length_push, get_or_push, get_or_append_left, sum_by-cons}
 use Rattle.prl_plan.specs.Words.{number_at}
 use Rattle.prl_plan.specs.declared.words.Word.{Word}
 use Rattle.prl_buffers.specs.code.Turns.{IsTurn}

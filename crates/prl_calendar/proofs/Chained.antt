@@ -1,11 +1,8 @@
 -- Chains of the places of equal clocks, made one clock after another, and walked.
-use Rattle.std.proofs.Common.{◌≡◌, ◌+◌, ◌<◌, ◌≤◌, inl, inr, ℕ, true, false, cond, List, [], ◌∷◌, ◌++◌, length, set, replicate, Option, Some, None, slice_get, slice_index, refl, sym, ◌∙◌, ap, subst, arith, eqb}
-use Rattle.std.specs.List.{Contains}
-use Rattle.std.specs.Ordering.{is_eq}
-use Rattle.std.proofs.lemmas.Bool.{cases_Bool, cases_eq, cases_lt, cases_order}
-use Rattle.std.proofs.lemmas.List.{get_or-replicate, get_or-set_other, get_or-set_same, get_or_append_left, get_or_default, get_or_push, length-replicate, length-set, length_push}
-use Rattle.std.proofs.lemmas.Bool.Decides.{nat_tests}
-use Rattle.std.proofs.lemmas.Option.{same_Some, slice_get_within}
+use Rattle.prl_base.proofs.Standard.{◌≡◌, ◌+◌, ◌<◌, ◌≤◌, inl, inr, ℕ, true, false, cond, List, [], ◌∷◌, ◌++◌, length, set, replicate, Option, Some, None, slice_get, slice_index, refl, sym, ◌∙◌, ap}
+use Rattle.prl_base.proofs.Standard.{subst, arith, eqb, Contains, is_eq, cases_Bool, cases_eq, cases_lt, cases_order, get_or-replicate, get_or-set_other, get_or_append_left, get_or_default}
+use Rattle.prl_base.proofs.Standard.{get_or_push, length-replicate, length_push, nat_tests, same_Some, slice_get_within}
+use Rattle.std.proofs.lemmas.List.{get_or-set_same, length-set}
 use Rattle.prl_base.specs.declared.operators.Clock.{Clock}
 use Rattle.prl_calendar.specs.Kinds.{AddsKind, AreChained, AreFollowing, AreLasts, AreSame, IsAdding, IsFirst, IsLast, IsNext, pair_order}
 use Rattle.prl_calendar.proofs.Places.{contains_left, contains_push, contains_push_cases, distinct_none, distinct_push}

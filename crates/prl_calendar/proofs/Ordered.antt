@@ -1,15 +1,8 @@
 -- The heap of turns gives the earliest, and the first turns of the kinds.
-use Rattle.std.proofs.Common.{◌≡◌, ◌<◌, ◌≤◌, inl, inr, ℕ, zero, suc, false, List, [], ◌∷◌, length, map, Some, slice_get, slice_index, slice_index_or, sym, ◌∙◌, ap, arith, eqb}
-use Rattle.std.specs.BinaryHeap.{IsUpperBound}
-use Rattle.std.specs.List.{All, AllByRecursion, Contains, IsDistinct}
-use Rattle.std.specs.List.Sorted.{IsPermutation}
-use Rattle.std.specs.Ordering.{is_lt}
-use Rattle.std.proofs.lemmas.Bool.{cases_lt}
-use Rattle.std.proofs.lemmas.Bool.Decides.{nat_tests}
-use Rattle.std.proofs.lemmas.List.Elements.{All-from_recursion, All-weaker}
-use Rattle.std.proofs.lemmas.List.Sorted.{All-permutation, Contains-permutation}
-use Rattle.std.proofs.lemmas.Map.Keys.{IsDistinct-IsPermutation, IsDistinct-cons, IsDistinct-head, IsDistinct-tail}
-use Rattle.std.proofs.lemmas.Option.{same_Some, slice_get-get_or}
+use Rattle.prl_base.proofs.Standard.{◌≡◌, ◌<◌, ◌≤◌, inl, inr, ℕ, zero, suc, false, List, [], ◌∷◌, length, map, Some, slice_get, slice_index, slice_index_or, sym, ◌∙◌, ap, arith, eqb, IsUpperBound}
+use Rattle.prl_base.proofs.Standard.{AllByRecursion, Contains, IsDistinct, IsPermutation, is_lt, cases_lt, nat_tests, All-from_recursion, All-weaker, All-permutation, Contains-permutation}
+use Rattle.prl_base.proofs.Standard.{IsDistinct-IsPermutation, IsDistinct-cons, IsDistinct-head, IsDistinct-tail, same_Some, slice_get-get_or}
+use Rattle.std.specs.List.{All}
 use Rattle.prl_base.specs.declared.operators.Clock.{Clock}
 use Rattle.prl_calendar.specs.Kinds.{AreFirsts, IsFirst}
 use Rattle.prl_calendar.specs.Turns.{AreTurns, IsTurn, Turn, date_of, first_turn, last, same_place, turn_order}

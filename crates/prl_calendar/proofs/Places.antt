@@ -1,9 +1,6 @@
 -- Lists that contain an element, and places of equal clocks.
-use Rattle.std.proofs.Common.{◌≡◌, ◌<◌, ◌⊎◌, inl, inr, ℕ, zero, suc, Bool, List, [], ◌∷◌, ◌++◌, length, slice_index_or, refl, sym, ◌∙◌, ap, subst, arith, eqb}
-use Rattle.std.specs.List.{Contains, IsDistinct}
-use Rattle.std.proofs.lemmas.Bool.{cases_lt, cases_order, ne_eqb}
-use Rattle.std.proofs.lemmas.List.{get_or_append_left, get_or_default, get_or_push, length_push}
-use Rattle.std.proofs.lemmas.Map.Keys.{IsDistinct-from_apart, apart_from_distinct}
+use Rattle.prl_base.proofs.Standard.{◌≡◌, ◌<◌, ◌⊎◌, inl, inr, ℕ, zero, suc, Bool, List, [], ◌∷◌, ◌++◌, length, slice_index_or, refl, sym, ◌∙◌, ap, subst, arith, eqb, Contains, IsDistinct, cases_lt}
+use Rattle.prl_base.proofs.Standard.{cases_order, ne_eqb, get_or_append_left, get_or_default, get_or_push, length_push, IsDistinct-from_apart, apart_from_distinct}
 use Rattle.prl_base.specs.declared.operators.Clock.{Clock}
 use Rattle.prl_calendar.specs.Calendars.{HasDate}
 use Rattle.prl_calendar.specs.Kinds.{AreSame, IsFirst}

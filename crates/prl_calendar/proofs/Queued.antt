@@ -1,11 +1,9 @@
 -- Turns that wait in a queue and in a heap, as one list.
-use Rattle.std.proofs.Common.{◌≡◌, ◌≤◌, ℕ, suc, List, [], ◌∷◌, ◌++◌, Option, None, Some, get_or, ◌∙◌, ap, arith}
-use Rattle.std.specs.List.{All, Contains}
+use Rattle.prl_base.proofs.Standard.{◌≡◌, ◌≤◌, ℕ, suc, List, [], ◌∷◌, ◌++◌, Option, None, Some, get_or, ◌∙◌, ap, arith, Contains, IsNonDecreasingBy, IsPermutation, get_or_append_left, All-contains}
+use Rattle.prl_base.proofs.Standard.{Contains-permutation, IsPermutation-append_right, IsPermutation-middle, IsPermutation-sym, IsPermutation-trans}
+use Rattle.std.specs.List.{All}
 use Rattle.std.specs.Option.{IfNone}
-use Rattle.std.specs.List.Sorted.{IsNonDecreasingBy, IsPermutation}
-use Rattle.std.proofs.lemmas.List.{append_assoc, get_or_append_left, length-append}
-use Rattle.std.proofs.lemmas.List.Elements.{All-contains}
-use Rattle.std.proofs.lemmas.List.Sorted.{Contains-permutation, IsPermutation-append_right, IsPermutation-middle, IsPermutation-sym, IsPermutation-trans}
+use Rattle.std.proofs.lemmas.List.{append_assoc, length-append}
 use Rattle.prl_calendar.specs.Turns.{Turn, date_of, place_of}
 use Rattle.prl_calendar.proofs.Places.{contains_head, contains_tail}
 

@@ -1,13 +1,9 @@
 -- Turns of one date, moved on one after another.
-use Rattle.std.proofs.Common.{◌≡◌, ◌+◌, ◌*◌, ◌^◌, ◌<◌, ◌≤◌, ◌⊎◌, inl, inr, ℕ, suc, true, false, List, [], ◌∷◌, length, slice_index_or, refl, sym, ◌∙◌, ap, subst, arith, cond, eqb, leb, sum_by}
-use Rattle.std.specs.List.{All, Contains, IsDistinct}
-use Rattle.std.specs.List.Sorted.{IsNonDecreasing, IsPermutation}
-use Rattle.std.proofs.Math.Nat.{lt_of_mul-lt-mul_right, mul-le-mul_right}
-use Rattle.std.proofs.lemmas.Bool.{cases_eq, cases_lt, eq-eqb, le-leb, lt-leb, ne_eqb}
-use Rattle.std.proofs.lemmas.List.Elements.{All-cons, All-contains, All-from_recursion, All-tail}
-use Rattle.std.proofs.lemmas.List.Sorted.{All-permutation, Contains-permutation, IsPermutation-sym, sum_by_popped, sum_by_pushed}
-use Rattle.std.proofs.lemmas.Map.Keys.{IsDistinct-IsPermutation, IsDistinct-cons, IsDistinct-head, IsDistinct-tail, IsStrictlyIncreasing-from_distinct}
-use Rattle.std.proofs.lemmas.Option.{get_or_from_slice_get, same_Some, slice_get_within}
+use Rattle.prl_base.proofs.Standard.{◌≡◌, ◌+◌, ◌*◌, ◌^◌, ◌<◌, ◌≤◌, ◌⊎◌, inl, inr, ℕ, suc, true, false, List, [], ◌∷◌, length, slice_index_or, refl, sym, ◌∙◌, ap, subst, arith, cond, eqb, leb, sum_by}
+use Rattle.prl_base.proofs.Standard.{Contains, IsDistinct, IsNonDecreasing, IsPermutation, lt_of_mul-lt-mul_right, mul-le-mul_right, cases_eq, cases_lt, eq-eqb, le-leb, lt-leb, ne_eqb, All-cons}
+use Rattle.prl_base.proofs.Standard.{All-contains, All-from_recursion, All-tail, All-permutation, Contains-permutation, IsPermutation-sym, sum_by_popped, sum_by_pushed, IsDistinct-IsPermutation}
+use Rattle.prl_base.proofs.Standard.{IsDistinct-cons, IsDistinct-head, IsDistinct-tail, IsStrictlyIncreasing-from_distinct, get_or_from_slice_get, same_Some, slice_get_within}
+use Rattle.std.specs.List.{All}
 use Rattle.prl_base.specs.Clocks.{date_at}
 use Rattle.prl_base.specs.declared.operators.Clock.{Clock}
 use Rattle.prl_calendar.specs.Calendars.{AreAllClocks, AreDue, HasDate, HasNoDate, IsNextDate}

@@ -1,7 +1,5 @@
 -- Schedules: their events are of the plan's tasks.
-use Rattle.std.proofs.Common.{List, [], ◌∷◌}
-use Rattle.std.specs.Prelude.{All}
-use Rattle.std.proofs.lemmas.List.Elements.{All-nil, All-cons}
+use Rattle.prl_base.proofs.Standard.{List, [], ◌∷◌, All, All-nil, All-cons}
 use Rattle.prl_track.specs.Machine.{IsOfPlan}
 use Rattle.prl_plan.specs.Vocabulary.{Placement, constants_on, PlanView, IsLegal, KeepsLegal, ExecState, after_event}
 use Rattle.prl_plan.specs.declared.events.Event.{Event}

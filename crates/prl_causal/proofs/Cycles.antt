@@ -1,8 +1,6 @@
 -- A flat program has no cycle, or the label that tells of one.
-use Rattle.std.proofs.Common.{◌≡◌, ◌<◌, ◌≤◌, ◌⊎◌, ℕ, zero, suc, Bool, true, false, List, length, Option, Some, slice_get, refl, ap, subst, arith, inl, inr, ⊎_elim}
-use Rattle.std.proofs.lemmas.Bool.{cases_lt}
-use Rattle.std.proofs.lemmas.List.{length-map}
-use Rattle.std.proofs.lemmas.Option.{slice_get_within}
+use Rattle.prl_base.proofs.Standard.{◌≡◌, ◌<◌, ◌≤◌, ◌⊎◌, ℕ, zero, suc, Bool, true, false, List, length, Option, Some, slice_get, refl, ap, subst, arith, inl, inr, ⊎_elim, cases_lt, length-map}
+use Rattle.prl_base.proofs.Standard.{slice_get_within}
 use Rattle.prl_base.specs.declared.numbers.FlowNo.{FlowNo}
 use Rattle.prl_flow.specs.Vocabulary.{FlatProgram, IsFlat, HasNoCycle, IsCyclic, IsCycleLabel, IsOnCycle, IsOrder, named, unnamed, is_made}
 use Rattle.prl_flow.specs.declared.programs.Flow.{Flow}

@@ -1,9 +1,6 @@
 -- What the lists of sources say is what the flat program says.
-use Rattle.std.proofs.Common.{◌≡◌, ◌<◌, ◌⊎◌, ℕ, Bool, true, false, cond, List, length, map, slice_get, Some, None, refl, sym, ◌∙◌, ap, subst, arith, inl, inr, ⊎_elim}
-use Rattle.std.proofs.lemmas.Bool.{false≢true}
-use Rattle.std.proofs.lemmas.List.{length-map}
-use Rattle.std.proofs.lemmas.Option.{slice_get_within, slice_get-map}
-use Rattle.std.specs.Option.{option_map}
+use Rattle.prl_base.proofs.Standard.{◌≡◌, ◌<◌, ◌⊎◌, ℕ, Bool, true, false, cond, List, length, map, slice_get, Some, None, refl, sym, ◌∙◌, ap, subst, arith, inl, inr, ⊎_elim, false≢true, length-map}
+use Rattle.prl_base.proofs.Standard.{slice_get_within, slice_get-map, option_map}
 use Rattle.prl_base.specs.Operators.{delays}
 use Rattle.prl_base.specs.declared.numbers.FlowNo.{FlowNo}
 use Rattle.prl_base.specs.declared.values.Ty.{Ty}

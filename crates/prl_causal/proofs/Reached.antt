@@ -1,10 +1,6 @@
 -- Uses lead from a flow back to it, or they do not.
-use Rattle.std.proofs.Common.{◌≡◌, ◌<◌, ◌≤◌, ◌+◌, ◌⊎◌, ℕ, zero, suc, Bool, true, false, List, [], ◌∷◌, ◌++◌, length, set, get_or, slice_get, replicate, take, Some, refl, sym, ◌∙◌, subst, arith, add-one, inl, inr, ⊎_elim}
-use Rattle.std.proofs.lemmas.Bool.{cases_lt, false≢true}
-use Rattle.std.proofs.lemmas.List.{length-replicate}
-use Rattle.std.proofs.Math.Seq.{take-length}
-use Rattle.std.proofs.lemmas.List.Sums.{count_by-le-length}
-use Rattle.std.proofs.lemmas.Option.{get_or_from_slice_get}
+use Rattle.prl_base.proofs.Standard.{◌≡◌, ◌<◌, ◌≤◌, ◌+◌, ◌⊎◌, ℕ, zero, suc, Bool, true, false, List, [], ◌∷◌, ◌++◌, length, set, get_or, slice_get, replicate, take, Some, refl, sym, ◌∙◌, subst, arith}
+use Rattle.prl_base.proofs.Standard.{add-one, inl, inr, ⊎_elim, cases_lt, false≢true, length-replicate, take-length, count_by-le-length, get_or_from_slice_get}
 use Rattle.prl_flow.specs.Vocabulary.{FlatProgram, Leads}
 use Rattle.prl_flow.specs.declared.programs.App.{App}
 use Rattle.prl_flow.specs.declared.programs.Arg.{Arg}

@@ -1,8 +1,6 @@
 -- There is an order along uses, or a way back.
-use Rattle.std.proofs.Common.{◌≡◌, ◌<◌, ◌≤◌, ◌⊎◌, ℕ, zero, suc, Bool, true, false, cond, List, [], ◌∷◌, ◌++◌, length, set, get_or, replicate, refl, sym, ap, subst, arith, inl, inr, ⊎_elim}
-use Rattle.std.proofs.lemmas.Bool.{cases_lt, false≢true}
-use Rattle.std.proofs.lemmas.List.{length_push, length-replicate}
-use Rattle.std.proofs.lemmas.List.Folds.{sum_by-replicate}
+use Rattle.prl_base.proofs.Standard.{◌≡◌, ◌<◌, ◌≤◌, ◌⊎◌, ℕ, zero, suc, Bool, true, false, cond, List, [], ◌∷◌, ◌++◌, length, set, get_or, replicate, refl, sym, ap, subst, arith, inl, inr, ⊎_elim}
+use Rattle.prl_base.proofs.Standard.{cases_lt, false≢true, length_push, length-replicate, sum_by-replicate}
 use Rattle.prl_base.specs.declared.numbers.FlowNo.{FlowNo}
 use Rattle.prl_flow.specs.Programs.{FlatProgram}
 use Rattle.prl_causal.specs.Vocabulary.{Source, IsMarked, IsWhole, marked_count, IsSorted, left, AreSources, Names, UsesBy, HasWayBack}

@@ -1,6 +1,5 @@
 -- Steps, ways and clashes from their parts.
-use Rattle.std.proofs.Common.{◌≡◌, ◌≢◌, ◌∙◌, ◌&&◌, ℕ, ℤ, true, false, List, ◌∷◌, Some, ap, eqb, int_eq, slice_get, subst}
-use Rattle.std.proofs.lemmas.Bool.Decides.{Decides-and, Decides-eqb, Decides-int_eq}
+use Rattle.prl_base.proofs.Standard.{◌≡◌, ◌≢◌, ◌∙◌, ◌&&◌, ℕ, ℤ, true, false, List, ◌∷◌, Some, ap, eqb, int_eq, slice_get, subst, Decides-and, Decides-eqb, Decides-int_eq}
 use Rattle.prl_base.specs.Ratios.{Fraction}
 use Rattle.prl_ast.specs.declared.declarations.Rate.{Rate}
 use Rattle.prl_clock.specs.declared.timings.Timing.{Timing}

@@ -1,8 +1,6 @@
 -- The arithmetic of timings over one another.
-use Rattle.std.proofs.Common.{◌≡◌, ◌≤◌, ◌+◌, ◌*◌, ℕ, ℤ, pos, negsuc, ◌*ℤ◌, ◌+ℤ◌, ◌-ℤ◌, refl, zero, suc, sym, ◌∙◌, ap, arith}
+use Rattle.prl_base.proofs.Standard.{◌≡◌, ◌≤◌, ◌+◌, ◌*◌, ℕ, ℤ, pos, negsuc, ◌*ℤ◌, ◌+ℤ◌, ◌-ℤ◌, refl, zero, suc, sym, ◌∙◌, ap, arith, eq_of_mul-eq-mul_right, mul-pos, mul_comm, *ℤ_comm}
 use borrow.Author.Differences.{up, down, same_in, product_is, sum_is_lem, ints}
-use Rattle.std.proofs.Math.Nat.{eq_of_mul-eq-mul_right, mul-pos, mul_comm}
-use Rattle.std.proofs.Math.IntN.{*ℤ_comm}
 use Rattle.prl_base.specs.Ratios.{Fraction}
 use Rattle.prl_clock.specs.Vocabulary.{Timing, Point, IsRatio, IsOver, HasParts, IsProduct, IsSum, IsComposed}
 

@@ -1,10 +1,6 @@
 -- Each flat program has its clocks or a fault.
-use Rattle.std.proofs.Common.{◌≡◌, ◌<◌, ◌++◌, ◌∷◌, ◌⊎◌, inl, inr, ℕ, zero, suc, ℤ, pos, negsuc, nat_abs, ◌≤ℤ◌, List, [], length, map, get_or, Option, Some, None, Result, Ok, Err, refl, sym, ap, ◌∙◌, subst, arith}
-use Rattle.std.specs.List.{range_with_len}
-use Rattle.std.specs.Prelude.{slice_get}
-use Rattle.std.proofs.lemmas.Bool.{cases_lt}
-use Rattle.std.proofs.lemmas.List.FromFn.{get_or-map-range_with_len, length-map-range_with_len}
-use Rattle.std.proofs.lemmas.Option.{slice_get-get_or, slice_get_within}
+use Rattle.prl_base.proofs.Standard.{◌≡◌, ◌<◌, ◌++◌, ◌∷◌, ◌⊎◌, inl, inr, ℕ, zero, suc, ℤ, pos, negsuc, nat_abs, ◌≤ℤ◌, List, [], length, map, get_or, Option, Some, None, Result, Ok, Err, refl, sym, ap}
+use Rattle.prl_base.proofs.Standard.{◌∙◌, subst, arith, range_with_len, slice_get, cases_lt, get_or-map-range_with_len, length-map-range_with_len, slice_get-get_or, slice_get_within}
 use borrow.Author.Differences.{ints}
 use Rattle.prl_base.specs.Vocabulary.{IsOperatorFor, Fraction}
 use Rattle.prl_base.specs.declared.operators.Clock.{Clock}

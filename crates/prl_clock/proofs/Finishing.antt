@@ -1,8 +1,6 @@
 -- After all constraints.
-use Rattle.std.proofs.Common.{Bool, true, false, cond, not, is_some, ◌≡◌, ◌≤◌, ◌<◌, ◌+◌, ◌*◌, ◌++◌, ◌∷◌, ℕ, ℤ, pos, negsuc, nat_abs, ◌*ℤ◌, ◌-ℤ◌, ◌≤ℤ◌, List, [], length, take, Option, Some, None, refl, sym, ap, ◌∙◌, subst, arith, append_assoc, length-append, below_more}
-use Rattle.std.specs.Prelude.{slice_get}
-use Rattle.std.proofs.lemmas.List.{get_or_append_left}
-use Rattle.std.proofs.Math.Seq.{take-append_seam}
+use Rattle.prl_base.proofs.Standard.{Bool, true, false, cond, not, is_some, ◌≡◌, ◌≤◌, ◌<◌, ◌+◌, ◌*◌, ◌++◌, ◌∷◌, ℕ, ℤ, pos, negsuc, nat_abs, ◌*ℤ◌, ◌-ℤ◌, ◌≤ℤ◌, List, [], length, take, Option, Some}
+use Rattle.prl_base.proofs.Standard.{None, refl, sym, ap, ◌∙◌, subst, arith, append_assoc, length-append, below_more, slice_get, get_or_append_left, take-append_seam}
 use borrow.Author.Differences.{up, down, same_in, product_is, ints}
 use Rattle.prl_base.specs.Ratios.{Fraction}
 use Rattle.prl_base.specs.declared.limits.Limit.{Limit}

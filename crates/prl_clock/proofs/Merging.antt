@@ -1,7 +1,5 @@
 -- Constraints one more: who stands where then.
-use Rattle.std.proofs.Common.{◌≡◌, ◌≢◌, ◌≤◌, ◌<◌, ◌⊎◌, inl, inr, ℕ, List, length, Option, Some, None, refl, sym, ap, ◌∙◌, subst, arith}
-use Rattle.std.proofs.Math.ListN.{get_or-eq_default}
-use Rattle.std.proofs.lemmas.Bool.{cases_lt}
+use Rattle.prl_base.proofs.Standard.{◌≡◌, ◌≢◌, ◌≤◌, ◌<◌, ◌⊎◌, inl, inr, ℕ, List, length, Option, Some, None, refl, sym, ap, ◌∙◌, subst, arith, get_or-eq_default, cases_lt}
 use Rattle.prl_clock.specs.Vocabulary.{Timing, Standing, Assignment, tick, MeetsAll, Connected, Placed, IsOver, IsSmallTiming, IsSolved, IsOpen, IsMoved, IsTimed, AreMoved, AreTimed, HasClock}
 use Rattle.prl_clock.specs.Vocabulary.{standing_at, root_at, alone}
 use Rattle.prl_clock.proofs.Algebra.{composed_of}

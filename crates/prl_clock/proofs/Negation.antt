@@ -1,8 +1,6 @@
 -- Fractions with the other sign.
-use Rattle.std.proofs.Common.{◌≡◌, ◌<◌, ◌^◌, ℕ, ℤ, pos, negsuc, neg_ℤ, nat_abs, ◌-ℤ◌, zero, suc, refl, w64, ap, ◌∙◌, subst, sym, arith}
+use Rattle.prl_base.proofs.Standard.{◌≡◌, ◌<◌, ◌^◌, ℕ, ℤ, pos, negsuc, neg_ℤ, nat_abs, ◌-ℤ◌, zero, suc, refl, w64, ap, ◌∙◌, subst, sym, arith, IsGcd, to_z-of_z}
 use mir.Val.{to_z, of_z, SFits}
-use Rattle.std.specs.Int.{IsGcd}
-use Rattle.std.proofs.lemmas.Int.{to_z-of_z}
 use Rattle.prl_base.specs.Ratios.{Fraction, IsSmallFraction}
 use Rattle.prl_base.proofs.Signs.{neg_fits, zero_sub}
 

@@ -1,8 +1,6 @@
 -- Each flat program has an outcome, with no call that takes memory.
-use Rattle.std.proofs.Common.{◌≡◌, ◌≢◌, ◌≤◌, ◌<◌, ◌++◌, ◌∷◌, ◌⊎◌, inl, inr, ℕ, pos, List, [], length, Option, Some, None, refl, sym, ap, ◌∙◌, subst, arith, append_assoc}
-use Rattle.std.specs.List.{AllByRecursion}
-use Rattle.std.proofs.lemmas.Bool.{cases_lt}
-use Rattle.std.proofs.lemmas.List.{append-nil}
+use Rattle.prl_base.proofs.Standard.{◌≡◌, ◌≢◌, ◌≤◌, ◌<◌, ◌++◌, ◌∷◌, ◌⊎◌, inl, inr, ℕ, pos, List, [], length, Option, Some, None, refl, sym, ap, ◌∙◌, subst, arith, append_assoc, AllByRecursion}
+use Rattle.prl_base.proofs.Standard.{cases_lt, append-nil}
 use borrow.Author.Differences.{up}
 use Rattle.prl_base.specs.Ratios.{IsSmallFraction}
 use Rattle.prl_flow.specs.Programs.{FlatProgram}

@@ -1,8 +1,6 @@
 -- From assignments that meet the constraints of a flat program to its clocks, and back.
-use Rattle.std.proofs.Common.{◌≡◌, ◌≤◌, ◌<◌, ◌*◌, ◌∷◌, inl, inr, ℕ, zero, suc, pos, List, [], length, map, get_or, Option, Some, None, refl, sym, ap, ◌∙◌, subst, arith}
-use Rattle.std.specs.Prelude.{slice_get}
-use Rattle.std.proofs.lemmas.Bool.{cases_lt}
-use Rattle.std.proofs.lemmas.Option.{slice_get-get_or, slice_get_within}
+use Rattle.prl_base.proofs.Standard.{◌≡◌, ◌≤◌, ◌<◌, ◌*◌, ◌∷◌, inl, inr, ℕ, zero, suc, pos, List, [], length, map, get_or, Option, Some, None, refl, sym, ap, ◌∙◌, subst, arith, slice_get, cases_lt}
+use Rattle.prl_base.proofs.Standard.{slice_get-get_or, slice_get_within}
 use Rattle.prl_base.specs.Clocks.{IsClock}
 use Rattle.prl_base.specs.declared.numbers.FlowNo.{FlowNo}
 use Rattle.prl_base.specs.declared.operators.Clock.{Clock}

@@ -1,8 +1,6 @@
 -- Fractions of a sign and a size in lowest terms, and the sum whose sign is found by parts.
-use Rattle.std.proofs.Common.{◌≡◌, ◌⊎◌, inl, inr, ◌+◌, ◌-◌, ◌*◌, ◌/◌, ◌<◌, ◌≤◌, ℕ, ℤ, pos, neg_ℤ, nat_abs, ◌+ℤ◌, ◌*ℤ◌, Bool, true, false, refl, sym, ap, ◌∙◌, subst, arith}
-use Rattle.std.specs.Int.{IsGcd}
+use Rattle.prl_base.proofs.Standard.{◌≡◌, ◌⊎◌, inl, inr, ◌+◌, ◌-◌, ◌*◌, ◌/◌, ◌<◌, ◌≤◌, ℕ, ℤ, pos, neg_ℤ, nat_abs, ◌+ℤ◌, ◌*ℤ◌, Bool, true, false, refl, sym, ap, ◌∙◌, subst, arith, IsGcd, mul-pos}
 use borrow.Author.Differences.{up, down, same_in, product_is, sum_is_lem, ints}
-use Rattle.std.proofs.Math.Nat.{mul-pos}
 use Rattle.prl_base.specs.Vocabulary.{Fraction, IsSmallFraction, IsReducedForm, IsPast, signed}
 use Rattle.prl_base.specs.declared.ratios.TheConstants.{MAX_PART}
 use Rattle.prl_base.proofs.Lowest.{lowest_form}

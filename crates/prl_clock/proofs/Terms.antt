@@ -1,9 +1,8 @@
 -- What calls on ratios give, as products and sums; lowest terms are unique.
-use Rattle.std.proofs.Common.{Bool, true, false, int_eq, eqb, eq-eqb, ◌&&◌, ◌≡◌, ◌≤◌, ◌+◌, ◌*◌, ℕ, ℤ, pos, neg_ℤ, ◌*ℤ◌, ◌+ℤ◌, refl, zero, suc, sym, ◌∙◌, ap, subst, arith, inl, inr, Result, Ok, Err}
+use Rattle.prl_base.proofs.Standard.{Bool, true, false, int_eq, eqb, ◌&&◌, ◌≡◌, ◌≤◌, ◌+◌, ◌*◌, ℕ, ℤ, pos, neg_ℤ, ◌*ℤ◌, ◌+ℤ◌, refl, zero, suc, sym, ◌∙◌, ap, subst, arith, inl, inr, Result, Ok, Err}
+use Rattle.prl_base.proofs.Standard.{int_eq_equiv, *ℤ_comm, IfErr, IsErrAnd, List, OnErr, OnOk}
+use Rattle.std.proofs.Common.{eq-eqb}
 use borrow.Author.Differences.{up, down, same_in, product_is, sum_is_lem, neg_is}
-use Rattle.std.proofs.lemmas.Cmp.{int_eq_equiv}
-use Rattle.std.proofs.Math.IntN.{*ℤ_comm}
-use Rattle.std.specs.Prelude.{IfErr, IsErrAnd, List, OnErr, OnOk}
 use Rattle.prl_base.specs.Vocabulary.{Fraction, IsSmallFraction, IsReducedForm, IsPast}
 use Rattle.prl_base.proofs.Lowest.{lowest_only}
 use Rattle.prl_base.proofs.Signs.{neg_mul}

@@ -1,8 +1,6 @@
 -- Each step of the calculus has an answer, with no call that takes memory.
-use Rattle.std.proofs.Common.{◌≡◌, ◌≢◌, ◌≤◌, ◌<◌, ◌+◌, ◌-◌, ◌*◌, ◌∷◌, ◌⊎◌, inl, inr, ℕ, zero, suc, ℤ, pos, negsuc, neg_ℤ, nat_abs, ◌*ℤ◌, ◌+ℤ◌, List, [], length, get_or, Option, Some, None, refl, sym, ap, ◌∙◌, subst, arith}
-use Rattle.std.specs.Int.{IsGcd}
-use Rattle.std.proofs.lemmas.Bool.{cases_lt}
-use Rattle.std.proofs.lemmas.Nat.Gcd.{IsGcd-from_zero, IsGcd-swap, IsGcd-from_sub}
+use Rattle.prl_base.proofs.Standard.{◌≡◌, ◌≢◌, ◌≤◌, ◌<◌, ◌+◌, ◌-◌, ◌*◌, ◌∷◌, ◌⊎◌, inl, inr, ℕ, zero, suc, ℤ, pos, negsuc, neg_ℤ, nat_abs, ◌*ℤ◌, ◌+ℤ◌, List, [], length, get_or, Option, Some, None}
+use Rattle.prl_base.proofs.Standard.{refl, sym, ap, ◌∙◌, subst, arith, IsGcd, cases_lt, IsGcd-from_zero, IsGcd-swap, IsGcd-from_sub}
 use Rattle.prl_base.specs.Vocabulary.{Fraction, IsSmallFraction, IsReducedForm}
 use Rattle.prl_base.specs.declared.ratios.TheConstants.{MAX_PART}
 use Rattle.prl_base.proofs.Lowest.{lowest, lowest_is}

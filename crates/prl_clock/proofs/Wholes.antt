@@ -1,10 +1,7 @@
 -- Clocks of a flat program meet its constraints, and so do those of its solutions.
-use Rattle.std.proofs.Common.{◌≡◌, ◌≤◌, ◌<◌, ◌+◌, ◌++◌, ◌∷◌, ◌*◌, ℕ, zero, suc, pos, inl, inr, List, [], length, map, get_or, Option, Some, None, refl, sym, ap, ◌∙◌, subst, arith, add-zero}
-use Rattle.std.specs.Prelude.{slice_get}
-use Rattle.std.specs.List.{AllByRecursion}
-use Rattle.std.proofs.lemmas.Bool.{cases_lt}
-use Rattle.std.proofs.Math.ListN.{get_or-map, length-map, get_or-eq_default}
-use Rattle.std.proofs.lemmas.Option.{slice_get-get_or}
+use Rattle.prl_base.proofs.Standard.{◌≡◌, ◌≤◌, ◌<◌, ◌+◌, ◌++◌, ◌∷◌, ◌*◌, ℕ, zero, suc, pos, inl, inr, List, [], length, map, get_or, Option, Some, None, refl, sym, ap, ◌∙◌, subst, arith, add-zero}
+use Rattle.prl_base.proofs.Standard.{slice_get, AllByRecursion, cases_lt, get_or-eq_default, slice_get-get_or}
+use Rattle.std.proofs.Math.ListN.{get_or-map, length-map}
 use Rattle.prl_base.specs.Vocabulary.{IsClock, IsResultClock}
 use Rattle.prl_base.specs.declared.numbers.FlowNo.{FlowNo}
 use Rattle.prl_base.specs.declared.operators.Clock.{Clock}

@@ -1,8 +1,5 @@
 -- Outcomes with their texts as lists of bytes.
-use Rattle.std.proofs.Common.{◌≡◌, ℕ, List, Result, Ok, Err, subst}
-use Rattle.std.specs.Prelude.{IfOk}
-use Rattle.std.specs.Bool.{OnFalse}
-use Rattle.std.proofs.lemmas.Bool.{OnFalse_at, OnFalse_from}
+use Rattle.prl_base.proofs.Standard.{◌≡◌, ℕ, List, Result, Ok, Err, subst, IfOk, OnFalse, OnFalse_at, OnFalse_from}
 use Rattle.prl_io.specs.Views.{FolderView, SinkView}
 use Rattle.prl_companions.specs.declared.faults.Fault.{Fault}
 use Rattle.prl_companions.specs.declared.faults.Fault.TheVariants as faults

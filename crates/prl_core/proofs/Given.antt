@@ -1,11 +1,8 @@
 -- What the machine's columns and machines are by instance.
-use Rattle.std.proofs.Common.{◌≡◌, ◌+◌, ◌<◌, ◌≤◌, ◌↔◌, ◌++◌, ℕ, zero, suc, Bool, List, [], ◌∷◌, length, length-append, inl, inr, get_or, take, Option, Some, None, refl, sym, ◌∙◌, ap, subst, arith}
-use Rattle.std.specs.Prelude.{slice_get, pos, unwrap_or, MatchOption}
+use Rattle.prl_base.proofs.Standard.{◌≡◌, ◌+◌, ◌<◌, ◌≤◌, ◌↔◌, ◌++◌, ℕ, zero, suc, Bool, List, [], ◌∷◌, length, length-append, inl, inr, get_or, take, Option, Some, None, refl, sym, ◌∙◌, ap, subst}
+use Rattle.prl_base.proofs.Standard.{arith, slice_get, pos, unwrap_or, MatchOption, cases_eq, length-take-le, slice_get-get_or, slice_get_read}
 use Rattle.std.specs.declared.vec.Vec.{Vec}
 use Rattle.std.specs.declared.alloc.Global.{Global}
-use Rattle.std.proofs.lemmas.Bool.{cases_eq}
-use Rattle.std.proofs.lemmas.List.{length-take-le}
-use Rattle.std.proofs.lemmas.Option.{slice_get-get_or, slice_get_read}
 use Rattle.prl_base.specs.Values.{type_of}
 use Rattle.prl_base.specs.declared.values.Value.{Value}
 use Rattle.prl_base.specs.declared.values.Value.TheVariants as values

@@ -1,10 +1,8 @@
 -- The machine keeps what it has, event by event, and tells what it finds.
-use Rattle.std.proofs.Common.{◌≡◌, ◌≢◌, ◌+◌, ◌%◌, ◌<◌, ℕ, zero, suc, List, length, get_or, set, Option, Some, inl, inr, refl, sym, ◌∙◌, ap, subst, arith, get_or-set_other}
-use Rattle.std.specs.Prelude.{slice_get, pos, unwrap_or}
-use Rattle.std.proofs.lemmas.Bool.{cases_eq}
+use Rattle.prl_base.proofs.Standard.{◌≡◌, ◌≢◌, ◌+◌, ◌%◌, ◌<◌, ℕ, zero, suc, List, length, get_or, set, Option, Some, inl, inr, refl, sym, ◌∙◌, ap, subst, arith, slice_get, pos, unwrap_or, cases_eq}
+use Rattle.prl_base.proofs.Standard.{get_or-set_at, slice_get-get_or, slice_get_cases}
+use Rattle.std.proofs.Common.{get_or-set_other}
 use Rattle.std.proofs.lemmas.List.{length-set}
-use Rattle.std.proofs.lemmas.Grind.{get_or-set_at}
-use Rattle.std.proofs.lemmas.Option.{slice_get-get_or, slice_get_cases}
 use Rattle.prl_base.specs.declared.numbers.EdgeNo.{EdgeNo}
 use Rattle.prl_base.specs.declared.numbers.TaskNo.{TaskNo}
 use Rattle.prl_base.specs.declared.values.Value.{Value}

@@ -1,6 +1,5 @@
 -- The machine before the first event.
-use Rattle.std.proofs.Common.{◌≡◌, ◌*◌, ℕ, zero, suc, List, length, replicate, get_or, refl, sym, subst, arith}
-use Rattle.std.specs.Prelude.{sum}
+use Rattle.prl_base.proofs.Standard.{◌≡◌, ◌*◌, ℕ, zero, suc, List, length, replicate, get_or, refl, sym, subst, arith, sum}
 use Rattle.prl_base.specs.declared.values.Value.{Value}
 use Rattle.prl_body.specs.declared.bodies.CheckedBody.{CheckedBody}
 use Rattle.prl_flow.specs.Rows.{Rows}

@@ -1,9 +1,6 @@
 -- Processors determine the constants of a spread's run.
-use Rattle.std.proofs.Common.{◌≡◌, ◌≤◌, ℕ, zero, suc, List, [], ◌∷◌, length, inl, inr, refl, sym, ◌∙◌, ap, subst, arith}
-use Rattle.std.specs.Prelude.{pos, ◌+ℤ◌, nat_abs, slice_index, slice_index_or}
-use Rattle.std.proofs.Math.Path.{fun_ext}
-use Rattle.std.proofs.lemmas.Bool.{cases_lt}
-use Rattle.std.proofs.lemmas.Int.{ints}
+use Rattle.prl_base.proofs.Standard.{◌≡◌, ◌≤◌, ℕ, zero, suc, List, [], ◌∷◌, length, inl, inr, refl, sym, ◌∙◌, ap, subst, arith, pos, ◌+ℤ◌, nat_abs, slice_index, slice_index_or, fun_ext, cases_lt}
+use Rattle.prl_base.proofs.Standard.{ints}
 use Rattle.prl_plan.specs.Vocabulary.{encoded_release, no_window, place_in, Placement, constants_on, task_at, release_of, PlanView, RunConstants, AreSpreadReleases, IsSpread}
 use Rattle.prl_plan.specs.declared.horizons.Horizon.{Horizon}
 use Rattle.prl_plan.specs.declared.tables.Window.{Window}

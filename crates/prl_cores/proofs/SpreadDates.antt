@@ -1,7 +1,5 @@
 -- The three facts of spread releases.
-use Rattle.std.proofs.Common.{◌+◌, ◌<◌, ℕ, List, length, arith}
-use Rattle.std.specs.Prelude.{ℤ, pos, ◌+ℤ◌, ◌-ℤ◌, ◌≤ℤ◌}
-use Rattle.std.proofs.lemmas.Int.{ints}
+use Rattle.prl_base.proofs.Standard.{◌+◌, ◌<◌, ℕ, List, length, arith, ℤ, pos, ◌+ℤ◌, ◌-ℤ◌, ◌≤ℤ◌, ints}
 use Rattle.prl_plan.specs.Vocabulary.{Fits, used_at, Family, encoded_release, encoded_deadline, task_at, PlanView, IsPlan, AreSpreadReleases, AreLeastSpreadReleases}
 use Rattle.prl_plan.specs.declared.graphs.Edge.{Edge}
 use Rattle.prl_plan.specs.declared.tables.Used.{Used}

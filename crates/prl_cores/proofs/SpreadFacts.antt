@@ -1,9 +1,5 @@
 -- What the jobs of a plan keep with spread releases.
-use Rattle.std.proofs.Common.{◌≡◌, ◌<◌, ◌≤◌, ℕ, List, length, inl, inr, sym, ap, subst, arith}
-use Rattle.std.specs.Prelude.{pos, slice_index}
-use Rattle.std.proofs.lemmas.Bool.{cases_eq}
-use Rattle.std.proofs.lemmas.Int.{ints}
-use Rattle.std.proofs.lemmas.Option.{slice_get-get_or}
+use Rattle.prl_base.proofs.Standard.{◌≡◌, ◌<◌, ◌≤◌, ℕ, List, length, inl, inr, sym, ap, subst, arith, pos, slice_index, cases_eq, ints, slice_get-get_or}
 use Rattle.prl_base.specs.declared.numbers.EdgeNo.{EdgeNo}
 use Rattle.prl_plan.specs.Vocabulary.{Family, encoded_release, IsJob, ReadsAt, WritesAt, HasPlanFacts, IsHorizon, Placement, constants_of, constants_on, PlanView, IsPlan, edge_at, no_edge, IsActionOf}
 use Rattle.prl_plan.specs.Vocabulary.{release_at, deadline_at, Precedes, ComesFrom, AreLeastSpreadReleases, IsSpread}

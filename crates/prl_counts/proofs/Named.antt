@@ -1,6 +1,5 @@
 -- What is declared of a name, and what is told of it.
-use Rattle.std.proofs.Common.{◌≡◌, ◌≤◌, ℕ, List, [], Ok, Some, inl, inr, length, refl}
-use Rattle.std.specs.Prelude.{slice_get}
+use Rattle.prl_base.proofs.Standard.{◌≡◌, ◌≤◌, ℕ, List, [], Ok, Some, inl, inr, length, refl, slice_get}
 use Rattle.prl_ast.specs.Trees.{program_tree}
 use Rattle.prl_ast.specs.declared.declarations.Import.{Import}
 use Rattle.prl_ast.specs.declared.declarations.Node.{Node}

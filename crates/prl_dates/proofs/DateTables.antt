@@ -1,11 +1,6 @@
 -- The tables of bests and of lowered deadlines tell the encoded dates, and so do their shortest lists.
-use Rattle.std.proofs.Common.{◌≡◌, ◌+◌, ◌-◌, ◌%◌, ◌<◌, ◌≤◌, ℕ, List, length, take, Some, sym, ◌∙◌, ap, arith}
-use Rattle.std.specs.Prelude.{ℤ, pos, ◌+ℤ◌, ◌-ℤ◌, ◌≤ℤ◌, slice_get, slice_index, slice_index_or}
-use Rattle.std.proofs.Math.Nat.{mod-eq_of_lt}
-use Rattle.std.proofs.lemmas.Int.{ints}
-use Rattle.std.proofs.lemmas.List.{length-take-le}
-use Rattle.std.proofs.lemmas.Nat.{mod_below}
-use Rattle.std.proofs.lemmas.Option.{slice_get-get_or, slice_get_within}
+use Rattle.prl_base.proofs.Standard.{◌≡◌, ◌+◌, ◌-◌, ◌%◌, ◌<◌, ◌≤◌, ℕ, List, length, take, Some, sym, ◌∙◌, ap, arith, ℤ, pos, ◌+ℤ◌, ◌-ℤ◌, ◌≤ℤ◌, slice_get, slice_index, slice_index_or, mod-eq_of_lt}
+use Rattle.prl_base.proofs.Standard.{ints, length-take-le, mod_below, slice_get-get_or, slice_get_within}
 use Rattle.prl_plan.specs.Vocabulary.{AreReleases, AreDeadlines, AreLeastReleases, AreGreatestDeadlines, AreEncodedDates, place_in, no_window, window_at, encoded_release, encoded_deadline}
 use Rattle.prl_plan.specs.Vocabulary.{IsWellFormed, jobs_in_hyperperiod, Job, task_at, release_of, HaveRoom, AreShortWindows, Precedes, IsLeastRepeat}
 use Rattle.prl_plan.specs.declared.graphs.TaskGraph.{TaskGraph}

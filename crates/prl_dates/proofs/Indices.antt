@@ -1,11 +1,6 @@
 -- Indices of a hyperperiod: each is that of one job of it, and jobs a hyperperiod apart have the same one.
-use Rattle.std.proofs.Common.{◌≡◌, ◌+◌, ◌-◌, ◌*◌, ◌/◌, ◌%◌, ◌<◌, ◌≤◌, ℕ, zero, suc, List, [], ◌∷◌, length, map, inl, inr, refl, sym, ◌∙◌, ap, subst, arith}
-use Rattle.std.specs.Prelude.{ℤ, pos, negsuc, ◌+ℤ◌, sum, take, slice_index_or}
-use Rattle.std.proofs.Math.Nat.{mul-div_cancel, add-mul-mod_self_right, mod-eq_of_lt}
-use Rattle.std.proofs.lemmas.Bool.{cases_lt}
-use Rattle.std.proofs.lemmas.Nat.{mod_below}
-use Rattle.std.proofs.lemmas.Int.{ints}
-use Rattle.std.proofs.lemmas.List.Sums.{sum_by-cons}
+use Rattle.prl_base.proofs.Standard.{◌≡◌, ◌+◌, ◌-◌, ◌*◌, ◌/◌, ◌%◌, ◌<◌, ◌≤◌, ℕ, zero, suc, List, [], ◌∷◌, length, map, inl, inr, refl, sym, ◌∙◌, ap, subst, arith, ℤ, pos, negsuc, ◌+ℤ◌, sum, take}
+use Rattle.prl_base.proofs.Standard.{slice_index_or, mul-div_cancel, add-mul-mod_self_right, mod-eq_of_lt, cases_lt, mod_below, ints, sum_by-cons}
 use Rattle.prl_plan.specs.Vocabulary.{place_in, task_at, release_of, no_task, IsWellFormed, jobs_in_hyperperiod}
 use Rattle.prl_plan.specs.declared.graphs.Task.{Task}
 use Rattle.prl_plan.specs.declared.graphs.TaskGraph.{TaskGraph}

@@ -1,11 +1,9 @@
 -- Deadlines lowered along a link.
-use Rattle.std.proofs.Common.{◌≡◌, ◌≢◌, ◌+◌, ◌-◌, ◌<◌, ◌≤◌, ◌^◌, ◌⊎◌, ℕ, Bool, true, false, List, length, get_or, get_or-set_other, get_or-set_same, Some, inl, inr, refl, sym, ◌∙◌, ap, subst, arith}
-use Rattle.std.specs.Prelude.{ℤ, pos, ◌≤ℤ◌, sum, slice_get, slice_index}
+use Rattle.prl_base.proofs.Standard.{◌≡◌, ◌≢◌, ◌+◌, ◌-◌, ◌<◌, ◌≤◌, ◌^◌, ◌⊎◌, ℕ, Bool, true, false, List, length, get_or, get_or-set_same, Some, inl, inr, refl, sym, ◌∙◌, ap, subst, arith, ℤ, pos}
+use Rattle.prl_base.proofs.Standard.{◌≤ℤ◌, sum, slice_get, slice_index, cases_lt, ints, sum_by-set}
+use Rattle.std.proofs.Common.{get_or-set_other}
 use Rattle.std.proofs.Math.ListN.{set}
-use Rattle.std.proofs.lemmas.Bool.{cases_lt}
-use Rattle.std.proofs.lemmas.Int.{ints}
 use Rattle.std.proofs.lemmas.List.{length-set}
-use Rattle.std.proofs.lemmas.List.Sums.{sum_by-set}
 use Rattle.prl_plan.specs.Vocabulary.{AreDeadlines, Family, place_in, IsWellFormed, task_at, release_of}
 use Rattle.prl_plan.specs.declared.graphs.TaskGraph.{TaskGraph}
 use Rattle.prl_plan.proofs.RoundPeriods.{task_is}

@@ -1,8 +1,5 @@
 -- One lane more of a round, and what holds when all have asked.
-use Rattle.std.proofs.Common.{◌≡◌, ◌+◌, ◌<◌, ◌≤◌, ◌^◌, ℕ, Bool, List, length, Some, inl, inr, refl, ◌∙◌, ap, subst, arith}
-use Rattle.std.specs.Prelude.{slice_get, slice_index}
-use Rattle.std.proofs.lemmas.Bool.{cases_lt}
-use Rattle.std.proofs.lemmas.Option.{slice_get_within}
+use Rattle.prl_base.proofs.Standard.{◌≡◌, ◌+◌, ◌<◌, ◌≤◌, ◌^◌, ℕ, Bool, List, length, Some, inl, inr, refl, ◌∙◌, ap, subst, arith, slice_get, slice_index, cases_lt, slice_get_within}
 use Rattle.prl_plan.specs.Vocabulary.{place_in, task_at, IsWellFormed, jobs_in_hyperperiod}
 use Rattle.prl_plan.specs.declared.graphs.TaskGraph.{TaskGraph}
 use Rattle.prl_plan.proofs.RoundPeriods.{task_is}

@@ -1,10 +1,8 @@
 -- Each well-formed graph has encoded dates, or a fault.
-use Rattle.std.proofs.Common.{◌≡◌, ◌+◌, ◌-◌, ◌<◌, ◌≤◌, ◌⊎◌, ◌++◌, ℕ, zero, suc, List, [], ◌∷◌, length, replicate, take, sum, Some, inl, inr, refl, sym, ◌∙◌, ap, subst, arith}
-use Rattle.std.specs.Prelude.{Option, None, pos, slice_get, slice_index}
+use Rattle.prl_base.proofs.Standard.{◌≡◌, ◌+◌, ◌-◌, ◌<◌, ◌≤◌, ◌⊎◌, ◌++◌, ℕ, zero, suc, List, [], ◌∷◌, length, replicate, take, sum, Some, inl, inr, refl, sym, ◌∙◌, ap, subst, arith, Option, None, pos}
+use Rattle.prl_base.proofs.Standard.{slice_get, slice_index, cases_eq, cases_lt, length_push, get_or_push, get_or_append_left, same_Some, slice_get_within}
 use Rattle.std.proofs.Math.ListN.{set}
-use Rattle.std.proofs.lemmas.Bool.{cases_eq, cases_lt}
-use Rattle.std.proofs.lemmas.List.{length-set, length_push, get_or_push, get_or_append_left}
-use Rattle.std.proofs.lemmas.Option.{same_Some, slice_get_within}
+use Rattle.std.proofs.lemmas.List.{length-set}
 use Rattle.prl_base.specs.declared.numbers.TaskNo.{TaskNo}
 use Rattle.prl_plan.specs.Vocabulary.{AreEncodedDates, no_window, IsWellFormed, jobs_in_hyperperiod, task_at, deadline_of, HaveRoom, AreShortWindows}
 use Rattle.prl_plan.specs.declared.graphs.TaskGraph.{TaskGraph}

@@ -1,9 +1,6 @@
 -- Each well-formed graph has lanes.
-use Rattle.std.proofs.Common.{◌≡◌, ◌+◌, ◌<◌, ◌≤◌, ◌⊎◌, ◌++◌, ℕ, zero, suc, List, [], ◌∷◌, length, Some, inl, inr, refl, sym, ◌∙◌, ap, subst, arith}
-use Rattle.std.specs.Prelude.{ℤ, pos, ◌-ℤ◌, unsigned_abs, slice_get, slice_index_or}
-use Rattle.std.specs.Int.{int_max}
-use Rattle.std.proofs.lemmas.Bool.{cases_eq}
-use Rattle.std.proofs.lemmas.Option.{slice_get-get_or, slice_get_within, same_Some}
+use Rattle.prl_base.proofs.Standard.{◌≡◌, ◌+◌, ◌<◌, ◌≤◌, ◌⊎◌, ◌++◌, ℕ, zero, suc, List, [], ◌∷◌, length, Some, inl, inr, refl, sym, ◌∙◌, ap, subst, arith, ℤ, pos, ◌-ℤ◌, unsigned_abs, slice_get}
+use Rattle.prl_base.proofs.Standard.{slice_index_or, int_max, cases_eq, slice_get-get_or, slice_get_within, same_Some}
 use Rattle.prl_base.specs.declared.numbers.TaskNo.{TaskNo}
 use Rattle.prl_plan.specs.Vocabulary.{place_in, IsWellFormed, task_at, release_of, edge_at, no_edge, preceding, ComesFrom}
 use Rattle.prl_plan.specs.declared.graphs.Edge.{Edge}

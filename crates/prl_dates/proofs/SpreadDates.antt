@@ -1,9 +1,6 @@
 -- The tables of ends tell the least spread releases, and so do their shortest lists.
-use Rattle.std.proofs.Common.{◌≡◌, ◌+◌, ◌-◌, ◌<◌, ◌≤◌, ◌^◌, ℕ, true, List, length, Some, sym, ◌∙◌, ap, arith}
-use Rattle.std.specs.Prelude.{ℤ, pos, ◌+ℤ◌, ◌-ℤ◌, ◌≤ℤ◌, filter, slice_get, slice_index, ◌==◌}
-use Rattle.std.proofs.lemmas.Bool.{eq-eqb, eqb-true}
-use Rattle.std.proofs.lemmas.Int.{ints}
-use Rattle.std.proofs.lemmas.Option.{slice_get_within}
+use Rattle.prl_base.proofs.Standard.{◌≡◌, ◌+◌, ◌-◌, ◌<◌, ◌≤◌, ◌^◌, ℕ, true, List, length, Some, sym, ◌∙◌, ap, arith, ℤ, pos, ◌+ℤ◌, ◌-ℤ◌, ◌≤ℤ◌, filter, slice_get, slice_index, ◌==◌, eq-eqb, eqb-true}
+use Rattle.prl_base.proofs.Standard.{ints, slice_get_within}
 use Rattle.prl_plan.specs.Vocabulary.{Family, RepeatsByHyper, place_in, window_at, encoded_release, encoded_deadline, jobs_in_hyperperiod, Job, task_at, release_of, PlanView, IsPlan, Precedes}
 use Rattle.prl_plan.specs.Vocabulary.{AreTogether, AreSpreadReleases, IsSpread}
 use Rattle.prl_plan.specs.declared.tables.Window.{Window}

@@ -1,8 +1,6 @@
 -- Tables of a plan's dates as they are made and raised.
-use Rattle.std.proofs.Common.{rules, ◌≡◌, ◌+◌, ◌*◌, ◌<◌, ◌≤◌, ◌++◌, ℕ, zero, suc, Bool, true, false, List, [], ◌∷◌, length, Some, inl, inr, refl, sym, ◌∙◌, ap, subst, arith, cond}
-use Rattle.std.specs.Prelude.{sum, filter, slice_get, slice_index}
-use Rattle.std.proofs.lemmas.Bool.{cases_lt}
-use Rattle.std.proofs.lemmas.List.Sums.{sum_by-cons}
+use Rattle.prl_base.proofs.Standard.{rules, ◌≡◌, ◌+◌, ◌*◌, ◌<◌, ◌≤◌, ◌++◌, ℕ, zero, suc, Bool, true, false, List, [], ◌∷◌, length, Some, inl, inr, refl, sym, ◌∙◌, ap, subst, arith, cond, sum, filter}
+use Rattle.prl_base.proofs.Standard.{slice_get, slice_index, cases_lt, sum_by-cons}
 use Rattle.prl_plan.specs.Plans.{PlanView}
 use Rattle.prl_dates.specs.Vocabulary.{Bound, jobs_of, jobs_before, bound_of, IsTablePart, AreWithin}
 use Rattle.prl_dates.proofs.FirstTables.{get_first, get_second, length_both}

@@ -1,11 +1,7 @@
 -- Turns: after how many jobs the jobs that precede them come again.
-use Rattle.std.proofs.Common.{◌≡◌, ◌+◌, ◌-◌, ◌*◌, ◌/◌, ◌<◌, ◌≤◌, ◌^◌, ◌++◌, w64, to_z, of_z, ℕ, zero, suc, List, [], ◌∷◌, take, length, get_or, refl, sym, ◌∙◌, ap, subst, arith}
-use Rattle.std.specs.Prelude.{ℤ, pos, negsuc, ◌+ℤ◌, ◌*ℤ◌}
-use Rattle.std.specs.Int.{IsGcd}
+use Rattle.prl_base.proofs.Standard.{◌≡◌, ◌+◌, ◌-◌, ◌*◌, ◌/◌, ◌<◌, ◌≤◌, ◌^◌, ◌++◌, w64, to_z, of_z, ℕ, zero, suc, List, [], ◌∷◌, take, length, get_or, refl, sym, ◌∙◌, ap, subst, arith, ℤ, pos, negsuc}
+use Rattle.prl_base.proofs.Standard.{◌+ℤ◌, ◌*ℤ◌, IsGcd, div-mul_cancel, div-le_self, mul-le-mul_left, ints, to_z-of_z, to_z_pos, get_or_default, take_more}
 use lib.IntN.{suc_ℤ, pred_ℤ}
-use Rattle.std.proofs.Math.Nat.{div-mul_cancel, div-le_self, mul-le-mul_left}
-use Rattle.std.proofs.lemmas.Int.{ints, to_z-of_z, to_z_pos}
-use Rattle.std.proofs.lemmas.List.{get_or_default, take_more}
 use Rattle.prl_base.specs.Operators.{preceding_number, floor_div}
 use Rattle.prl_base.specs.declared.operators.Op.{Op}
 use Rattle.prl_base.specs.declared.operators.Op.TheVariants as operators

@@ -1,8 +1,6 @@
 -- What tables of a hyperperiod tell over all jobs: they rise along each task, and lists of windows made from them tell the same.
-use Rattle.std.proofs.Common.{◌≡◌, ◌+◌, ◌*◌, ◌/◌, ◌<◌, ◌≤◌, ℕ, zero, suc, List, [], length, get_or, refl, sym, ◌∙◌, ap, subst, arith}
-use Rattle.std.specs.Prelude.{ℤ, pos, negsuc, ◌+ℤ◌, ◌-ℤ◌, ◌≤ℤ◌, slice_index, slice_index_or}
-use Rattle.std.proofs.Math.Nat.{mod-add-div', mul-div_cancel}
-use Rattle.std.proofs.lemmas.Int.{ints}
+use Rattle.prl_base.proofs.Standard.{◌≡◌, ◌+◌, ◌*◌, ◌/◌, ◌<◌, ◌≤◌, ℕ, zero, suc, List, [], length, get_or, refl, sym, ◌∙◌, ap, subst, arith, ℤ, pos, negsuc, ◌+ℤ◌, ◌-ℤ◌, ◌≤ℤ◌, slice_index}
+use Rattle.prl_base.proofs.Standard.{slice_index_or, mod-add-div', mul-div_cancel, ints}
 use Rattle.prl_plan.specs.Vocabulary.{Family, RepeatsByHyper, place_in, no_window, window_at, IsWellFormed, task_at, release_of}
 use Rattle.prl_plan.specs.declared.graphs.TaskGraph.{TaskGraph}
 use Rattle.prl_plan.specs.declared.tables.Window.{Window}

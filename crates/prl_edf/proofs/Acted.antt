@@ -1,7 +1,5 @@
 -- Lists of one event, and where a job's list of actions ends.
-use Rattle.std.proofs.Common.{◌≡◌, ◌+◌, ◌<◌, ◌++◌, ℕ, List, [], ◌∷◌, length, replicate, append_assoc, inl, inr, sym, ap, ◌∙◌, arith}
-use Rattle.std.proofs.lemmas.Bool.{cases_lt}
-use Rattle.std.proofs.lemmas.List.{replicate_more}
+use Rattle.prl_base.proofs.Standard.{◌≡◌, ◌+◌, ◌<◌, ◌++◌, ℕ, List, [], ◌∷◌, length, replicate, append_assoc, inl, inr, sym, ap, ◌∙◌, arith, cases_lt, replicate_more}
 use Rattle.prl_plan.specs.declared.events.Action.TheVariants as actions
 use Rattle.prl_plan.specs.Vocabulary.{IsJob, RunConstants, action_at}
 use Rattle.prl_plan.specs.declared.events.Event.{Event}

@@ -1,8 +1,7 @@
 -- All acts of one job, one after another.
-use Rattle.std.proofs.Common.{◌≡◌, ◌≢◌, ◌+◌, ◌<◌, ◌++◌, ℕ, zero, suc, List, [], ◌∷◌, length, get_or, replicate, set, inl, inr, refl, sym, ap, subst, ◌∙◌, arith}
-use Rattle.std.proofs.lemmas.Bool.{cases_eq}
-use Rattle.std.proofs.lemmas.Grind.{get_or-set_at}
-use Rattle.std.proofs.lemmas.List.{get_or-set_other, length-set}
+use Rattle.prl_base.proofs.Standard.{◌≡◌, ◌≢◌, ◌+◌, ◌<◌, ◌++◌, ℕ, zero, suc, List, [], ◌∷◌, length, get_or, replicate, set, inl, inr, refl, sym, ap, subst, ◌∙◌, arith, cases_eq, get_or-set_at}
+use Rattle.prl_base.proofs.Standard.{get_or-set_other}
+use Rattle.std.proofs.lemmas.List.{length-set}
 use Rattle.prl_plan.specs.Vocabulary.{IsJob, RunConstants, ExecState, action_at, next_action, after_action, after_event, after_events, IsUnfinished, KeepsLegal, IsLegal}
 use Rattle.prl_plan.specs.declared.events.Action.{Action}
 use Rattle.prl_plan.specs.declared.events.Event.{Event}

@@ -1,9 +1,6 @@
 -- The events of a run by earliest deadline first that meets all windows are legal, and in the end each job has ended.
-use Rattle.std.proofs.Common.{◌≡◌, ◌≢◌, ◌+◌, ◌<◌, ◌≤◌, ℕ, zero, suc, List, [], ◌∷◌, Option, Some, None, Bool, cond, length, get_or, replicate, inl, inr, refl, sym, ap, subst, ◌∙◌, arith}
-use Rattle.std.proofs.lemmas.Bool.{cases_lt, cases_eq}
-use Rattle.std.proofs.Math.ListN.{get_or-eq_default}
-use Rattle.std.proofs.lemmas.List.{get_or-replicate, length-replicate}
-use Rattle.std.proofs.lemmas.Bool.Decides.{eqb_tells}
+use Rattle.prl_base.proofs.Standard.{◌≡◌, ◌≢◌, ◌+◌, ◌<◌, ◌≤◌, ℕ, zero, suc, List, [], ◌∷◌, Option, Some, None, Bool, cond, length, get_or, replicate, inl, inr, refl, sym, ap, subst, ◌∙◌, arith}
+use Rattle.prl_base.proofs.Standard.{cases_lt, cases_eq, get_or-eq_default, get_or-replicate, length-replicate, eqb_tells}
 use Rattle.prl_plan.specs.Vocabulary.{IsJob, HasPlanFacts, RunConstants, ExecState, opening, after_event, after_events, IsUnfinished, KeepsLegal, IsLegal, IsComplete}
 use Rattle.prl_plan.specs.declared.events.Event.{Event}
 use Rattle.prl_plan.specs.declared.events.Event.TheVariants as events

@@ -1,6 +1,5 @@
 -- A job that misses its window in a run by earliest deadline first shows an overloaded interval that ends with its deadline.
-use Rattle.std.proofs.Common.{◌≡◌, ◌+◌, ◌<◌, ◌≤◌, ◌⊎◌, ℕ, zero, suc, Option, Some, None, inl, inr, arith}
-use Rattle.std.proofs.lemmas.Bool.{cases_lt}
+use Rattle.prl_base.proofs.Standard.{◌≡◌, ◌+◌, ◌<◌, ◌≤◌, ◌⊎◌, ℕ, zero, suc, Option, Some, None, inl, inr, arith, cases_lt}
 use Rattle.prl_plan.specs.Vocabulary.{IsJob, RunConstants}
 use Rattle.prl_edf.specs.Vocabulary.{sum_of_jobs, cost_within, IsOverloaded, units_before, IsReady, AreUnits, IsEdfRun}
 use Rattle.prl_edf.proofs.Busy.{AreGoodSince, good_since}

@@ -1,6 +1,5 @@
 -- The least end of an overloaded interval is the earliest deadline that a run by earliest deadline first misses.
-use Rattle.std.proofs.Common.{◌≡◌, ◌-◌, ◌≤◌, ◌⊎◌, ℕ, Option, inl, inr, refl, sym, subst, arith}
-use Rattle.std.proofs.lemmas.Bool.{cases_lt}
+use Rattle.prl_base.proofs.Standard.{◌≡◌, ◌-◌, ◌≤◌, ◌⊎◌, ℕ, Option, inl, inr, refl, sym, subst, arith, cases_lt}
 use Rattle.prl_plan.specs.Vocabulary.{IsJob, HasPlanFacts, RunConstants}
 use Rattle.prl_edf.specs.Vocabulary.{cost_within, demand, IsOverloaded, IsFirstOverload, units_before, IsTimedRun, AreUnits, IsEdfRun, MissesWindow, IsFirstMiss}
 use Rattle.prl_edf.proofs.Best.{none_or_least}

@@ -1,6 +1,5 @@
 -- Runs in which each job has all that it costs.
-use Rattle.std.proofs.Common.{◌≡◌, ◌<◌, ◌≤◌, ◌^◌, ℕ, List, [], length, get_or, replicate, Option, sym, ap, ◌∙◌, arith}
-use Rattle.std.proofs.lemmas.List.{get_or-replicate, length-replicate}
+use Rattle.prl_base.proofs.Standard.{◌≡◌, ◌<◌, ◌≤◌, ◌^◌, ℕ, List, [], length, get_or, replicate, Option, sym, ap, ◌∙◌, arith, get_or-replicate, length-replicate}
 use Rattle.prl_plan.specs.Vocabulary.{IsJob, task_at, PlanView, IsPlan, RunConstants}
 use Rattle.prl_plan.proofs.RoundPeriods.{task_is}
 use Rattle.prl_edf.specs.Vocabulary.{Outcome, ComesTo, run_of, IsReady, IsEdfRun, IsPlainRun, IsFirstMiss, MeetsAllWindows, AreFullLists}

@@ -1,9 +1,7 @@
 -- A run by earliest deadline first, made segment by segment.
-use Rattle.std.proofs.Common.{◌≡◌, ◌+◌, ◌-◌, ◌<◌, ◌≤◌, ◌⊎◌, ℕ, zero, suc, List, set, Option, Some, None, inl, inr, refl, sym, ap, subst, ◌∙◌, arith}
-use Rattle.std.specs.Prelude.{MatchOption}
-use Rattle.std.proofs.lemmas.Bool.{cases_lt, cases_eq}
-use Rattle.std.proofs.lemmas.Grind.{get_or-set_at}
-use Rattle.std.proofs.lemmas.List.{get_or-set_other, length-set}
+use Rattle.prl_base.proofs.Standard.{◌≡◌, ◌+◌, ◌-◌, ◌<◌, ◌≤◌, ◌⊎◌, ℕ, zero, suc, List, set, Option, Some, None, inl, inr, refl, sym, ap, subst, ◌∙◌, arith, MatchOption, cases_lt, cases_eq}
+use Rattle.prl_base.proofs.Standard.{get_or-set_at, get_or-set_other}
+use Rattle.std.proofs.lemmas.List.{length-set}
 use Rattle.prl_plan.specs.Vocabulary.{IsJob, HasPlanFacts, RunConstants}
 use Rattle.prl_edf.specs.Vocabulary.{units_before, IsReady, IsPlainRun, IsFirstMiss, MeetsAllWindows, Rest, Ready, Choice, Extends, rest_of, IsFirstReady, NoneReady, IsChoice, IsRestOf, IsDoneTask}
 use Rattle.prl_edf.specs.Vocabulary.{IsFresh, IsPlainTo, IsGoing}

@@ -1,7 +1,5 @@
 -- The pieces of a run while it is made.
-use Rattle.std.proofs.Common.{◌≡◌, ◌+◌, ◌-◌, ◌<◌, ◌≤◌, ℕ, List, [], length, set, min, Option, Some, None, inl, inr, refl, sym, subst, arith}
-use Rattle.std.specs.Prelude.{MatchOption}
-use Rattle.std.proofs.lemmas.Bool.{cases_lt}
+use Rattle.prl_base.proofs.Standard.{◌≡◌, ◌+◌, ◌-◌, ◌<◌, ◌≤◌, ℕ, List, [], length, set, min, Option, Some, None, inl, inr, refl, sym, subst, arith, MatchOption, cases_lt}
 use Rattle.prl_plan.specs.Vocabulary.{HasPlanFacts, RunConstants}
 use Rattle.prl_edf.specs.Vocabulary.{AreUnits, IsPlainRun, IsFirstMiss, IsFeasibleRun, run_of, AreLongest, Piece, Rest, Ready, Choice, Extends, EndBy, IsFirstReady, NoneReady, IsChoice, IsRestOf}
 use Rattle.prl_edf.specs.Vocabulary.{IsDoneTask, IsRestAfter, AreRests, IsMaking}

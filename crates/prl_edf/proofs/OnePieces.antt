@@ -1,6 +1,5 @@
 -- A run has one list of pieces that are as long as possible, and a plan one verdict.
-use Rattle.std.proofs.Common.{◌≡◌, ◌≤◌, ℕ, List, [], ◌∷◌, Some, None, inl, inr, refl, sym, ap, ◌∙◌, arith}
-use Rattle.std.proofs.lemmas.Bool.{cases_lt}
+use Rattle.prl_base.proofs.Standard.{◌≡◌, ◌≤◌, ℕ, List, [], ◌∷◌, Some, None, inl, inr, refl, sym, ap, ◌∙◌, arith, cases_lt}
 use Rattle.prl_plan.specs.Vocabulary.{HasPlanFacts, RunConstants}
 use Rattle.prl_edf.specs.Vocabulary.{Verdict, Piece, demand, run_of, AreLongest, IsVerdict}
 use Rattle.prl_edf.specs.declared.analysis.Verdict.TheVariants as verdicts

@@ -1,6 +1,5 @@
 -- Plain runs are one.
-use Rattle.std.proofs.Common.{◌≡◌, ◌<◌, ◌≤◌, ℕ, zero, suc, Option, Some, inl, inr, sym, ap, subst, ◌∙◌, arith}
-use Rattle.std.proofs.lemmas.Bool.{cases_lt}
+use Rattle.prl_base.proofs.Standard.{◌≡◌, ◌<◌, ◌≤◌, ℕ, zero, suc, Option, Some, inl, inr, sym, ap, subst, ◌∙◌, arith, cases_lt}
 use Rattle.prl_plan.specs.Vocabulary.{IsJob, HasPlanFacts, RunConstants}
 use Rattle.prl_edf.specs.Vocabulary.{IsPlainRun, IsPlainTo}
 use Rattle.prl_edf.proofs.Going.{same_units, ready_same}

@@ -1,6 +1,5 @@
 -- A timed run that gives the jobs within an interval all that they cost has no more ticks there than the interval.
-use Rattle.std.proofs.Common.{◌≡◌, ◌+◌, ◌-◌, ◌≤◌, ℕ, zero, suc, Option, inl, inr, ◌∙◌, arith}
-use Rattle.std.proofs.lemmas.Bool.{cases_lt}
+use Rattle.prl_base.proofs.Standard.{◌≡◌, ◌+◌, ◌-◌, ◌≤◌, ℕ, zero, suc, Option, inl, inr, ◌∙◌, arith, cases_lt}
 use Rattle.prl_plan.specs.Vocabulary.{IsJob, RunConstants}
 use Rattle.prl_edf.specs.Vocabulary.{sum_of_jobs, cost_within, demand, units_before, IsTimedRun, MeetsWindow}
 use Rattle.prl_edf.proofs.Sums.{jobs_rise, jobs_none, jobs_by_one}

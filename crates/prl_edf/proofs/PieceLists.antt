@@ -1,7 +1,5 @@
 -- Lists of pieces, and the runs that they are.
-use Rattle.std.proofs.Common.{◌≡◌, ◌<◌, ◌≤◌, ◌⊎◌, ◌++◌, ℕ, List, [], ◌∷◌, Option, Some, None, Bool, true, false, cond, inl, inr, refl, sym, ap, subst, ◌∙◌, arith}
-use Rattle.std.proofs.lemmas.Bool.{cases_lt}
-use Rattle.std.proofs.lemmas.Bool.Decides.{nat_tests}
+use Rattle.prl_base.proofs.Standard.{◌≡◌, ◌<◌, ◌≤◌, ◌⊎◌, ◌++◌, ℕ, List, [], ◌∷◌, Option, Some, None, Bool, true, false, cond, inl, inr, refl, sym, ap, subst, ◌∙◌, arith, cases_lt, nat_tests}
 use Rattle.prl_edf.specs.Vocabulary.{Piece, lies_in, run_of, AreLongest, IsExtended, EndBy}
 
 pub lies : (p : Piece) (t : ℕ) → p.from ≤ t → t < p.to → lies_in p t ≡ true

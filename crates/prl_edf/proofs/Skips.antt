@@ -1,11 +1,7 @@
 -- The events up to a tick, where nothing is done on the way.
-use Rattle.std.proofs.Common.{◌≡◌, ◌+◌, ◌-◌, ◌<◌, ◌≤◌, ◌++◌, ◌⊎◌, ◌==◌, ℕ, zero, suc, Bool, true, false, cond, List, [], ◌∷◌, Option}
-use Rattle.std.proofs.Common.{Some, None, length, get_or, set, drop, reverse, replicate, append_assoc, drop-cons, add-one, inl, inr, refl, sym, ap, subst, ◌∙◌, arith}
-use Rattle.std.proofs.lemmas.Bool.{cases_lt, cases_eq}
-use Rattle.std.proofs.lemmas.Bool.Decides.{nat_tests, eqb_tells}
-use Rattle.std.proofs.lemmas.List.{append-nil, reverse-append, get_or-reverse, length-reverse, get_or-set_other, replicate_more}
-use Rattle.std.proofs.lemmas.Grind.{get_or-set_at}
-use Rattle.std.specs.Prelude.{slice_get}
+use Rattle.prl_base.proofs.Standard.{◌≡◌, ◌+◌, ◌-◌, ◌<◌, ◌≤◌, ◌++◌, ◌⊎◌, ◌==◌, ℕ, zero, suc, Bool, true, false, cond, List, [], ◌∷◌, Option, Some, None, length, get_or, set, drop, reverse, replicate}
+use Rattle.prl_base.proofs.Standard.{append_assoc, drop-cons, add-one, inl, inr, refl, sym, ap, subst, ◌∙◌, arith, cases_lt, cases_eq, nat_tests, eqb_tells, append-nil, reverse-append, get_or-reverse}
+use Rattle.prl_base.proofs.Standard.{length-reverse, get_or-set_other, replicate_more, get_or-set_at, slice_get}
 use Rattle.prl_plan.specs.Vocabulary.{IsJob, HasPlanFacts, RunConstants}
 use Rattle.prl_plan.specs.declared.events.Event.{Event}
 use Rattle.prl_plan.specs.declared.events.Event.TheVariants as kinds

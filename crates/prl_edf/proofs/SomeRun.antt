@@ -1,8 +1,6 @@
 -- There is a plain run.
-use Rattle.std.proofs.Common.{◌≡◌, ◌+◌, ◌*◌, ◌<◌, ◌≤◌, ◌⊎◌, ◌==◌, ℕ, zero, suc, Option, Some, None, true, false, cond, inl, inr, refl, sym, ap, subst, ◌∙◌, arith}
-use Rattle.std.proofs.Math.Nat.{mul-le-mul_right}
-use Rattle.std.proofs.lemmas.Bool.{cases_lt}
-use Rattle.std.proofs.lemmas.Bool.Decides.{nat_tests}
+use Rattle.prl_base.proofs.Standard.{◌≡◌, ◌+◌, ◌*◌, ◌<◌, ◌≤◌, ◌⊎◌, ◌==◌, ℕ, zero, suc, Option, Some, None, true, false, cond, inl, inr, refl, sym, ap, subst, ◌∙◌, arith, mul-le-mul_right, cases_lt}
+use Rattle.prl_base.proofs.Standard.{nat_tests}
 use Rattle.prl_plan.specs.Vocabulary.{IsJob, HasPlanFacts, RunConstants}
 use Rattle.prl_edf.specs.Vocabulary.{units_before, IsReady, IsPlainRun, IsPlainTo}
 use Rattle.prl_edf.proofs.Best.{none_or_least}

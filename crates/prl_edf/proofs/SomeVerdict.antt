@@ -1,7 +1,5 @@
 -- The jobs of each horizon have a verdict.
-use Rattle.std.proofs.Common.{◌≡◌, ◌+◌, ◌*◌, ◌<◌, ◌⊎◌, ◌++◌, ℕ, zero, suc, List, [], ◌∷◌, Option, Some, None, inl, inr, refl, sym, ap, subst, ◌∙◌, arith}
-use Rattle.std.proofs.Math.Path.{fun_ext}
-use Rattle.std.proofs.lemmas.Bool.{cases_eq, cases_lt}
+use Rattle.prl_base.proofs.Standard.{◌≡◌, ◌+◌, ◌*◌, ◌<◌, ◌⊎◌, ◌++◌, ℕ, zero, suc, List, [], ◌∷◌, Option, Some, None, inl, inr, refl, sym, ap, subst, ◌∙◌, arith, fun_ext, cases_eq, cases_lt}
 use Rattle.prl_plan.specs.Runs.{RunConstants}
 use Rattle.prl_edf.specs.Vocabulary.{Verdict, Piece, demand, IsFirstOverload, IsOverloaded, IsPlainRun, MissesWindow, MeetsAllWindows, IsFirstMiss, run_of, AreLongest, units_before, IsVerdict}
 use Rattle.prl_edf.specs.Vocabulary.{IsExtended, EndBy}

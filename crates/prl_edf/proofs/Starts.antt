@@ -1,9 +1,6 @@
 -- The demand of the intervals that end at one tick, from the last beginning on down.
-use Rattle.std.proofs.Common.{◌≡◌, ◌+◌, ◌-◌, ◌*◌, ◌<◌, ◌≤◌, ℕ, zero, suc, List, length, get_or, set, add-one, Option, inl, inr, refl, sym, ap, ◌∙◌, arith}
-use Rattle.std.proofs.lemmas.Bool.{cases_lt, cases_eq}
-use Rattle.std.proofs.lemmas.Grind.{get_or-set_at}
-use Rattle.std.proofs.lemmas.List.{get_or-set_other}
-use Rattle.std.proofs.lemmas.Bool.Decides.{nat_tests}
+use Rattle.prl_base.proofs.Standard.{◌≡◌, ◌+◌, ◌-◌, ◌*◌, ◌<◌, ◌≤◌, ℕ, zero, suc, List, length, get_or, set, add-one, Option, inl, inr, refl, sym, ap, ◌∙◌, arith, cases_lt, cases_eq, get_or-set_at}
+use Rattle.prl_base.proofs.Standard.{get_or-set_other, nat_tests}
 use Rattle.prl_plan.specs.Vocabulary.{HasPlanFacts, sum_below, RunConstants}
 use Rattle.prl_edf.specs.Vocabulary.{sum_of_jobs, cost_within, demand, IsOverloaded, IsFirstOverload, AreUnits, IsEdfRun, IsFirstMiss, cost_at, starts_at, IsGreatest}
 use Rattle.prl_edf.proofs.Sums.{jobs_none}

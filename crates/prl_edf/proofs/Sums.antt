@@ -1,6 +1,5 @@
 -- Sums over the horizon jobs, compared part by part.
-use Rattle.std.proofs.Common.{◌≡◌, ◌+◌, ◌<◌, ◌≤◌, ℕ, zero, suc, inl, inr, refl, subst, arith}
-use Rattle.std.proofs.lemmas.Bool.{cases_lt}
+use Rattle.prl_base.proofs.Standard.{◌≡◌, ◌+◌, ◌<◌, ◌≤◌, ℕ, zero, suc, inl, inr, refl, subst, arith, cases_lt}
 use Rattle.prl_plan.specs.Vocabulary.{IsJob, sum_below, RunConstants}
 use Rattle.prl_edf.specs.Demand.{sum_of_jobs}
 

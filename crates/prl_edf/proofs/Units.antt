@@ -1,7 +1,5 @@
 -- How the units of a job rise, tick by tick.
-use Rattle.std.proofs.Common.{◌≡◌, ◌+◌, ◌≤◌, ℕ, zero, suc, Option, Some, None, true, false, ◌⊎◌, inl, inr, refl, sym, ap, ◌∙◌, arith}
-use Rattle.std.proofs.lemmas.Bool.{cases_lt}
-use Rattle.std.proofs.lemmas.Bool.Decides.{nat_tests}
+use Rattle.prl_base.proofs.Standard.{◌≡◌, ◌+◌, ◌≤◌, ℕ, zero, suc, Option, Some, None, true, false, ◌⊎◌, inl, inr, refl, sym, ap, ◌∙◌, arith, cases_lt, nat_tests}
 use Rattle.prl_plan.specs.Runs.{RunConstants}
 use Rattle.prl_edf.specs.Vocabulary.{is_within, cost_within, unit_of, units_before, IsTimedRun}
 

@@ -1,8 +1,7 @@
 -- A flow that is given all its values at once.
-use Rattle.std.proofs.Common.{◌≡◌, ◌+◌, ◌<◌, ◌≤◌, inl, inr, ℕ, List, [], ◌∷◌, ◌++◌, length, set, Some, Result, Ok, Err, IfOk, slice_get, slice_index_or, refl, sym, ◌∙◌, ap, subst, arith}
-use Rattle.std.proofs.lemmas.Bool.{cases_eq, cases_lt}
-use Rattle.std.proofs.lemmas.List.{get_or_append_left, get_or_push, length_push, get_or-set_other, get_or-set_same, length-set, get_or_default}
-use Rattle.std.proofs.lemmas.Option.{same_Some, slice_get_within}
+use Rattle.prl_base.proofs.Standard.{◌≡◌, ◌+◌, ◌<◌, ◌≤◌, inl, inr, ℕ, List, [], ◌∷◌, ◌++◌, length, set, Some, Result, Ok, Err, IfOk, slice_get, slice_index_or, refl, sym, ◌∙◌, ap, subst, arith}
+use Rattle.prl_base.proofs.Standard.{cases_eq, cases_lt, get_or_append_left, get_or_push, length_push, get_or-set_other, get_or_default, same_Some, slice_get_within}
+use Rattle.std.proofs.lemmas.List.{get_or-set_same, length-set}
 use Rattle.prl_base.specs.Clocks.{IsClock, date_at}
 use Rattle.prl_base.specs.declared.numbers.FlowNo.{FlowNo}
 use Rattle.prl_base.specs.declared.values.Value.{Value}

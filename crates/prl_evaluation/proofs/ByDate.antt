@@ -1,11 +1,7 @@
 -- Dates of clocks that come one after another, and flows that have their values up to a date.
-use Rattle.std.proofs.Common.{◌≡◌, ◌+◌, ◌*◌, ◌<◌, ◌≤◌, inl, inr, ℕ, zero, suc, List, [], ◌∷◌, map, length, Some, slice_get, slice_index, slice_index_or, refl, sym, ◌∙◌, add-one, ap, subst, arith}
-use Rattle.std.specs.List.{Contains}
-use Rattle.std.specs.List.Sorted.{IsStrictlyIncreasing}
-use Rattle.std.proofs.Math.Nat.{lt_of_mul-lt-mul_right, mul-le-mul_right}
-use Rattle.std.proofs.lemmas.Bool.{cases_eq, cases_lt}
-use Rattle.std.proofs.lemmas.List.{get_or_default, length-map}
-use Rattle.std.proofs.lemmas.Option.{same_Some, slice_get-get_or, slice_get_within}
+use Rattle.prl_base.proofs.Standard.{◌≡◌, ◌+◌, ◌*◌, ◌<◌, ◌≤◌, inl, inr, ℕ, zero, suc, List, [], ◌∷◌, map, length, Some, slice_get, slice_index, slice_index_or, refl, sym, ◌∙◌, add-one, ap, subst}
+use Rattle.prl_base.proofs.Standard.{arith, Contains, IsStrictlyIncreasing, lt_of_mul-lt-mul_right, mul-le-mul_right, cases_eq, cases_lt, get_or_default, length-map, same_Some, slice_get-get_or}
+use Rattle.prl_base.proofs.Standard.{slice_get_within}
 use Rattle.prl_base.specs.Clocks.{IsClock, IsDate, date_at}
 use Rattle.prl_base.specs.declared.numbers.FlowNo.{FlowNo}
 use Rattle.prl_base.specs.declared.operators.Clock.{Clock}

@@ -1,8 +1,7 @@
 -- Groups of flows that are filled together, and what is left then.
-use Rattle.std.proofs.Common.{◌≡◌, ◌≢◌, ◌+◌, ◌<◌, ◌≤◌, inl, inr, ℕ, zero, suc, Bool, true, false, List, [], ◌∷◌, length, IfSome, Option, None, Some, slice_get, slice_index_or, refl, sym, ◌∙◌, ap, subst, arith, cond, not}
+use Rattle.prl_base.proofs.Standard.{◌≡◌, ◌≢◌, ◌+◌, ◌<◌, ◌≤◌, inl, inr, ℕ, zero, suc, Bool, true, false, List, [], ◌∷◌, length, IfSome, Option, None, Some, slice_get, slice_index_or, refl, sym, ◌∙◌}
+use Rattle.prl_base.proofs.Standard.{ap, subst, arith, cond, not, cases_Bool, cases_eq, cases_order, eq-eqb, eqb-true, same_Some, slice_get_read, slice_get_within}
 use Rattle.std.specs.List.{filter}
-use Rattle.std.proofs.lemmas.Bool.{cases_Bool, cases_eq, cases_order, eq-eqb, eqb-true}
-use Rattle.std.proofs.lemmas.Option.{same_Some, slice_get_read, slice_get_within}
 use Rattle.prl_base.specs.Clocks.{IsClock, date_at}
 use Rattle.prl_base.specs.declared.numbers.FlowNo.{FlowNo}
 use Rattle.prl_base.specs.declared.values.Value.{Value}

@@ -1,9 +1,7 @@
 -- One value more of a flow that is under way.
-use Rattle.std.proofs.Common.{◌≡◌, ◌+◌, ◌*◌, ◌^◌, ◌<◌, ◌≤◌, inl, inr, ℕ, zero, suc, List, [], ◌∷◌, ◌++◌, map, length, set, Some, slice_get, slice_index_or, refl, sym, ◌∙◌, ap, subst, arith}
-use Rattle.std.proofs.Math.Nat.{mul-le-mul_left}
-use Rattle.std.proofs.lemmas.Bool.{cases_eq, cases_lt}
-use Rattle.std.proofs.lemmas.List.{get_or-set_other, get_or-set_same, get_or_append_left, get_or_push, length-set, length_push}
-use Rattle.std.proofs.lemmas.Option.{same_Some, slice_get_within}
+use Rattle.prl_base.proofs.Standard.{◌≡◌, ◌+◌, ◌*◌, ◌^◌, ◌<◌, ◌≤◌, inl, inr, ℕ, zero, suc, List, [], ◌∷◌, ◌++◌, map, length, set, Some, slice_get, slice_index_or, refl, sym, ◌∙◌, ap, subst, arith}
+use Rattle.prl_base.proofs.Standard.{mul-le-mul_left, cases_eq, cases_lt, get_or-set_other, get_or_append_left, get_or_push, length_push, same_Some, slice_get_within}
+use Rattle.std.proofs.lemmas.List.{get_or-set_same, length-set}
 use Rattle.prl_base.specs.Vocabulary.{IsClock, date_at, type_of}
 use Rattle.prl_base.specs.declared.numbers.FlowNo.{FlowNo}
 use Rattle.prl_base.specs.declared.operators.Clock.{Clock}

@@ -1,6 +1,5 @@
 -- The next value of a flow, as the code reads it.
-use Rattle.std.proofs.Common.{◌≡◌, ◌^◌, ◌<◌, ℕ, List, length, set, Some, slice_get, slice_index_or, refl, sym, ◌∙◌, ap, subst, arith}
-use Rattle.std.proofs.lemmas.Option.{slice_get_read, slice_get_within}
+use Rattle.prl_base.proofs.Standard.{◌≡◌, ◌^◌, ◌<◌, ℕ, List, length, set, Some, slice_get, slice_index_or, refl, sym, ◌∙◌, ap, subst, arith, slice_get_read, slice_get_within}
 use Rattle.prl_base.specs.declared.values.Value.{Value}
 use Rattle.prl_flow.specs.Programs.{IsWellDefined}
 use Rattle.prl_flow.specs.declared.programs.App.{App}

@@ -1,8 +1,6 @@
 -- Seats dealt and put back, one slot after another.
-use Rattle.std.proofs.Common.{◌≡◌, ◌+◌, ◌<◌, ◌≤◌, ◌⊎◌, ◌++◌, ℕ, zero, suc, Bool, true, false, List, [], ◌∷◌}
-use Rattle.std.proofs.Common.{Option, Some, None, length, length-set, length-append, set, refl, sym, ◌∙◌, ap, subst, arith, inl, inr, ⊎_elim}
-use Rattle.std.specs.Prelude.{slice_get}
-use Rattle.std.proofs.lemmas.Bool.{cases_eq}
+use Rattle.prl_base.proofs.Standard.{◌≡◌, ◌+◌, ◌<◌, ◌≤◌, ◌⊎◌, ◌++◌, ℕ, zero, suc, Bool, true, false, List, [], ◌∷◌, Option, Some, None, length, length-set, length-append, set, refl, sym, ◌∙◌, ap}
+use Rattle.prl_base.proofs.Standard.{subst, arith, inl, inr, ⊎_elim, slice_get, cases_eq}
 use Rattle.prl_seats.specs.JobSeats.{JobSeatView}
 use Rattle.prl_exec.specs.Vocabulary.{Has, IsPut, IsTaken}
 use Rattle.prl_board.proofs.Lists.{set_at, set_else, set_here}

@@ -1,7 +1,5 @@
 -- What a read finds in the whole state.
-use Rattle.std.proofs.Common.{◌≡◌, ◌<◌, ℕ, List, get_or, sym, ◌∙◌, ap, arith, Some}
-use Rattle.std.specs.Prelude.{slice_get, slice_index}
-use Rattle.std.proofs.lemmas.Option.{slice_get-get_or}
+use Rattle.prl_base.proofs.Standard.{◌≡◌, ◌<◌, ℕ, List, get_or, sym, ◌∙◌, ap, arith, Some, slice_get, slice_index, slice_get-get_or}
 use Rattle.prl_base.specs.declared.numbers.EdgeNo.{EdgeNo}
 use Rattle.prl_plan.specs.declared.events.Action.TheVariants as actions
 use Rattle.prl_plan.specs.Vocabulary.{ReadsAt, IsWriter, last_tag, RunConstants, action_at}

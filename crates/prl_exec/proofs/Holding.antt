@@ -1,9 +1,7 @@
 -- The seats that a worker has, after one of them was polled.
-use Rattle.std.proofs.Common.{◌≡◌, ◌++◌, ℕ, zero, suc, List, [], ◌∷◌, Option, Some, None, length, length-set, set, refl, sym, ◌∙◌, ap, subst, inl, inr, ⊎_elim}
-use Rattle.std.specs.Prelude.{Vec, slice_get}
+use Rattle.prl_base.proofs.Standard.{◌≡◌, ◌++◌, ℕ, zero, suc, List, [], ◌∷◌, Option, Some, None, length, length-set, set, refl, sym, ◌∙◌, ap, subst, inl, inr, ⊎_elim, Vec, slice_get, cases_eq}
 use Rattle.std.specs.Vec.{vec_items}
 use Rattle.std.specs.declared.alloc.Global.{Global}
-use Rattle.std.proofs.lemmas.Bool.{cases_eq}
 use Rattle.prl_seats.specs.Vocabulary.{BoardView, IsSeatOf, JobSeatView}
 use Rattle.prl_board.proofs.Lists.{set_at, set_else, set_here}
 use Rattle.prl_exec.specs.Vocabulary.{AreHeld, Has, KeepSeats, IsSlotOf, IsSlotPolled}

@@ -1,7 +1,5 @@
 -- What a read leaves that was overrun.
-use Rattle.std.proofs.Common.{◌≡◌, ◌<◌, ℕ, Bool, refl, sym, ◌∙◌, ap, subst, arith, inl, inr, Some, length}
-use Rattle.std.specs.Prelude.{slice_get}
-use Rattle.std.proofs.lemmas.Bool.{cases_eq}
+use Rattle.prl_base.proofs.Standard.{◌≡◌, ◌<◌, ℕ, Bool, refl, sym, ◌∙◌, ap, subst, arith, inl, inr, Some, length, slice_get, cases_eq}
 use Rattle.prl_base.specs.declared.numbers.CellNo.{CellNo}
 use Rattle.prl_base.specs.declared.numbers.TaskNo.{TaskNo}
 use Rattle.prl_plan.specs.declared.events.Action.TheVariants as actions

@@ -1,10 +1,6 @@
 -- How one thread stands after a round: looks, ticks, and what may come next.
-use Rattle.std.proofs.Common.{◌≡◌, ◌+◌, ◌<◌, ◌≤◌, ◌++◌, ℕ, List, [], ◌∷◌, length, length-set, refl, sym, ◌∙◌, ap, subst, arith, inl, inr, Some, Bool, false}
-use Rattle.std.specs.Prelude.{slice_get, slice_index}
-use Rattle.std.proofs.lemmas.Bool.{cases_eq}
-use Rattle.std.proofs.lemmas.Grind.{get_or-set_at}
-use Rattle.std.proofs.lemmas.List.{get_or-set_other, get_or-replicate, length-replicate}
-use Rattle.std.proofs.lemmas.Option.{slice_get_within}
+use Rattle.prl_base.proofs.Standard.{◌≡◌, ◌+◌, ◌<◌, ◌≤◌, ◌++◌, ℕ, List, [], ◌∷◌, length, length-set, refl, sym, ◌∙◌, ap, subst, arith, inl, inr, Some, Bool, false, slice_get, slice_index, cases_eq}
+use Rattle.prl_base.proofs.Standard.{get_or-set_at, get_or-set_other, get_or-replicate, length-replicate, slice_get_within}
 use Rattle.prl_plan.specs.Vocabulary.{IsComplete, IsUnfinished, KeepsGated, RunConstants, ExecState, opening}
 use Rattle.prl_plan.specs.declared.events.Action.{Action}
 use Rattle.prl_plan.specs.declared.events.Event.{Event}

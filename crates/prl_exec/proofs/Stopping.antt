@@ -1,6 +1,5 @@
 -- What a closed board shows of a read that was overrun before it was closed.
-use Rattle.std.proofs.Common.{◌≡◌, ◌+◌, ◌/◌, ◌^◌, ◌<◌, ◌≤◌, ℕ, zero, suc, List, refl, sym, ◌∙◌, ap, subst, arith, inl, inr, Some}
-use Rattle.std.specs.Prelude.{IsSome, slice_get, slice_index}
+use Rattle.prl_base.proofs.Standard.{◌≡◌, ◌+◌, ◌/◌, ◌^◌, ◌<◌, ◌≤◌, ℕ, zero, suc, List, refl, sym, ◌∙◌, ap, subst, arith, inl, inr, Some, IsSome, slice_get, slice_index}
 use Rattle.prl_base.specs.declared.numbers.EdgeNo.{EdgeNo}
 use Rattle.prl_plan.specs.declared.events.Action.TheVariants as actions
 use Rattle.prl_plan.specs.Vocabulary.{IsJob, ReadsAt, IsWriter, last_tag, operand_of, IsActionOf, IsHalfOf, cell_of, edge_at, high, low, place_on, ComesFrom, IsFree, RunConstants, ExecState}

@@ -1,6 +1,5 @@
 -- What comes of a stage after a list of stages that all hold.
-use Rattle.std.specs.Prelude.{◌++◌, List, [], ◌∷◌, Result, IfOk, IfErr}
-use Rattle.std.proofs.Common.{inl}
+use Rattle.prl_base.proofs.Standard.{◌++◌, List, [], ◌∷◌, Result, IfOk, IfErr, inl}
 use Rattle.prl_stages.specs.Given.{Given}
 use Rattle.prl_stages.specs.Stages.{Holds}
 use Rattle.prl_stages.specs.declared.stages.Stage.{Stage}

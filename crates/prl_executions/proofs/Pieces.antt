@@ -1,6 +1,5 @@
 -- Lines from their pieces, most of them a name and a number.
-use Rattle.std.proofs.Common.{◌≡◌, ◌++◌, ◌∙◌, ℕ, ℤ, List, length, sum, codes, decimal, ap}
-use Rattle.std.specs.Fmt.{signed_decimal}
+use Rattle.prl_base.proofs.Standard.{◌≡◌, ◌++◌, ◌∙◌, ℕ, ℤ, List, length, sum, codes, decimal, ap, signed_decimal}
 use Rattle.std.proofs.lemmas.List.{append_assoc}
 use Rattle.prl_plan.specs.Plans.{PlanView}
 use Rattle.prl_stages.specs.Planned.{accepted_line}

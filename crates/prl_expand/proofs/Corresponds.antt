@@ -1,7 +1,5 @@
 -- The behaviours of a program are the solutions of the flat program of its expansion.
-use Rattle.std.proofs.Common.{◌≡◌, ◌+◌, ℕ, List, [], ◌∷◌, ◌++◌, map, length, Option, refl, sym, ap, ◌∙◌, subst}
-use Rattle.std.specs.List.{AllByRecursion, range_with_len}
-use Rattle.std.proofs.lemmas.List.{length-map}
+use Rattle.prl_base.proofs.Standard.{◌≡◌, ◌+◌, ℕ, List, [], ◌∷◌, ◌++◌, map, length, Option, refl, sym, ap, ◌∙◌, subst, AllByRecursion, range_with_len, length-map}
 use Rattle.prl_ast.specs.Trees.{ProgramTree}
 use Rattle.prl_base.specs.declared.values.Ty.{Ty}
 use Rattle.prl_body.specs.declared.bodies.CheckedBody.{CheckedBody}

@@ -1,8 +1,7 @@
 -- A node that is entered.
-use Rattle.std.proofs.Common.{◌≡◌, ◌+◌, ℕ, zero, suc, List, [], ◌∷◌, ◌++◌, map, length, drop, take, slice_get, Some, refl, sym, ap, ◌∙◌, subst, arith, append_assoc}
-use Rattle.std.specs.List.{range_with_len}
-use Rattle.std.proofs.lemmas.List.{map-append, length-append, length-map}
-use Rattle.std.proofs.lemmas.List.FromFn.{length-range_with_len}
+use Rattle.prl_base.proofs.Standard.{◌≡◌, ◌+◌, ℕ, zero, suc, List, [], ◌∷◌, ◌++◌, map, length, drop, take, slice_get, Some, refl, sym, ap, ◌∙◌, subst, arith, append_assoc, range_with_len, map-append}
+use Rattle.prl_base.proofs.Standard.{length-map, length-range_with_len}
+use Rattle.std.proofs.lemmas.List.{length-append}
 use Rattle.prl_ast.specs.Trees.{NodeTree, ProgramTree, program_tree}
 use Rattle.prl_ast.specs.declared.declarations.Param.{Param}
 use Rattle.prl_ast.specs.declared.declarations.Program.{Program}

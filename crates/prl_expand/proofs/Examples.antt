@@ -1,6 +1,5 @@
 -- Worked rows of expansions, by hand.
-use Rattle.std.proofs.Common.{◌≡◌, ℕ, pos, List, [], ◌∷◌, ◌++◌, map, None, refl}
-use Rattle.std.specs.Prelude.{codes, decimal}
+use Rattle.prl_base.proofs.Standard.{◌≡◌, ℕ, pos, List, [], ◌∷◌, ◌++◌, map, None, refl, codes, decimal}
 use Rattle.prl_base.specs.declared.numbers.FlowNo.{FlowNo}
 use Rattle.prl_base.specs.declared.places.Span.{Span}
 use Rattle.prl_base.specs.declared.operators.Op.TheVariants as ops

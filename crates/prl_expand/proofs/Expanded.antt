@@ -1,9 +1,7 @@
 -- What is numbered from the first on is the expansion.
-use Rattle.std.proofs.Common.{◌≡◌, ◌+◌, ◌<◌, ◌≤◌, ℕ, zero, suc, Bool, true, false, List, [], ◌∷◌, ◌++◌, length, slice_get, Option, Some, None, IsSome, refl, sym, ap, ◌∙◌, subst, arith}
-use Rattle.std.specs.Prelude.{reverse}
-use Rattle.std.specs.List.{range_with_len}
-use Rattle.std.proofs.lemmas.List.{length-append, length-reverse, reverse-reverse}
-use Rattle.std.proofs.lemmas.List.FromFn.{length-range_with_len}
+use Rattle.prl_base.proofs.Standard.{◌≡◌, ◌+◌, ◌<◌, ◌≤◌, ℕ, zero, suc, Bool, true, false, List, [], ◌∷◌, ◌++◌, length, slice_get, Option, Some, None, IsSome, refl, sym, ap, ◌∙◌, subst, arith, reverse}
+use Rattle.prl_base.proofs.Standard.{range_with_len, length-reverse, reverse-reverse, length-range_with_len}
+use Rattle.std.proofs.lemmas.List.{length-append}
 use Rattle.prl_base.specs.declared.places.Span.{Span}
 use Rattle.prl_ast.specs.declared.declarations.Import.{Import}
 use Rattle.prl_ast.specs.Trees.{Tree, tree, Root, const, var, apply, group, Trees, none, more, EquationTree, NodeTree, ProgramTree}

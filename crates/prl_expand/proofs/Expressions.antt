@@ -1,14 +1,10 @@
 -- Expressions, applications, and lists of them.
-use Rattle.std.proofs.Common.{◌≡◌, ◌<◌, ◌≤◌, ◌+◌, ◌-◌, ℕ, zero, suc, List, [], ◌∷◌, ◌++◌, map, length, drop, slice_get, get_or, Option, Some, None, refl, sym, ap, ◌∙◌, subst, arith}
-use Rattle.std.specs.Prelude.{reverse, Result, Ok, Err, OnOk, IfOk, IfErr}
-use Rattle.std.specs.Option.{option_map}
+use Rattle.prl_base.proofs.Standard.{◌≡◌, ◌<◌, ◌≤◌, ◌+◌, ◌-◌, ℕ, zero, suc, List, [], ◌∷◌, ◌++◌, map, length, drop, slice_get, get_or, Option, Some, None, refl, sym, ap, ◌∙◌, subst, arith, reverse}
+use Rattle.prl_base.proofs.Standard.{Result, Ok, Err, OnOk, IfOk, IfErr, option_map, slice_get_within, range_with_len, append-nil, reverse-reverse, drop_more, length-range_with_len}
 use Rattle.std.specs.Result.{IsErrAnd}
-use Rattle.std.proofs.lemmas.Option.{slice_get_within}
+use Rattle.std.proofs.lemmas.List.{length-append}
 use Rattle.prl_types.specs.Parameters.{parameter_or, first_of as first_param}
 use Rattle.prl_expand.proofs.Lists.{some_inner}
-use Rattle.std.specs.List.{range_with_len}
-use Rattle.std.proofs.lemmas.List.{append-nil, length-append, reverse-reverse, drop_more}
-use Rattle.std.proofs.lemmas.List.FromFn.{length-range_with_len}
 use Rattle.prl_base.specs.declared.places.Span.{Span}
 use Rattle.prl_base.specs.declared.values.Ty.{Ty}
 use Rattle.prl_ast.specs.Trees.{Root, var, apply, Trees, NodeTree, ProgramTree, equation_tree}

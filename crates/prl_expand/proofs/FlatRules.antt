@@ -1,8 +1,6 @@
 -- The rules of the flat program of an expansion are those that the text asks: the same hold.
-use Rattle.std.proofs.Common.{suc, ◌≡◌, ◌+◌, ℕ, List, [], ◌∷◌, ◌++◌, map, length, Some, slice_get, refl, sym, ap, ◌∙◌, subst, arith}
-use Rattle.std.specs.Prelude.{reverse}
-use Rattle.std.specs.List.{AllByRecursion}
-use Rattle.std.proofs.lemmas.List.{length-map, map-append, append_assoc, append-nil}
+use Rattle.prl_base.proofs.Standard.{suc, ◌≡◌, ◌+◌, ℕ, List, [], ◌∷◌, ◌++◌, map, length, Some, slice_get, refl, sym, ap, ◌∙◌, subst, arith, reverse, AllByRecursion, length-map, map-append, append-nil}
+use Rattle.std.proofs.lemmas.List.{append_assoc}
 use Rattle.prl_base.specs.declared.numbers.FlowNo.{FlowNo}
 use Rattle.prl_base.specs.declared.places.Span.{Span}
 use Rattle.prl_base.specs.declared.values.Ty.{Ty}

@@ -1,7 +1,6 @@
 -- Each cycle of the flows of an expansion passes a flow with a name.
-use Rattle.std.proofs.Common.{◌≡◌, ◌<◌, ◌⊎◌, ℕ, Bool, true, false, List, [], length, Option, Some, slice_get, refl, sym, ap, ◌∙◌, inl, inr, subst, arith}
-use Rattle.std.specs.List.{AllByRecursion, range_with_len}
-use Rattle.std.proofs.lemmas.List.{length-map}
+use Rattle.prl_base.proofs.Standard.{◌≡◌, ◌<◌, ◌⊎◌, ℕ, Bool, true, false, List, [], length, Option, Some, slice_get, refl, sym, ap, ◌∙◌, inl, inr, subst, arith, AllByRecursion, range_with_len}
+use Rattle.prl_base.proofs.Standard.{length-map}
 use Rattle.prl_ast.specs.InRange as ranges
 use Rattle.prl_ast.specs.Trees.{ProgramTree}
 use Rattle.prl_base.specs.declared.values.Ty.{Ty}

@@ -4,8 +4,7 @@
 --   node g (x) returns (y) let y = tail x; tel
 --   node h (x, u) returns (y) var v: rate (10, 0) due 5; let v = x *^ 2 /^ 3; y = u; tel
 --   node main (i: rate (10, 0)) returns (o, q) var m; let (o, m) = F(h(g(i), 7)); q = 0 fby tail (g(m)); tel
-use Rattle.std.proofs.Common.{◌≡◌, ℕ, pos, List, [], ◌∷◌, ◌++◌, map, Option, Some, None, refl}
-use Rattle.std.specs.Prelude.{codes, decimal}
+use Rattle.prl_base.proofs.Standard.{◌≡◌, ℕ, pos, List, [], ◌∷◌, ◌++◌, map, Option, Some, None, refl, codes, decimal}
 use Rattle.prl_base.specs.declared.numbers.FlowNo.{FlowNo}
 use Rattle.prl_base.specs.declared.operators.Op.{Op}
 use Rattle.prl_base.specs.declared.places.Span.{Span}

@@ -1,6 +1,5 @@
 -- How many nodes a node reaches: fewer than each node that applies it.
-use Rattle.std.proofs.Common.{◌≡◌, ◌+◌, ◌<◌, ◌≤◌, ℕ, zero, suc, Bool, true, false, length, refl, ap, ◌∙◌, arith, ⊎_elim}
-use Rattle.std.proofs.lemmas.Bool.{cases_lt, false≢true}
+use Rattle.prl_base.proofs.Standard.{◌≡◌, ◌+◌, ◌<◌, ◌≤◌, ℕ, zero, suc, Bool, true, false, length, refl, ap, ◌∙◌, arith, ⊎_elim, cases_lt, false≢true}
 use Rattle.prl_ast.specs.Trees.{ProgramTree}
 use Rattle.prl_names.specs.Applications.{applies, Reaches, once, then, reaches}
 use Rattle.prl_names.proofs.Reaching.{reached, reaching}

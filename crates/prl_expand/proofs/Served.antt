@@ -1,6 +1,5 @@
 -- Each application of the flat program of an expansion has a body that fits.
-use Rattle.std.proofs.Common.{◌≡◌, ◌==◌, ℕ, true, List, Option, refl, []}
-use Rattle.std.proofs.lemmas.Bool.{eq-eqb}
+use Rattle.prl_base.proofs.Standard.{◌≡◌, ◌==◌, ℕ, true, List, Option, refl, [], eq-eqb}
 use Rattle.prl_base.specs.declared.values.Ty.{Ty}
 use Rattle.prl_ast.specs.Vocabulary.{IsInRange, ProgramTree}
 use Rattle.prl_body.specs.Used.{HaveBodiesOf}

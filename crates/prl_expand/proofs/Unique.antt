@@ -1,6 +1,5 @@
 -- A program has one expansion.
-use Rattle.std.proofs.Common.{◌≡◌, ℕ, List, length, sym, ap, ◌∙◌}
-use Rattle.std.specs.List.{range_with_len}
+use Rattle.prl_base.proofs.Standard.{◌≡◌, ℕ, List, length, sym, ap, ◌∙◌, range_with_len}
 use Rattle.prl_ast.specs.Trees.{ProgramTree}
 use Rattle.prl_behaviours.proofs.Shapes.{as_many, one_text}
 use Rattle.prl_expand.specs.Expansions.{Expansion, IsExpansion, AreCounted}

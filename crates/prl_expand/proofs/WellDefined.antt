@@ -1,9 +1,6 @@
 -- The flows of an expansion are well defined where names, arity and types are right.
-use Rattle.std.proofs.Common.{◌≡◌, ◌<◌, ◌+◌, ℕ, zero, suc, List, [], ◌∷◌, ◌++◌, length, Some, slice_get, true, false, cond, refl, sym, ap, subst, ◌∙◌, arith}
-use Rattle.std.specs.List.{AllByRecursion}
-use Rattle.std.proofs.lemmas.List.{length-map}
-use Rattle.std.specs.Str.{bytes_eq}
-use Rattle.std.specs.Cmp.Lexicographic.{bytes_decides}
+use Rattle.prl_base.proofs.Standard.{◌≡◌, ◌<◌, ◌+◌, ℕ, zero, suc, List, [], ◌∷◌, ◌++◌, length, Some, slice_get, true, false, cond, refl, sym, ap, subst, ◌∙◌, arith, AllByRecursion, length-map}
+use Rattle.prl_base.proofs.Standard.{bytes_eq, bytes_decides}
 use Rattle.prl_base.specs.Operators.{IsOperatorFor}
 use Rattle.prl_base.specs.declared.operators.Op.{Op}
 use Rattle.prl_base.specs.declared.places.Span.{Span}

@@ -1,11 +1,8 @@
 -- The flat program of an expansion is well formed where the program is in range and its names, arity and types are right.
-use Rattle.std.proofs.Common.{◌≡◌, ◌≤◌, ◌<◌, ◌+◌, ◌-◌, ◌^◌, ℕ, zero, suc, List, [], ◌∷◌, ◌++◌, map, length, Option, Some, None, slice_get, true, refl, sym, ap, ◌∙◌, subst, arith, ⊎_elim}
-use Rattle.std.specs.Prelude.{reverse}
-use Rattle.std.specs.List.{AllByRecursion}
-use Rattle.std.specs.Option.{option_map, is_some}
-use Rattle.std.proofs.lemmas.Bool.{cases_lt}
-use Rattle.std.proofs.lemmas.List.{length-map, length-reverse, append_assoc}
-use Rattle.std.proofs.lemmas.Option.{slice_get-map, slice_get_within}
+use Rattle.prl_base.proofs.Standard.{◌≡◌, ◌≤◌, ◌<◌, ◌+◌, ◌-◌, ◌^◌, ℕ, zero, suc, List, [], ◌∷◌, ◌++◌, map, length, Option, Some, None, slice_get, true, refl, sym, ap, ◌∙◌, subst, arith, ⊎_elim}
+use Rattle.prl_base.proofs.Standard.{reverse, AllByRecursion, option_map, cases_lt, length-map, length-reverse, slice_get-map, slice_get_within}
+use Rattle.std.specs.Option.{is_some}
+use Rattle.std.proofs.lemmas.List.{append_assoc}
 use Rattle.prl_base.specs.Operators.{IsOperatorFor}
 use Rattle.prl_base.specs.declared.numbers.FlowNo.{FlowNo}
 use Rattle.prl_base.specs.declared.places.Span.{Span}

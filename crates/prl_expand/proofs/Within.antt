@@ -1,13 +1,12 @@
 -- Parts of what fits, and nodes for which the levels suffice.
-use Rattle.std.proofs.Common.{◌≡◌, ◌+◌, ◌-◌, ◌<◌, ◌≤◌, ℕ, zero, suc, Bool, true, false, List, [], ◌∷◌, length, map, slice_get, Option, Some, None, IsSome, refl, sym, ap, ◌∙◌, subst, arith}
-use Rattle.std.specs.List.{AllByRecursion}
+use Rattle.prl_base.proofs.Standard.{◌≡◌, ◌+◌, ◌-◌, ◌<◌, ◌≤◌, ℕ, zero, suc, Bool, true, false, List, [], ◌∷◌, length, map, slice_get, Option, Some, None, IsSome, refl, sym, ap, ◌∙◌, subst, arith}
+use Rattle.prl_base.proofs.Standard.{AllByRecursion, slice_get_within}
 use Rattle.prl_base.specs.declared.places.Span.{Span}
 use Rattle.prl_ast.specs.Vocabulary.{IsImportInRange, IsNodeInRange, Tree, tree_of, apply, group, Trees, none, more, equation_tree, NodeTree, ProgramTree}
 use Rattle.prl_ast.specs.declared.declarations.Equation.{Equation}
 use Rattle.prl_ast.specs.declared.declarations.Import.{Import}
 use Rattle.prl_ast.specs.declared.declarations.Param.{Param}
 use Rattle.prl_ast.specs.declared.expressions.Expr.{Expr}
-use Rattle.std.proofs.lemmas.Option.{slice_get_within}
 use Rattle.prl_names.specs.Vocabulary.{is_node, applied_in, applied_trees, applied_equations, applied_by, applies, reaches, all_trees, callee_of, index_of, param_at, param_names, params_of, IsNamed}
 use Rattle.prl_names.specs.declared.lookups.Callee.TheVariants as callees
 use Rattle.prl_names.proofs.Marking.{callee_below, index_below}

@@ -1,8 +1,6 @@
 -- The bytes of the files that the words name.
-use Rattle.std.proofs.Common.{◌≡◌, ◌≤◌, ◌<◌, ◌^◌, ℕ, List, Option, None, Some, arith, length, subst, sym}
+use Rattle.prl_base.proofs.Standard.{◌≡◌, ◌≤◌, ◌<◌, ◌^◌, ℕ, List, Option, None, Some, arith, length, subst, sym, IfSome, codes, vec_items, option_map}
 use denote.Ref.{Bor}
-use Rattle.std.specs.Prelude.{IfSome, codes, vec_items}
-use Rattle.std.specs.Option.{option_map}
 use Rattle.prl_companions.specs.Pairs.{value_of}
 use Rattle.prl_sentences.specs.declared.kinds.Part.{Part}
 use Rattle.prl_sentences.specs.declared.kinds.Part.TheVariants as parts

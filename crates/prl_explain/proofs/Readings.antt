@@ -1,6 +1,5 @@
 -- A file that was read by its name, and one that was not.
-use Rattle.std.proofs.Common.{◌≡◌, ◌≤◌, ℕ, List, Some, inl, length, subst, sym}
-use Rattle.std.specs.Prelude.{IfSome}
+use Rattle.prl_base.proofs.Standard.{◌≡◌, ◌≤◌, ℕ, List, Some, inl, length, subst, sym, IfSome}
 use Rattle.prl_io.specs.Views.{FolderView}
 use Rattle.prl_companions.specs.declared.endings.Stop.{Stop}
 use Rattle.prl_companions.specs.Files.{IsFileStop}

@@ -1,6 +1,5 @@
 -- Stops at a file that is read after another one.
-use Rattle.std.proofs.Common.{◌≡◌, ◌++◌, ℕ, List, [], ◌∷◌, Option, None, Some, length, ◌<◌, ◌∙◌, ap, inl, inr, subst}
-use Rattle.std.specs.Prelude.{IfSome}
+use Rattle.prl_base.proofs.Standard.{◌≡◌, ◌++◌, ℕ, List, [], ◌∷◌, Option, None, Some, length, ◌<◌, ◌∙◌, ap, inl, inr, subst, IfSome}
 use Rattle.prl_io.specs.Views.{FolderView}
 use Rattle.prl_companions.specs.declared.endings.Stop.{Stop}
 use Rattle.prl_companions.specs.declared.endings.Stop.TheVariants as stops

@@ -1,7 +1,5 @@
 -- Applications: their arguments, and the steps of a body.
-use Rattle.std.proofs.Common.{◌≡◌, ℕ, zero, suc, List, [], ◌∷◌, length, map, slice_get, slice_index_or, Option, Some, refl, ◌∙◌, ap, subst}
-use Rattle.std.specs.Prelude.{pos, unwrap_or}
-use Rattle.std.proofs.lemmas.Option.{unwrap_or-slice_get}
+use Rattle.prl_base.proofs.Standard.{◌≡◌, ℕ, zero, suc, List, [], ◌∷◌, length, map, slice_get, slice_index_or, Option, Some, refl, ◌∙◌, ap, subst, pos, unwrap_or, unwrap_or-slice_get}
 use Rattle.prl_base.specs.Vocabulary.{IsClock, date_at, type_of}
 use Rattle.prl_base.specs.declared.numbers.FlowNo.{FlowNo}
 use Rattle.prl_base.specs.declared.operators.Clock.{Clock}

@@ -1,7 +1,6 @@
 -- Dates of clocks, and the values of flows at them.
-use Rattle.std.proofs.Common.{◌≡◌, ◌+◌, ◌-◌, ◌*◌, ◌/◌, ◌<◌, ◌≤◌, ◌↔◌, ℕ, zero, suc, List, length, slice_get, refl, sym, ◌∙◌, ap, arith, inl, inr, nat_abs}
-use Rattle.std.proofs.Math.Nat.{le-div_iff_mul-le, mul-div_cancel, mul-div-mul_right, mul-le-mul_left, mul_comm, mul_assoc, mul-add, le_of_mul-le-mul_left}
-use Rattle.std.proofs.lemmas.Bool.{cases_lt, lt-leb, le-leb, ne_eqb, eq-eqb}
+use Rattle.prl_base.proofs.Standard.{◌≡◌, ◌+◌, ◌-◌, ◌*◌, ◌/◌, ◌<◌, ◌≤◌, ◌↔◌, ℕ, zero, suc, List, length, slice_get, refl, sym, ◌∙◌, ap, arith, inl, inr, nat_abs, le-div_iff_mul-le, mul-div_cancel}
+use Rattle.prl_base.proofs.Standard.{mul-div-mul_right, mul-le-mul_left, mul_comm, mul_assoc, mul-add, le_of_mul-le-mul_left, cases_lt, lt-leb, le-leb, ne_eqb, eq-eqb}
 use Rattle.prl_base.specs.Vocabulary.{IsClock, date_at, IsResultClock}
 use Rattle.prl_base.specs.declared.operators.Clock.{Clock}
 use Rattle.prl_base.specs.declared.operators.Op.{Op}

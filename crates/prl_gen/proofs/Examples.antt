@@ -1,6 +1,5 @@
 -- Worked rows of the draw and of the texts.
-use Rattle.std.proofs.Common.{◌≡◌, ◌/◌, ◌^◌, [], ◌∷◌, refl, codes}
-use Rattle.std.specs.Fmt.{digits}
+use Rattle.prl_base.proofs.Standard.{◌≡◌, ◌/◌, ◌^◌, [], ◌∷◌, refl, codes, digits}
 use Rattle.prl_gen.specs.Vocabulary.{draw, next, instances, periods_from, equations, generated_program}
 
 -- from the number 1: the first state, its upper bits, and the period of the one lane

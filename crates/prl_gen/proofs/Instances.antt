@@ -1,6 +1,5 @@
 -- The instances of a lane are those whose dates are before the end.
-use Rattle.std.proofs.Common.{ℕ, ◌+◌, ◌*◌, ◌<◌, ◌≤◌, ◌↔◌, arith}
-use Rattle.std.proofs.lemmas.Grind.{div_ceil_times}
+use Rattle.prl_base.proofs.Standard.{ℕ, ◌+◌, ◌*◌, ◌<◌, ◌≤◌, ◌↔◌, arith, div_ceil_times}
 use Rattle.prl_gen.specs.Vocabulary.{UNTIL, instances}
 
 earlier : (m count period end : ℕ) → count * period < end + period → m < count → m * period < end

@@ -1,13 +1,7 @@
 -- The tree of a generated program is in range, and its names are no keywords.
-use Rattle.std.proofs.Common.{◌≡◌, ◌==◌, ◌≤◌, ◌<◌, ◌-◌, ◌*◌, ◌/◌, ◌^◌, ◌++◌, ℕ, zero, suc, Bool, true, false, cond, pos, List, [], ◌∷◌, length, Option, Some, None, refl, sym, subst, arith, codes, get_or, leb, ⊎_elim}
-use Rattle.std.specs.Fmt.{digits}
-use Rattle.std.specs.List.{AllByRecursion}
-use Rattle.std.specs.Prelude.{slice_index, nat_lt}
-use Rattle.std.proofs.lemmas.Bool.{cases_lt, leb-true, ltb-true, ltb-false, false≢true}
-use Rattle.std.proofs.lemmas.Int.{ints}
-use Rattle.std.proofs.lemmas.Nat.{le-div, mod_below}
-use Rattle.std.proofs.lemmas.Nat.Gcd.{IsGcd-from_zero, IsGcd-swap}
-use Rattle.std.proofs.Math.Nat.{div-le_self}
+use Rattle.prl_base.proofs.Standard.{◌≡◌, ◌==◌, ◌≤◌, ◌<◌, ◌-◌, ◌*◌, ◌/◌, ◌^◌, ◌++◌, ℕ, zero, suc, Bool, true, false, cond, pos, List, [], ◌∷◌, length, Option, Some, None, refl, sym, subst, arith}
+use Rattle.prl_base.proofs.Standard.{codes, get_or, leb, ⊎_elim, digits, AllByRecursion, slice_index, nat_lt, cases_lt, leb-true, ltb-true, ltb-false, false≢true, ints, le-div, mod_below}
+use Rattle.prl_base.proofs.Standard.{IsGcd-from_zero, IsGcd-swap, div-le_self}
 use Rattle.prl_base.specs.Names.{is_word}
 use Rattle.prl_base.specs.declared.operators.Op.TheVariants as ops
 use Rattle.prl_ast.specs.Vocabulary.{IsCount, IsShift, Tree, ProgramTree}

@@ -1,6 +1,5 @@
 -- The definitions by numbers, at the number after one.
-use Rattle.std.proofs.Common.{◌≡◌, ℕ, ◌+◌, ◌%◌, List, ◌++◌, refl, add-one, get_or, append_assoc}
-use Rattle.std.proofs.Math.Nat.{mod-add-mod}
+use Rattle.prl_base.proofs.Standard.{◌≡◌, ℕ, ◌+◌, ◌%◌, List, ◌++◌, refl, add-one, get_or, append_assoc, mod-add-mod}
 use Rattle.prl_gen.specs.Vocabulary.{next, state_after, instances, state_of_lane, each}
 
 pub each_more : {A : Type 0} (list : ℕ → List A) (count : ℕ) → each list (count + 1) ≡ each list count ++ list count

@@ -1,11 +1,6 @@
 -- The tree of a generated program, with no places, and that the text is its printed form.
-use Rattle.std.proofs.Common.{◌≡◌, ◌==◌, ◌-◌, ◌/◌, ◌++◌, ℕ, zero, suc, Bool, true, false, cond, pos, List, [], ◌∷◌, length, map, Some, None, refl, sym, ◌∙◌, ap, append_assoc, arith, codes, decimal, length-append}
-use Rattle.std.specs.Prelude.{slice_index, nat_lt}
-use Rattle.std.specs.Fmt.{digits}
-use Rattle.std.specs.List.{flat_map}
-use Rattle.std.proofs.lemmas.Bool.Decides.{nat_tests}
-use Rattle.std.proofs.lemmas.Grind.{flat_map-append}
-use Rattle.std.proofs.lemmas.List.{append-nil, length-map, map-append}
+use Rattle.prl_base.proofs.Standard.{◌≡◌, ◌==◌, ◌-◌, ◌/◌, ◌++◌, ℕ, zero, suc, Bool, true, false, cond, pos, List, [], ◌∷◌, length, map, Some, None, refl, sym, ◌∙◌, ap, append_assoc, arith, codes}
+use Rattle.prl_base.proofs.Standard.{decimal, length-append, slice_index, nat_lt, digits, flat_map, nat_tests, flat_map-append, append-nil, length-map, map-append}
 use Rattle.prl_base.specs.Texts.{fraction_text}
 use Rattle.prl_base.specs.declared.operators.Op.{Op}
 use Rattle.prl_base.specs.declared.operators.Op.TheVariants as ops

@@ -1,7 +1,5 @@
 -- A loop that reads one text after another gives what the grammar of many gives.
-use Rattle.std.proofs.Common.{◌≡◌, ◌<◌, ℕ, true, false, List, [], ◌∷◌, ◌++◌, length, Ok, Err, refl, sym, ap, ◌∙◌, append_assoc}
-use Rattle.std.proofs.lemmas.Bool.{cond-true, cond-false, and_parts}
-use Rattle.std.proofs.lemmas.List.{append-nil, map_push}
+use Rattle.prl_base.proofs.Standard.{◌≡◌, ◌<◌, ℕ, true, false, List, [], ◌∷◌, ◌++◌, length, Ok, Err, refl, sym, ap, ◌∙◌, append_assoc, cond-true, cond-false, and_parts, append-nil, map_push}
 use Rattle.prl_base.specs.Reading.{◌>>=◌, FailsAs}
 use Rattle.prl_grammar.specs.Vocabulary.{Lexeme, Read, next_in, choice, many_at, stop_of, Stop, Grammar, many, shape, read_with, Language, inner_of, read_at, with_front, IsApart}
 use Rattle.prl_grammar.specs.declared.reading.Stop.TheVariants as stops

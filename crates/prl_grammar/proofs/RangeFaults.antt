@@ -1,7 +1,5 @@
 -- A loop over the tokens finds the first number out of its range.
-use Rattle.std.proofs.Common.{◌≡◌, ℕ, ◌+◌, ◌<◌, ◌≤◌, Bool, true, false, cond, List, ◌∷◌, length, drop, get_or, Option, Some, None, sym, ap, ◌∙◌}
-use Rattle.std.proofs.lemmas.Bool.{cond-true, cond-false}
-use Rattle.std.proofs.lemmas.List.{drop_more, drop_all}
+use Rattle.prl_base.proofs.Standard.{◌≡◌, ℕ, ◌+◌, ◌<◌, ◌≤◌, Bool, true, false, cond, List, ◌∷◌, length, drop, get_or, Option, Some, None, sym, ap, ◌∙◌, cond-true, cond-false, drop_more, drop_all}
 use Rattle.prl_grammar.specs.Vocabulary.{Lexeme, Ranges, inside_after, is_fault, out_of_range}
 
 module _ (r : Ranges) (inside : Bool) (last : ℕ) (ts : List Lexeme) (i : ℕ) where

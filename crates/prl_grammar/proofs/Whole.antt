@@ -1,7 +1,6 @@
 -- Whole texts: they are read exactly where they are texts of the grammar, and else the first unexpected token is found.
-use Rattle.std.proofs.Common.{◌≡◌, ◌<◌, ◌≤◌, ℕ, List, [], ◌∷◌, ◌++◌, length, Result, Ok, Err, Some, None, refl, sym, ap, ◌∙◌, subst, ⊎_elim, arith, append_assoc, length-append}
-use Rattle.std.proofs.lemmas.Bool.{cases_lt}
-use Rattle.std.proofs.lemmas.List.{append-nil}
+use Rattle.prl_base.proofs.Standard.{◌≡◌, ◌<◌, ◌≤◌, ℕ, List, [], ◌∷◌, ◌++◌, length, Result, Ok, Err, Some, None, refl, sym, ap, ◌∙◌, subst, ⊎_elim, arith, append_assoc, length-append, cases_lt}
+use Rattle.prl_base.proofs.Standard.{append-nil}
 use Rattle.prl_base.specs.Reading.{◌>>=◌}
 use Rattle.prl_grammar.specs.Vocabulary.{Lexeme, next_class, IsFirstUnexpected, Stuck, Deep, Read, ended, all_at}
 use Rattle.prl_grammar.specs.code.Readers.{Stop}

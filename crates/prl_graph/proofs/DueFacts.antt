@@ -1,7 +1,6 @@
 -- Where dues may stand, and what they bind.
-use Rattle.std.proofs.Common.{◌≡◌, ◌<◌, ◌≤◌, ◌+◌, ℕ, Bool, true, false, List, length, set, slice_get, Some, None, refl, sym, ◌∙◌, ap, subst, arith, ⊎_elim, length-set}
-use Rattle.std.proofs.lemmas.Bool.{cases_lt}
-use Rattle.std.proofs.lemmas.Option.{slice_get_within}
+use Rattle.prl_base.proofs.Standard.{◌≡◌, ◌<◌, ◌≤◌, ◌+◌, ℕ, Bool, true, false, List, length, set, slice_get, Some, None, refl, sym, ◌∙◌, ap, subst, arith, ⊎_elim, length-set, cases_lt}
+use Rattle.prl_base.proofs.Standard.{slice_get_within}
 use Rattle.prl_base.specs.declared.numbers.FlowNo.{FlowNo}
 use Rattle.prl_base.specs.declared.operators.Clock.{Clock}
 use Rattle.prl_flow.specs.declared.programs.Def.TheVariants as definitions

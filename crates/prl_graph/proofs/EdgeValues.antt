@@ -1,6 +1,5 @@
 -- The value on an edge.
-use Rattle.std.proofs.Common.{◌≡◌, ◌<◌, ℕ, List, length, slice_get, Option, Some, refl, sym, ◌∙◌, ap, subst, arith}
-use Rattle.std.proofs.lemmas.Option.{slice_get_within}
+use Rattle.prl_base.proofs.Standard.{◌≡◌, ◌<◌, ℕ, List, length, slice_get, Option, Some, refl, sym, ◌∙◌, ap, subst, arith, slice_get_within}
 use Rattle.prl_base.specs.Vocabulary.{date_at, IsOperatorFor, constant, instance, origin_of}
 use Rattle.prl_base.specs.declared.numbers.FlowNo.{FlowNo}
 use Rattle.prl_base.specs.declared.operators.Clock.{Clock}

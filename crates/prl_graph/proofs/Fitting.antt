@@ -1,9 +1,6 @@
 -- Bodies that fit the applications fit their tasks, and rows of the sensors' types serve theirs.
-use Rattle.std.proofs.Common.{◌≡◌, ◌<◌, ◌+◌, ◌*◌, ◌++◌, ◌∷◌, ℕ, zero, suc, Bool, true, false, cond, eqb, List, [], length, slice_get, Some, refl, sym, ◌∙◌, ap, subst, arith}
-use Rattle.std.specs.Prelude.{decimal}
-use Rattle.std.specs.List.{AllByRecursion}
-use Rattle.std.proofs.lemmas.Int.{ints}
-use Rattle.std.proofs.lemmas.Option.{slice_get_within, slice_get-get_or}
+use Rattle.prl_base.proofs.Standard.{◌≡◌, ◌<◌, ◌+◌, ◌*◌, ◌++◌, ◌∷◌, ℕ, zero, suc, Bool, true, false, cond, eqb, List, [], length, slice_get, Some, refl, sym, ◌∙◌, ap, subst, arith, decimal}
+use Rattle.prl_base.proofs.Standard.{AllByRecursion, ints, slice_get_within, slice_get-get_or}
 use Rattle.prl_base.specs.Vocabulary.{date_at, type_of}
 use Rattle.prl_base.specs.declared.numbers.FlowNo.{FlowNo}
 use Rattle.prl_base.specs.declared.operators.Clock.{Clock}

@@ -1,8 +1,7 @@
 -- The least due of each application, flow after flow.
-use Rattle.std.proofs.Common.{◌≡◌, ◌<◌, ◌≤◌, ◌+◌, ◌≢◌, ◌⊎◌, ℕ, List, [], ◌∷◌, ◌++◌, length, set, get_or, slice_get, Some, sym, ◌∙◌, ap, subst, arith, inl, inr, ⊎_elim, length-set, get_or-set_same, get_or-set_other}
-use Rattle.std.proofs.lemmas.Bool.{cases_lt}
-use Rattle.std.proofs.lemmas.List.{get_or_append_left, get_or_push}
-use Rattle.std.proofs.lemmas.Option.{slice_get_within, get_or_from_slice_get}
+use Rattle.prl_base.proofs.Standard.{◌≡◌, ◌<◌, ◌≤◌, ◌+◌, ◌≢◌, ◌⊎◌, ℕ, List, [], ◌∷◌, ◌++◌, length, set, get_or, slice_get, Some, sym, ◌∙◌, ap, subst, arith, inl, inr, ⊎_elim, length-set}
+use Rattle.prl_base.proofs.Standard.{get_or-set_same, cases_lt, get_or_append_left, get_or_push, slice_get_within, get_or_from_slice_get}
+use Rattle.std.proofs.Common.{get_or-set_other}
 use Rattle.prl_base.specs.declared.numbers.FlowNo.{FlowNo}
 use Rattle.prl_base.specs.declared.operators.Clock.{Clock}
 use Rattle.prl_flow.specs.Vocabulary.{FlatProgram, IsFlat, IsWellDefined, AreClocks}

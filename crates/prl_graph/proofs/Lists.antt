@@ -1,9 +1,7 @@
 -- Lists with one more element, and marks.
-use Rattle.std.proofs.Common.{◌≡◌, ◌<◌, ◌≢◌, ◌+◌, ◌⊎◌, ℕ, zero, suc, zero-add, Bool, true, false, cond, List, [], ◌∷◌, ◌++◌, length, set, get_or, replicate, slice_get, Some, refl, sym, ◌∙◌, ap, subst, arith, inl, inr, ⊎_elim, get_or-set_same, get_or-set_other}
-use Rattle.std.specs.Prelude.{count_by}
-use Rattle.std.proofs.lemmas.Bool.{cases_lt, false≢true}
-use Rattle.std.proofs.lemmas.Option.{slice_get_within, slice_get-get_or}
-use Rattle.std.proofs.lemmas.List.Sums.{sum_by-set, sum_by-cons}
+use Rattle.prl_base.proofs.Standard.{◌≡◌, ◌<◌, ◌≢◌, ◌+◌, ◌⊎◌, ℕ, zero, suc, zero-add, Bool, true, false, cond, List, [], ◌∷◌, ◌++◌, length, set, get_or, replicate, slice_get, Some, refl, sym, ◌∙◌, ap}
+use Rattle.prl_base.proofs.Standard.{subst, arith, inl, inr, ⊎_elim, get_or-set_same, count_by, cases_lt, false≢true, slice_get_within, slice_get-get_or, sum_by-set, sum_by-cons}
+use Rattle.std.proofs.Common.{get_or-set_other}
 use Rattle.prl_flow.proofs.Lists.{slice_get_append_left}
 use Rattle.prl_graph.specs.code.Marks.{IsMarked}
 

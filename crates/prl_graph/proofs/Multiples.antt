@@ -1,18 +1,13 @@
 -- Common multiples.
 use Prim.Native.Nat.{◌∣◌}
-use Rattle.std.proofs.Common.{◌≡◌, ◌<◌, ◌≤◌, ◌+◌, ◌*◌, ◌/◌, ℕ, zero, suc, List, [], ◌∷◌, length, take, slice_get, Some, refl, sym, ◌∙◌, ap, subst, arith, ⊎_elim}
-use Rattle.std.proofs.Math.Nat.{mul_comm, mul_assoc, dvd-mul_left, mul-div_cancel, div-mul_cancel}
-use Rattle.std.proofs.lemmas.Bool.{cases_lt}
-use Rattle.std.proofs.lemmas.Nat.Gcd.{dvd_antisymm}
-use Rattle.std.specs.Int.{IsGcd}
+use Rattle.prl_base.proofs.Standard.{◌≡◌, ◌<◌, ◌≤◌, ◌+◌, ◌*◌, ◌/◌, ℕ, zero, suc, List, [], ◌∷◌, length, take, slice_get, Some, refl, sym, ◌∙◌, ap, subst, arith, ⊎_elim, mul_comm, mul_assoc}
+use Rattle.prl_base.proofs.Standard.{dvd-mul_left, mul-div_cancel, div-mul_cancel, cases_lt, dvd_antisymm, IsGcd, take_all, slice_get_within}
 use Rattle.prl_base.proofs.Coprime.{divides_other, quotients_coprime}
 use Rattle.prl_plan.specs.Graphs.{Divides}
 use Rattle.prl_plan.specs.declared.limits.TheConstants.{MAX_HYPER}
 use Rattle.prl_graph.specs.Vocabulary.{IsLeastMultiple, IsHyperperiod, IsPastHyperperiod}
 use Rattle.prl_base.specs.declared.operators.Clock.{Clock}
 use Rattle.prl_flow.proofs.Lists.{slice_get_take}
-use Rattle.std.proofs.lemmas.List.{take_all}
-use Rattle.std.proofs.lemmas.Option.{slice_get_within}
 
 pub to_dvd : (k n : ℕ) → Divides k n → k ∣ n
 to_dvd k n (times, is) = let P : ℕ → Type 0 = λ m. k ∣ m in subst P (sym is) (dvd-mul_left k times)

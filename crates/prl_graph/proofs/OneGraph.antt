@@ -1,7 +1,5 @@
 -- A flat program with clocks has one task graph at most, or one fault at most, and not both.
-use Rattle.std.proofs.Common.{◌≡◌, ◌<◌, ◌≤◌, ◌+◌, ℕ, List, ◌∷◌, length, take, slice_get, Some, refl, sym, ◌∙◌, ap, subst, arith, ⊎_elim}
-use Rattle.std.proofs.lemmas.Bool.{cases_lt}
-use Rattle.std.proofs.lemmas.Nat.Gcd.{le_of_dvd}
+use Rattle.prl_base.proofs.Standard.{◌≡◌, ◌<◌, ◌≤◌, ◌+◌, ℕ, List, ◌∷◌, length, take, slice_get, Some, refl, sym, ◌∙◌, ap, subst, arith, ⊎_elim, cases_lt, le_of_dvd}
 use Rattle.prl_base.specs.declared.limits.What.{What}
 use Rattle.prl_base.specs.declared.numbers.FlowNo.{FlowNo}
 use Rattle.prl_base.specs.declared.numbers.TaskNo.{TaskNo}

@@ -1,10 +1,8 @@
 -- Tasks, one after another.
-use Rattle.std.proofs.Common.{◌≡◌, ◌≤◌, ◌+◌, ℕ, List, [], ◌∷◌, ◌++◌, length, get_or, slice_get, Some, refl, sym, ◌∙◌, ap, subst, arith, ⊎_elim}
-use Rattle.std.proofs.lemmas.List.{length_push}
+use Rattle.prl_base.proofs.Standard.{◌≡◌, ◌≤◌, ◌+◌, ℕ, List, [], ◌∷◌, ◌++◌, length, get_or, slice_get, Some, refl, sym, ◌∙◌, ap, subst, arith, ⊎_elim, length_push, decimal}
 use Rattle.prl_base.specs.declared.operators.Clock.{Clock}
 use Rattle.prl_flow.specs.Programs.{FlatProgram}
 use Rattle.prl_flow.specs.declared.programs.App.{App}
-use Rattle.std.specs.Prelude.{decimal}
 use Rattle.prl_plan.specs.declared.graphs.Kind.TheVariants as kinds
 use Rattle.prl_plan.specs.declared.graphs.Task.{Task}
 use Rattle.prl_graph.specs.Vocabulary.{actuator_no, node_no, IsTaskOf, application_clock, sensor, node, actuator, AreFirstTasks, MakesActuator, MakesNode, MakesSensor, AreLeastDues}

@@ -1,7 +1,6 @@
 -- Ways back in a program without a cycle: their steps are fewer than its flows.
-use Rattle.std.proofs.Common.{◌≡◌, ◌<◌, ◌≤◌, ◌+◌, ◌⊎◌, ℕ, Bool, true, false, List, [], ◌∷◌, ◌++◌, length, set, get_or, replicate, slice_get, Some, refl, sym, ◌∙◌, ap, subst, arith, inl, inr, ⊎_elim, length-set}
-use Rattle.std.proofs.lemmas.Bool.{false≢true}
-use Rattle.std.proofs.lemmas.Option.{slice_get_within}
+use Rattle.prl_base.proofs.Standard.{◌≡◌, ◌<◌, ◌≤◌, ◌+◌, ◌⊎◌, ℕ, Bool, true, false, List, [], ◌∷◌, ◌++◌, length, set, get_or, replicate, slice_get, Some, refl, sym, ◌∙◌, ap, subst, arith, inl, inr}
+use Rattle.prl_base.proofs.Standard.{⊎_elim, length-set, false≢true, slice_get_within}
 use Rattle.prl_base.specs.declared.numbers.FlowNo.{FlowNo}
 use Rattle.prl_base.specs.declared.operators.Op.{Op}
 use Rattle.prl_flow.specs.Vocabulary.{FlatProgram, IsFlat, IsWellDefined, HasNoCycle, Leads, NamesInside, UsesInside, once, then}

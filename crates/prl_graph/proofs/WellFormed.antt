@@ -1,8 +1,6 @@
 -- The task graph of a flat program is well formed.
-use Rattle.std.proofs.Common.{◌≡◌, ◌<◌, ◌≤◌, ◌+◌, ◌^◌, ℕ, true, false, List, [], length, slice_get, Some, None, refl, sym, ◌∙◌, ap, subst, arith, ⊎_elim}
-use Rattle.std.specs.Prelude.{slice_index_or, unwrap_or}
-use Rattle.std.proofs.lemmas.Bool.{false≢true}
-use Rattle.std.proofs.lemmas.Option.{slice_get_within, get_or_from_slice_get}
+use Rattle.prl_base.proofs.Standard.{◌≡◌, ◌<◌, ◌≤◌, ◌+◌, ◌^◌, ℕ, true, false, List, [], length, slice_get, Some, None, refl, sym, ◌∙◌, ap, subst, arith, ⊎_elim, slice_index_or, unwrap_or, false≢true}
+use Rattle.prl_base.proofs.Standard.{slice_get_within, get_or_from_slice_get}
 use Rattle.prl_base.specs.Values.{IsOfType}
 use Rattle.prl_base.specs.declared.numbers.FlowNo.{FlowNo}
 use Rattle.prl_base.specs.declared.operators.Clock.{Clock}

@@ -1,8 +1,7 @@
 -- Writing a text bit by bit.
-use Rattle.std.proofs.Common.{◌≡◌, ◌+◌, ◌-◌, ◌<◌, ◌++◌, ℕ, List, [], ◌∷◌, length, take, drop, get_or, Option, Some, None, refl, sym, ap, ◌∙◌, append_assoc, append-nil, arith, length-append, Result, Ok, Err, IsErr, rules}
-use Rattle.std.specs.List.{flat_map}
-use Rattle.std.proofs.lemmas.List.{take_rest, take-append-drop, take_more}
-use Rattle.std.proofs.lemmas.Grind.{flat_map-append}
+use Rattle.prl_base.proofs.Standard.{◌≡◌, ◌+◌, ◌-◌, ◌<◌, ◌++◌, ℕ, List, [], ◌∷◌, length, take, drop, get_or, Option, Some, None, refl, sym, ap, ◌∙◌, append_assoc, arith, length-append, Result, Ok}
+use Rattle.prl_base.proofs.Standard.{Err, IsErr, rules, flat_map, take_rest, take-append-drop, take_more, flat_map-append}
+use Rattle.std.proofs.Common.{append-nil}
 use Rattle.prl_io.specs.Growth.{appended, AppendsFront, IsWritten}
 use Rattle.prl_io.specs.declared.writing.Failed.{Failed}
 

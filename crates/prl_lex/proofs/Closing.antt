@@ -1,8 +1,5 @@
 -- Where a comment is closed, as a loop over the places finds it.
-use Rattle.std.proofs.Common.{◌≡◌, ℕ, ◌+◌, ◌<◌, false, List, ◌∷◌, length, drop, get_or, Option, Some, None, refl, sym, ap, ◌∙◌, arith}
-use Rattle.std.proofs.lemmas.List.{drop_more}
-use Rattle.std.proofs.lemmas.Bool.{cond-false}
-use Rattle.std.specs.Option.{option_map}
+use Rattle.prl_base.proofs.Standard.{◌≡◌, ℕ, ◌+◌, ◌<◌, false, List, ◌∷◌, length, drop, get_or, Option, Some, None, refl, sym, ap, ◌∙◌, arith, drop_more, cond-false, option_map}
 use Rattle.prl_lex.specs.Tokens.{begins, closing_len}
 
 -- so much further

@@ -1,8 +1,7 @@
 -- What stands at the front of a text has a byte at least, and lies in the text.
-use Rattle.std.proofs.Common.{◌≡◌, ◌==◌, ℕ, zero, suc, ◌+◌, ◌<◌, ◌≤◌, ◌||◌, true, false, cond, List, [], ◌∷◌, length, take, drop, Option, Some, None, refl, ap, arith, not}
-use Rattle.std.proofs.lemmas.Bool.{cond_both, or_parts, false≢true}
-use Rattle.std.proofs.lemmas.List.Sums.{prefix_len-le-length}
-use Rattle.std.specs.Option.{option_map, IfSome}
+use Rattle.prl_base.proofs.Standard.{◌≡◌, ◌==◌, ℕ, zero, suc, ◌+◌, ◌<◌, ◌≤◌, ◌||◌, true, false, cond, List, [], ◌∷◌, length, take, drop, Option, Some, None, refl, ap, arith, not, cond_both, or_parts}
+use Rattle.prl_base.proofs.Standard.{false≢true, prefix_len-le-length, option_map}
+use Rattle.std.specs.Option.{IfSome}
 use Rattle.prl_lex.specs.declared.pieces.Piece.TheVariants as pieces
 use Rattle.prl_lex.specs.Tokens.{is_token, longest_up_to, longest, token_of_len, is_blank, begins, line_len, closing_len, closed, piece_of, FitsPiece}
 

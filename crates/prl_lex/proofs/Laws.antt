@@ -1,11 +1,6 @@
 -- What is known of the tokens of a text.
-use Rattle.std.proofs.Common.{◌≡◌, ℕ, zero, suc, ◌+◌, ◌-◌, ◌<◌, ◌≤◌, Bool, true, false, cond, leb, List, [], ◌∷◌, length, take, drop, Result, Ok, Err, IfOk, All, refl, sym, ap, ◌∙◌, subst, arith, length-drop}
-use Rattle.std.proofs.lemmas.Bool.{leb-true}
-use Rattle.std.proofs.lemmas.List.{drop-drop, length-take-le}
-use Rattle.std.proofs.lemmas.List.Elements.{All-from_recursion}
-use Rattle.std.proofs.lemmas.List.Sums.{AllPass-from_list_all}
-use Rattle.std.specs.Char.{is_ascii_digit}
-use Rattle.std.specs.List.{AllPass, AllByRecursion}
+use Rattle.prl_base.proofs.Standard.{◌≡◌, ℕ, zero, suc, ◌+◌, ◌-◌, ◌<◌, ◌≤◌, Bool, true, false, cond, leb, List, [], ◌∷◌, length, take, drop, Result, Ok, Err, IfOk, All, refl, sym, ap, ◌∙◌, subst}
+use Rattle.prl_base.proofs.Standard.{arith, length-drop, leb-true, drop-drop, length-take-le, All-from_recursion, AllPass-from_list_all, is_ascii_digit, AllPass, AllByRecursion}
 use Rattle.prl_base.specs.Vocabulary.{is_word, IsName, ◌>>=◌, GivesBut}
 use Rattle.prl_lex.specs.Vocabulary.{Kind, Token, LexFault, Piece, is_number, kind_of, piece_of, FitsPiece, token_text, token_at, depth_after, checked, with_piece, tokens_from}
 use Rattle.prl_lex.specs.declared.tokens.Kind.TheVariants.{Word, Number, Symbol}

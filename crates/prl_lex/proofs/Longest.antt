@@ -1,11 +1,7 @@
 -- The longest token at the front of a text is the one that its first byte tells.
-use Rattle.std.proofs.Common.{◌≡◌, ℕ, zero, suc, ◌+◌, ◌<◌, ◌≤◌, Bool, true, false, cond, ◌&&◌, ◌||◌, List, [], ◌∷◌, length, take, get_or, refl, sym, ap, ◌∙◌, inl, inr, arith, length-take, add-one}
-use Rattle.std.proofs.lemmas.Bool.{cases_lt, cond-true, cond-false, cond_both, or_from, and_left, and_from, or_left, or_right, agree_below_at, false≢true}
-use Rattle.std.proofs.lemmas.List.{get_or-take, length-take-le}
-use Rattle.std.proofs.lemmas.List.Sums.{prefix_len_passes, prefix_len_stops, prefix_len-le-length, list_all-from_AllPass}
-use Rattle.std.proofs.lemmas.List.Folds.{list_all_at}
-use Rattle.std.specs.List.{list_all, prefix_len}
-use Rattle.std.specs.Char.{is_ascii_digit}
+use Rattle.prl_base.proofs.Standard.{◌≡◌, ℕ, zero, suc, ◌+◌, ◌<◌, ◌≤◌, Bool, true, false, cond, ◌&&◌, ◌||◌, List, [], ◌∷◌, length, take, get_or, refl, sym, ap, ◌∙◌, inl, inr, arith, length-take}
+use Rattle.prl_base.proofs.Standard.{add-one, cases_lt, cond-true, cond-false, cond_both, or_from, and_left, and_from, or_left, or_right, agree_below_at, false≢true, get_or-take, length-take-le}
+use Rattle.prl_base.proofs.Standard.{prefix_len_passes, prefix_len_stops, prefix_len-le-length, list_all-from_AllPass, list_all_at, list_all, prefix_len, is_ascii_digit}
 use Rattle.prl_base.specs.Names.{is_word_start, is_word_byte, is_word}
 use Rattle.prl_lex.specs.Vocabulary.{Kind, is_one_byte_symbol, is_two_byte_symbol, is_symbol, is_number, is_token, kind_of, longest_up_to, longest, token_of_len, one_byte_symbol}
 use Rattle.prl_lex.specs.declared.tokens.Kind.TheVariants.{Word, Number, Symbol}

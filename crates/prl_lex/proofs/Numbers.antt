@@ -1,9 +1,6 @@
 -- A number that is read digit by digit.
-use Rattle.std.proofs.Common.{◌≡◌, ℕ, ◌+◌, ◌*◌, ◌^◌, ◌<◌, ◌≤◌, ltb, List, [], ◌∷◌, length, drop, get_or, Some, None, inl, inr, sym, ap, ◌∙◌, arith}
-use Rattle.std.proofs.lemmas.List.{drop_more, drop_all}
-use Rattle.std.proofs.lemmas.Bool.{cases_lt, cond-true, cond-false, le-ltb, lt-ltb}
-use Rattle.std.specs.Char.{digit_value}
-use Rattle.std.specs.Str.Parse.{digits_value_after}
+use Rattle.prl_base.proofs.Standard.{◌≡◌, ℕ, ◌+◌, ◌*◌, ◌^◌, ◌<◌, ◌≤◌, ltb, List, [], ◌∷◌, length, drop, get_or, Some, None, inl, inr, sym, ap, ◌∙◌, arith, drop_more, drop_all, cases_lt, cond-true}
+use Rattle.prl_base.proofs.Standard.{cond-false, le-ltb, lt-ltb, digit_value, digits_value_after}
 use Rattle.prl_lex.specs.Digits.{in_64_bits}
 
 -- more digits make no number less

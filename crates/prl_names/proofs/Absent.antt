@@ -1,6 +1,5 @@
 -- Parameters whose names are not in a table.
-use Rattle.std.proofs.Common.{◌≡◌, ℕ, Bool, List, [], ◌∷◌, ◌++◌, map, refl, sym, ap, ◌∙◌, Some, None, Option}
-use Rattle.std.proofs.lemmas.Simd.{map-map}
+use Rattle.prl_base.proofs.Standard.{◌≡◌, ℕ, Bool, List, [], ◌∷◌, ◌++◌, map, refl, sym, ap, ◌∙◌, Some, None, Option, map-map}
 use Rattle.std.specs.Option.{is_some}
 use Rattle.prl_ast.specs.Trees.{NodeTree}
 use Rattle.prl_ast.specs.declared.declarations.Param.{Param}

@@ -1,11 +1,8 @@
 -- Where a space has no repeat, its names are apart.
-use Rattle.std.proofs.Common.{◌≡◌, ◌+◌, ℕ, zero, suc, true, false, cond, List, [], ◌∷◌, ◌++◌, length, map, refl, sym, ap, ◌∙◌, subst, Some, None, Option}
-use Rattle.std.proofs.lemmas.Bool.{false≢true}
+use Rattle.prl_base.proofs.Standard.{◌≡◌, ◌+◌, ℕ, zero, suc, true, false, cond, List, [], ◌∷◌, ◌++◌, length, map, refl, sym, ap, ◌∙◌, subst, Some, None, Option, false≢true, bytes_decides, bytes_eq}
 use Rattle.std.specs.Bool.{nat_lt}
 use Rattle.std.specs.List.{slice_get}
 use Rattle.std.specs.Option.{is_some}
-use Rattle.std.specs.Cmp.Lexicographic.{bytes_decides}
-use Rattle.std.specs.Str.{bytes_eq}
 use Rattle.prl_ast.specs.declared.declarations.Placed.{Placed}
 use Rattle.prl_names.specs.Vocabulary.{index_of, AreApart, placed_names, is_among, repeat_after, repeat_in, first_of, earliest_repeat}
 use Rattle.prl_names.proofs.FirstIndices.{either, index_push}

@@ -1,9 +1,7 @@
 -- Two lists as one keep how often a name stands in them.
-use Rattle.std.proofs.Common.{◌≡◌, ◌≤◌, ◌+◌, ℕ, zero, suc, Bool, true, false, cond, List, [], ◌∷◌, ◌++◌, refl, sym, ap, subst, Some, None, arith}
+use Rattle.prl_base.proofs.Standard.{◌≡◌, ◌≤◌, ◌+◌, ℕ, zero, suc, Bool, true, false, cond, List, [], ◌∷◌, ◌++◌, refl, sym, ap, subst, Some, None, arith, bytes_decides, bytes_eq}
 use Rattle.std.specs.Bool.{nat_lt}
 use Rattle.std.specs.List.{slice_get}
-use Rattle.std.specs.Cmp.Lexicographic.{bytes_decides}
-use Rattle.std.specs.Str.{bytes_eq}
 use Rattle.prl_ast.specs.declared.declarations.Placed.{Placed}
 use Rattle.prl_names.specs.Vocabulary.{AreApart, placed_names, is_among, repeat_after, repeat_in, front_before, rest_from, merged}
 use Rattle.prl_names.proofs.Apart.{no_repeat, among_more, among_last}

@@ -1,12 +1,7 @@
 -- The indices of names in a list that grows.
-use Rattle.std.proofs.Common.{◌≡◌, ◌<◌, ◌≤◌, ℕ, ◌+◌, suc, true, false, cond, List, [], ◌∷◌, ◌++◌, length, take, get_or, refl, sym, ap, ◌∙◌, subst, Some, None, Option, arith, add-zero, Bor}
-use Rattle.std.proofs.lemmas.List.{take_more, map-append, length-take-le, length-map}
-use Rattle.std.proofs.lemmas.Map.Text.{btree_map_updates_str}
-use Rattle.std.specs.BTreeMap.{BTreeMap, UpdatesBy}
-use Rattle.std.specs.Cmp.Lexicographic.{slice_cmp, bytes_decides}
-use Rattle.std.specs.Ordering.{nat_cmp}
+use Rattle.prl_base.proofs.Standard.{◌≡◌, ◌<◌, ◌≤◌, ℕ, ◌+◌, suc, true, false, cond, List, [], ◌∷◌, ◌++◌, length, take, get_or, refl, sym, ap, ◌∙◌, subst, Some, None, Option, arith, add-zero, Bor}
+use Rattle.prl_base.proofs.Standard.{take_more, map-append, length-take-le, length-map, btree_map_updates_str, BTreeMap, UpdatesBy, slice_cmp, bytes_decides, nat_cmp, bytes_eq}
 use Rattle.std.specs.Option.{is_some}
-use Rattle.std.specs.Str.{bytes_eq}
 use Rattle.prl_names.specs.Vocabulary.{Mention, index_from, index_of, names_in, found, AreIndices}
 
 abbrev pub either : Option ℕ → Option ℕ → Option ℕ

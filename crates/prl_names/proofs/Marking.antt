@@ -1,12 +1,9 @@
 -- Rows of marks, one mark after another.
-use Rattle.std.proofs.Common.{◌≡◌, ◌<◌, ◌≢◌, ◌||◌, ℕ, ◌+◌, zero, suc, Bool, true, false, cond, List, [], ◌∷◌, ◌++◌, length, take, map, set, get_or, refl, sym, ap, ◌∙◌, subst, Some, None, arith, eqb, ⊎_elim, get_or-set_same, get_or-set_other, length-set, eq-eqb}
-use Rattle.std.proofs.lemmas.List.{take_more, map-append, length-map}
-use Rattle.std.proofs.lemmas.Bool.{cases_Bool, false≢true, eqb-true}
-use Rattle.std.proofs.lemmas.Option.{slice_get_within}
+use Rattle.prl_base.proofs.Standard.{◌≡◌, ◌<◌, ◌≢◌, ◌||◌, ℕ, ◌+◌, zero, suc, Bool, true, false, cond, List, [], ◌∷◌, ◌++◌, length, take, map, set, get_or, refl, sym, ap, ◌∙◌, subst, Some, None, arith}
+use Rattle.prl_base.proofs.Standard.{eqb, ⊎_elim, get_or-set_same, length-set, take_more, map-append, length-map, cases_Bool, false≢true, eqb-true, slice_get_within, option_map, bytes_eq}
+use Rattle.prl_base.proofs.Standard.{bytes_decides}
+use Rattle.std.proofs.Common.{get_or-set_other, eq-eqb}
 use Rattle.std.specs.List.{slice_get}
-use Rattle.std.specs.Option.{option_map}
-use Rattle.std.specs.Str.{bytes_eq}
-use Rattle.std.specs.Cmp.Lexicographic.{bytes_decides}
 use Rattle.prl_ast.specs.Trees.{NodeTree, ProgramTree, EquationTree, equation_tree, tree_of}
 use Rattle.prl_ast.specs.declared.declarations.Equation.{Equation}
 use Rattle.prl_ast.specs.declared.expressions.Expr.{Expr}

@@ -1,7 +1,6 @@
 -- A node reaches another exactly where a way through the first `k` nodes leads there, for `k` the number of nodes.
-use Rattle.std.proofs.Common.{◌≡◌, ◌<◌, ◌||◌, ◌&&◌, ◌⊎◌, ℕ, ◌+◌, zero, suc, Bool, true, false, cond, List, [], ◌∷◌, length, refl, sym, ◌∙◌, subst, Some, None, arith, inl, inr, ⊎_elim}
-use Rattle.std.proofs.lemmas.Bool.{cases_lt, false≢true, or_cases, and_parts, eqb-true}
-use Rattle.std.proofs.lemmas.Option.{slice_get_within}
+use Rattle.prl_base.proofs.Standard.{◌≡◌, ◌<◌, ◌||◌, ◌&&◌, ◌⊎◌, ℕ, ◌+◌, zero, suc, Bool, true, false, cond, List, [], ◌∷◌, length, refl, sym, ◌∙◌, subst, Some, None, arith, inl, inr, ⊎_elim, cases_lt}
+use Rattle.prl_base.proofs.Standard.{false≢true, or_cases, and_parts, eqb-true, slice_get_within}
 use Rattle.std.specs.List.{slice_get}
 use Rattle.prl_ast.specs.Trees.{Tree, tree, Root, const, var, apply, group, Trees, none, more, EquationTree, NodeTree, ProgramTree}
 use Rattle.prl_names.specs.declared.lookups.Callee.TheVariants as callees

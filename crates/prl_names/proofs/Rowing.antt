@@ -1,7 +1,6 @@
 -- The rows of the nodes, one after another.
-use Rattle.std.proofs.Common.{◌≡◌, ◌<◌, ◌||◌, ◌&&◌, ℕ, ◌+◌, zero, suc, Bool, true, false, cond, List, [], ◌∷◌, ◌++◌, length, take, drop, drop-cons, add-one, map, get_or, replicate, refl, sym, ap, ◌∙◌, subst, Some, arith}
-use Rattle.std.proofs.Math.Seq.{take-append_seam}
-use Rattle.std.proofs.lemmas.List.{length-map}
+use Rattle.prl_base.proofs.Standard.{◌≡◌, ◌<◌, ◌||◌, ◌&&◌, ℕ, ◌+◌, zero, suc, Bool, true, false, cond, List, [], ◌∷◌, ◌++◌, length, take, drop, drop-cons, add-one, map, get_or, replicate, refl, sym}
+use Rattle.prl_base.proofs.Standard.{ap, ◌∙◌, subst, Some, arith, take-append_seam, length-map}
 use Rattle.std.specs.List.{slice_get}
 use Rattle.prl_ast.specs.Trees.{NodeTree, ProgramTree, node_tree}
 use Rattle.prl_ast.specs.declared.declarations.Node.{Node}

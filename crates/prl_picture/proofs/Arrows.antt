@@ -1,7 +1,5 @@
 -- Arrows of edges in a range, and in a longer one.
-use Rattle.std.proofs.Common.{◌≡◌, ◌+◌, ◌*◌, ◌<◌, ◌↔◌, ◌∙◌, ℕ, length, max, sym, subst, arith}
-use Rattle.std.specs.Prelude.{pos, ◌+ℤ◌, ◌*ℤ◌, ◌<ℤ◌}
-use Rattle.std.proofs.lemmas.Int.{ints}
+use Rattle.prl_base.proofs.Standard.{◌≡◌, ◌+◌, ◌*◌, ◌<◌, ◌↔◌, ◌∙◌, ℕ, length, max, sym, subst, arith, pos, ◌+ℤ◌, ◌*ℤ◌, ◌<ℤ◌, ints}
 use Rattle.prl_plan.specs.Vocabulary.{IsHorizonJob, job_count, task_at, operand_of, PlanView, edge_at, ComesFrom}
 use Rattle.prl_plan.specs.declared.graphs.Producer.{Producer}
 use Rattle.prl_plan.specs.declared.graphs.TaskGraph.{TaskGraph}

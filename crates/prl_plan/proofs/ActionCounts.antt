@@ -1,7 +1,5 @@
 -- How many actions the jobs of a task have, edge by edge.
-use Rattle.std.proofs.Common.{◌≡◌, ◌+◌, ◌<◌, ℕ, [], length, take, refl, ap, arith}
-use Rattle.std.specs.Prelude.{is_some, if◌then◌else◌}
-use Rattle.std.proofs.lemmas.List.{take_all}
+use Rattle.prl_base.proofs.Standard.{◌≡◌, ◌+◌, ◌<◌, ℕ, [], length, take, refl, ap, arith, is_some, if◌then◌else◌, take_all}
 use Rattle.prl_plan.specs.Vocabulary.{sum_below, operand_of, ComesFrom, PlanView, edge_at, place_on, both_writes, reading, reads_of, writes_of, actions_of}
 use Rattle.prl_plan.proofs.ActionLists.{reads_more, reads_same, writes_more, writes_same, all_actions_long}
 use Rattle.prl_plan.proofs.SumLaws.{sum_plus, sum_same, sum_none, sum_ones}

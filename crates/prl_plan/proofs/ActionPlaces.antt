@@ -1,8 +1,6 @@
 -- Where the actions of a job stand: reads, then writes, then the end.
-use Rattle.std.proofs.Common.{◌≡◌, ◌+◌, ◌*◌, ◌<◌, ◌≤◌, ◌++◌, ℕ, zero, suc, Bool, true, false, List, [], ◌∷◌, length, get_or, Some, inl, inr, refl, sym, ◌∙◌, ap, subst, arith, cond, eqb, length-append}
-use Rattle.std.specs.Prelude.{is_some, slice_get}
-use Rattle.std.proofs.lemmas.Bool.{cases_eq}
-use Rattle.std.proofs.lemmas.List.{get_or_append_left, get_or-append-add}
+use Rattle.prl_base.proofs.Standard.{◌≡◌, ◌+◌, ◌*◌, ◌<◌, ◌≤◌, ◌++◌, ℕ, zero, suc, Bool, true, false, List, [], ◌∷◌, length, get_or, Some, inl, inr, refl, sym, ◌∙◌, ap, subst, arith, cond, eqb}
+use Rattle.prl_base.proofs.Standard.{length-append, is_some, slice_get, cases_eq, get_or_append_left, get_or-append-add}
 use Rattle.prl_plan.specs.Vocabulary.{Action, Edge, Producer, Operand, operand_of, ComesFrom, PlanView, place_on, cell_of, low, high, both_writes, IsHalfOf, reading, reads_of, writing, writes_of}
 use Rattle.prl_plan.specs.Vocabulary.{actions_of}
 use Rattle.prl_plan.specs.declared.events.Action.TheVariants as actions

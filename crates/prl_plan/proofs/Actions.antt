@@ -1,7 +1,5 @@
 -- The actions of a job are what the definitions of operands and cells say.
-use Rattle.std.proofs.Common.{◌≡◌, ◌+◌, ◌<◌, ◌++◌, ℕ, zero, suc, Bool, true, false, List, [], ◌∷◌, length, get_or, inl, inr, refl, sym, ◌∙◌, ap, subst, arith, cond, eqb}
-use Rattle.std.specs.Prelude.{is_some}
-use Rattle.std.proofs.lemmas.Bool.Decides.{nat_tests}
+use Rattle.prl_base.proofs.Standard.{◌≡◌, ◌+◌, ◌<◌, ◌++◌, ℕ, zero, suc, Bool, true, false, List, [], ◌∷◌, length, get_or, inl, inr, refl, sym, ◌∙◌, ap, subst, arith, cond, eqb, is_some, nat_tests}
 use Rattle.prl_plan.specs.Vocabulary.{Action, Edge, Producer, Operand, operand_of, ComesFrom, PlanView, edge_at, no_edge, place_on, cell_of, low, high, both_writes, reading, reads_of, writing}
 use Rattle.prl_plan.specs.Vocabulary.{writes_of, actions_of, IsActionOf}
 use Rattle.prl_plan.specs.declared.events.Action.TheVariants as actions

@@ -1,8 +1,5 @@
 -- Quotients rounded up.
-use Rattle.std.proofs.Common.{◌≡◌, ◌+◌, ◌*◌, ◌/◌, ◌%◌, ◌<◌, ◌≤◌, ℕ, inl, inr, ap, arith}
-use Rattle.std.specs.Int.{div_ceil}
-use Rattle.std.proofs.Math.Nat.{mul-le-mul_left}
-use Rattle.std.proofs.lemmas.Bool.{cases_lt}
+use Rattle.prl_base.proofs.Standard.{◌≡◌, ◌+◌, ◌*◌, ◌/◌, ◌%◌, ◌<◌, ◌≤◌, ℕ, inl, inr, ap, arith, div_ceil, mul-le-mul_left, cases_lt}
 
 -- the least whole number whose product is not below
 pub ceil_most : (p n k : ℕ) → 1 ≤ k → p ≤ k * n → div_ceil p k ≤ n

@@ -1,8 +1,5 @@
 -- One hyperperiod shows the used instances and the cells that fit.
-use Rattle.std.proofs.Common.{◌≡◌, ◌+◌, ◌-◌, ◌*◌, ◌/◌, ◌%◌, ◌<◌, ◌≤◌, ◌↔◌, ℕ, zero, suc, List, length, refl, sym, ◌∙◌, ap, subst, arith}
-use Rattle.std.specs.Prelude.{ℤ, pos, negsuc, ◌+ℤ◌, ◌-ℤ◌, ◌≤ℤ◌}
-use Rattle.std.proofs.Math.Nat.{mul-div_cancel}
-use Rattle.std.proofs.lemmas.Int.{ints}
+use Rattle.prl_base.proofs.Standard.{◌≡◌, ◌+◌, ◌-◌, ◌*◌, ◌/◌, ◌%◌, ◌<◌, ◌≤◌, ◌↔◌, ℕ, zero, suc, List, length, refl, sym, ◌∙◌, ap, subst, arith, ℤ, pos, negsuc, ◌+ℤ◌, ◌-ℤ◌, ◌≤ℤ◌, mul-div_cancel, ints}
 use Rattle.prl_base.specs.declared.operators.Clock.{Clock}
 use Rattle.prl_plan.specs.Vocabulary.{Edge, TaskGraph, Producer, Used, task_at, preceding, ComesFrom, IsWellFormed, IsEdge, IsSource, Family, used_at, EnumeratesUsed, Fits, first_reader}
 use Rattle.prl_plan.specs.Vocabulary.{first_instance, IsAsked, IsAskedFrom, ListsGaps, FitsInPeriod, span_of}

@@ -1,7 +1,5 @@
 -- Chains of jobs in the encoded dates.
-use Rattle.std.proofs.Common.{◌≡◌, ◌<◌, ℕ, List, [], ◌∷◌, length, arith}
-use Rattle.std.specs.Prelude.{ℤ, pos, ◌+ℤ◌, ◌≤ℤ◌}
-use Rattle.std.proofs.lemmas.Int.{ints}
+use Rattle.prl_base.proofs.Standard.{◌≡◌, ◌<◌, ℕ, List, [], ◌∷◌, length, arith, ℤ, pos, ◌+ℤ◌, ◌≤ℤ◌, ints}
 use Rattle.prl_plan.specs.Vocabulary.{TaskGraph, Window, Job, task_at, AreEncodedDates, encoded_release, HaveRoom, IsChain, last_of, wcets_of, IsNarrow, IsBest}
 
 module _ (graph : TaskGraph) (windows : List (List Window)) (dates : AreEncodedDates graph windows) (room : HaveRoom graph windows) where

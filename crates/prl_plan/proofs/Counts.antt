@@ -1,9 +1,5 @@
 -- How many jobs of a task are released before a date.
-use Rattle.std.proofs.Common.{◌≡◌, ◌+◌, ◌-◌, ◌*◌, ◌/◌, ◌<◌, ◌≤◌, ℕ, inl, inr, arith}
-use Rattle.std.specs.Prelude.{pos, ◌+ℤ◌, ◌*ℤ◌, ◌<ℤ◌, length}
-use Rattle.std.proofs.Math.Nat.{lt-div-mul-add, div-mul-le_self, mul-le-mul_right}
-use Rattle.std.proofs.lemmas.Bool.{cases_lt}
-use Rattle.std.proofs.lemmas.Int.{ints}
+use Rattle.prl_base.proofs.Standard.{◌≡◌, ◌+◌, ◌-◌, ◌*◌, ◌/◌, ◌<◌, ◌≤◌, ℕ, inl, inr, arith, pos, ◌+ℤ◌, ◌*ℤ◌, ◌<ℤ◌, length, lt-div-mul-add, div-mul-le_self, mul-le-mul_right, cases_lt, ints}
 use Rattle.prl_plan.specs.Vocabulary.{TaskGraph, task_at, job_count, IsHorizonJob}
 
 -- number n is below the count of multiples of T, from s on, that are below `until`

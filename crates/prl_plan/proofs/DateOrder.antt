@@ -1,7 +1,5 @@
 -- The order of encoded dates, over all whole numbers.
-use Rattle.std.proofs.Common.{◌<◌, ℕ, length, refl, subst, arith}
-use Rattle.std.specs.Prelude.{ℤ, pos, ◌+ℤ◌, ◌≤ℤ◌, ◌<ℤ◌}
-use Rattle.std.proofs.lemmas.Int.{ints}
+use Rattle.prl_base.proofs.Standard.{◌<◌, ℕ, length, refl, subst, arith, ℤ, pos, ◌+ℤ◌, ◌≤ℤ◌, ◌<ℤ◌, ints}
 use Rattle.prl_plan.specs.Vocabulary.{Edge, TaskGraph, Job, task_at, release_of, IsWellFormed, IsEdge, Precedes, PrecedesAlong, encoded_release, encoded_deadline, PlanView, IsPlan}
 use Rattle.prl_plan.proofs.Periods.{plus_mul}
 use Rattle.prl_plan.proofs.RoundLaws.{source_inside}

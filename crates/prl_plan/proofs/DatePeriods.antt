@@ -1,8 +1,5 @@
 -- The least releases and the greatest deadlines repeat with the hyperperiod: moved by one, they keep the same rules.
-use Rattle.std.proofs.Common.{◌≡◌, ◌*◌, ◌/◌, ◌<◌, ◌≤◌, ℕ, zero, suc, length, refl, sym, ◌∙◌, ap, subst, arith}
-use Rattle.std.specs.Prelude.{ℤ, pos, ◌+ℤ◌, ◌-ℤ◌, ◌≤ℤ◌, neg_ℤ}
-use Rattle.std.proofs.Math.Nat.{mul-div_cancel}
-use Rattle.std.proofs.lemmas.Int.{ints}
+use Rattle.prl_base.proofs.Standard.{◌≡◌, ◌*◌, ◌/◌, ◌<◌, ◌≤◌, ℕ, zero, suc, length, refl, sym, ◌∙◌, ap, subst, arith, ℤ, pos, ◌+ℤ◌, ◌-ℤ◌, ◌≤ℤ◌, neg_ℤ, mul-div_cancel, ints}
 use Rattle.prl_plan.specs.Vocabulary.{Edge, TaskGraph, Job, task_at, release_of, preceding, ComesFrom, Precedes, PrecedesAlong, IsWellFormed, IsEdge, Family, AreReleases, AreDeadlines}
 use Rattle.prl_plan.specs.Vocabulary.{AreLeastReleases, AreGreatestDeadlines, RepeatsByHyper}
 use Rattle.prl_plan.proofs.Periods.{everywhere}

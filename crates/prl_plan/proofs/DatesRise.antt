@@ -1,8 +1,5 @@
 -- Encoded dates do not fall from one job of a task to the next, over all whole numbers.
-use Rattle.std.proofs.Common.{◌≡◌, ◌+◌, ◌-◌, ◌*◌, ◌<◌, ◌≤◌, ◌⊎◌, ℕ, zero, suc, length, inl, inr, refl, sym, ap, subst, arith}
-use Rattle.std.specs.Prelude.{ℤ, pos, negsuc, ◌+ℤ◌, ◌-ℤ◌, ◌≤ℤ◌, List}
-use Rattle.std.proofs.lemmas.Bool.{cases_lt}
-use Rattle.std.proofs.lemmas.Int.{ints}
+use Rattle.prl_base.proofs.Standard.{◌≡◌, ◌+◌, ◌-◌, ◌*◌, ◌<◌, ◌≤◌, ◌⊎◌, ℕ, zero, suc, length, inl, inr, refl, sym, ap, subst, arith, ℤ, pos, negsuc, ◌+ℤ◌, ◌-ℤ◌, ◌≤ℤ◌, List, cases_lt, ints}
 use Rattle.prl_plan.specs.Vocabulary.{Edge, TaskGraph, Window, task_at, IsWellFormed, IsEdge, preceding, Precedes, PrecedesAlong, Family, AreReleases, AreLeastReleases, AreEncodedDates}
 use Rattle.prl_plan.specs.Vocabulary.{encoded_deadline}
 use Rattle.prl_plan.proofs.DatePeriods.{jobs_of, jobs_are, least_repeat}

@@ -1,7 +1,6 @@
 -- Each event keeps the rules or is the first to break one, and in each state all jobs have ended or one is the first that
 -- has not.
-use Rattle.std.proofs.Common.{◌≡◌, ◌<◌, ◌≤◌, ◌+◌, ◌⊎◌, ℕ, slice_index, refl, inl, inr, arith}
-use Rattle.std.proofs.lemmas.Bool.{cases_eq, cases_lt}
+use Rattle.prl_base.proofs.Standard.{◌≡◌, ◌<◌, ◌≤◌, ◌+◌, ◌⊎◌, ℕ, slice_index, refl, inl, inr, arith, cases_eq, cases_lt}
 use Rattle.prl_plan.specs.Vocabulary.{Event, Rule, RunConstants, ExecState, first_unfinished, IsUnfinished, HasJob, ActsFirst, KeepsLegal, IsComplete, IsOvertaken, FirstBroken, IsFirstUnfinished}
 use Rattle.prl_plan.specs.declared.events.Event.TheVariants as events
 use Rattle.prl_plan.specs.declared.events.Rule.TheVariants as rules

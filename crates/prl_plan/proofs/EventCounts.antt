@@ -1,8 +1,6 @@
 -- A free list of events from the opening is no longer than the horizon has actions and ticks.
-use Rattle.std.proofs.Common.{◌≡◌, ◌≢◌, ◌+◌, ◌<◌, ◌≤◌, ◌++◌, ℕ, zero, suc, List, [], ◌∷◌, length, length-append, length-set, get_or, set, refl, sym, ◌∙◌, ap, subst, arith, inl, inr}
-use Rattle.std.proofs.lemmas.Bool.{cases_lt, cases_eq}
-use Rattle.std.proofs.lemmas.Grind.{get_or-set_at}
-use Rattle.std.proofs.lemmas.List.{get_or-set_other, get_or-replicate, length-replicate}
+use Rattle.prl_base.proofs.Standard.{◌≡◌, ◌≢◌, ◌+◌, ◌<◌, ◌≤◌, ◌++◌, ℕ, zero, suc, List, [], ◌∷◌, length, length-append, length-set, get_or, set, refl, sym, ◌∙◌, ap, subst, arith, inl, inr, cases_lt}
+use Rattle.prl_base.proofs.Standard.{cases_eq, get_or-set_at, get_or-set_other, get_or-replicate, length-replicate}
 use Rattle.prl_plan.specs.Vocabulary.{Action, Event, Horizon, IsJob, Placement, sum_below, constants_on, IsHorizon, PlanView, actions_of, reads_of, writes_of, HasJob, IsFree, KeepsFree, RunConstants}
 use Rattle.prl_plan.specs.Vocabulary.{ExecState, opening, action_at, next_action, after_action, after_event, after_events}
 use Rattle.prl_plan.specs.declared.events.Action.TheVariants as actions

@@ -1,6 +1,5 @@
 -- Worked rows of operands and precedence.
-use Rattle.std.proofs.Common.{◌≡◌, List, [], ◌∷◌, refl}
-use Rattle.std.specs.Prelude.{pos, negsuc}
+use Rattle.prl_base.proofs.Standard.{◌≡◌, List, [], ◌∷◌, refl, pos, negsuc}
 use Rattle.prl_base.specs.declared.operators.Op.{Op}
 use Rattle.prl_base.specs.declared.operators.Op.TheVariants as operators
 use Rattle.prl_base.specs.declared.values.Value.TheVariants as values

@@ -1,9 +1,6 @@
 -- Differences between numbers that come again with a span: they list all of them in turn.
-use Rattle.std.proofs.Common.{◌≡◌, ◌+◌, ◌*◌, ◌/◌, ◌%◌, ◌<◌, ◌≤◌, ◌↔◌, ℕ, zero, suc, List, [], ◌∷◌, length, take, sum, inl, inr, refl, sym, ◌∙◌, ap, subst, arith}
-use Rattle.std.proofs.lemmas.Bool.{cases_lt}
-use Rattle.std.proofs.lemmas.Nat.{div-mul-add, mod-mul-add}
-use Rattle.std.proofs.lemmas.List.{take_all}
-use Rattle.std.proofs.lemmas.List.Sums.{sum_by-take-le}
+use Rattle.prl_base.proofs.Standard.{◌≡◌, ◌+◌, ◌*◌, ◌/◌, ◌%◌, ◌<◌, ◌≤◌, ◌↔◌, ℕ, zero, suc, List, [], ◌∷◌, length, take, sum, inl, inr, refl, sym, ◌∙◌, ap, subst, arith, cases_lt, div-mul-add}
+use Rattle.prl_base.proofs.Standard.{mod-mul-add, take_all, sum_by-take-le}
 use Rattle.prl_plan.specs.CellTurns.{ListsGaps}
 use Rattle.prl_plan.proofs.UsedLaws.{sum_all, sum_up_to}
 

@@ -1,8 +1,6 @@
 -- Before each high half stands the low half of the same read or write.
-use Rattle.std.proofs.Common.{◌≡◌, ◌+◌, ◌-◌, ◌*◌, ◌++◌, ℕ, zero, suc, Bool, true, false, List, [], ◌∷◌, length, get_or, inl, inr, sym, ◌∙◌, ap, subst, arith, cond, eqb}
-use Rattle.std.specs.Prelude.{is_some}
-use Rattle.std.proofs.lemmas.Bool.{cases_lt}
-use Rattle.std.proofs.lemmas.List.{get_or_append_left, get_or-append-add}
+use Rattle.prl_base.proofs.Standard.{◌≡◌, ◌+◌, ◌-◌, ◌*◌, ◌++◌, ℕ, zero, suc, Bool, true, false, List, [], ◌∷◌, length, get_or, inl, inr, sym, ◌∙◌, ap, subst, arith, cond, eqb, is_some, cases_lt}
+use Rattle.prl_base.proofs.Standard.{get_or_append_left, get_or-append-add}
 use Rattle.prl_plan.specs.Vocabulary.{Action, Edge, Producer, Operand, operand_of, PlanView, place_on, cell_of, low, high, both_writes, IsHigh, low_of, reading, reads_of, writing, writes_of}
 use Rattle.prl_plan.specs.Vocabulary.{actions_of}
 use Rattle.prl_plan.specs.declared.events.Action.TheVariants as actions

@@ -1,7 +1,5 @@
 -- What a job reads is given by a job that stands earlier in the table.
-use Rattle.std.proofs.Common.{◌≡◌, ◌<◌, ℕ, List, length, Some, inl, inr, sym, ◌∙◌, ap, subst, arith}
-use Rattle.std.specs.Prelude.{slice_get}
-use Rattle.std.proofs.lemmas.Bool.{cases_lt}
+use Rattle.prl_base.proofs.Standard.{◌≡◌, ◌<◌, ℕ, List, length, Some, inl, inr, sym, ◌∙◌, ap, subst, arith, slice_get, cases_lt}
 use Rattle.prl_plan.specs.declared.walks.Operand.TheVariants as operands
 use Rattle.prl_plan.specs.Vocabulary.{IsHorizonJob, TableRow, IsJobTable, operand_of, ComesFrom, PlanView, IsPlan, edge_at, release_at}
 use Rattle.prl_plan.proofs.PlanFacts.{operand_horizon, along_at}

@@ -1,6 +1,5 @@
 -- Legal lists are gated: each read finds its tag.
-use Rattle.std.proofs.Common.{◌≡◌, ◌+◌, ◌<◌, ◌≤◌, ℕ, List, [], ◌∷◌, get_or, inl, inr, refl, arith}
-use Rattle.std.proofs.lemmas.Bool.{cases_lt}
+use Rattle.prl_base.proofs.Standard.{◌≡◌, ◌+◌, ◌<◌, ◌≤◌, ℕ, List, [], ◌∷◌, get_or, inl, inr, refl, arith, cases_lt}
 use Rattle.prl_base.specs.declared.numbers.EdgeNo.{EdgeNo}
 use Rattle.prl_plan.specs.Vocabulary.{Action, Event, RunConstants, ExecState, next_action, after_event, after_events, IsUnfinished, HasJob, ActsReleased, ActsFirst, FindsTag, KeepsGated, KeepsLegal}
 use Rattle.prl_plan.specs.Vocabulary.{IsGated, IsLegal, IsJob, ReadsAt, WritesAt, Provides, HasPlanFacts, IsSound}

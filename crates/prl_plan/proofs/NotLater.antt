@@ -1,8 +1,6 @@
 -- Over all whole numbers, the job that precedes is not released later.
-use Rattle.std.proofs.Common.{◌≡◌, ◌+◌, ◌*◌, ◌≤◌, ℕ, zero, suc, List, [], ◌∷◌, Some, refl, sym, ◌∙◌, ap, subst, arith}
-use Rattle.std.specs.Prelude.{ℤ, pos, ◌+ℤ◌, ◌*ℤ◌, ◌≤ℤ◌, nat_abs, slice_get}
-use Rattle.std.proofs.Math.IntN.{zero-*ℤ, suc_ℤ-*ℤ, *ℤ_comm}
-use Rattle.std.proofs.lemmas.Int.{ints}
+use Rattle.prl_base.proofs.Standard.{◌≡◌, ◌+◌, ◌*◌, ◌≤◌, ℕ, zero, suc, List, [], ◌∷◌, Some, refl, sym, ◌∙◌, ap, subst, arith, ℤ, pos, ◌+ℤ◌, ◌*ℤ◌, ◌≤ℤ◌, nat_abs, slice_get, zero-*ℤ, suc_ℤ-*ℤ, *ℤ_comm}
+use Rattle.prl_base.proofs.Standard.{ints}
 use lib.IntN.{suc_ℤ, pred_ℤ}
 use Rattle.prl_base.specs.Operators.{IsOperatorFor, floor_div}
 use Rattle.prl_base.specs.declared.operators.Clock.{Clock}

@@ -1,10 +1,6 @@
 -- A graph determines its plan.
-use Rattle.std.proofs.Common.{◌≡◌, ◌%◌, ◌<◌, ◌≤◌, ℕ, List, [], length, get_or, take, sum, Some, sym, ◌∙◌, ap, subst, arith}
-use Rattle.std.specs.Prelude.{ℤ, pos, slice_get, slice_index, slice_index_or}
-use Rattle.std.proofs.lemmas.Int.{ints}
-use Rattle.std.proofs.lemmas.Nat.{mod_below}
-use Rattle.std.proofs.lemmas.List.{ext_get_or}
-use Rattle.std.proofs.lemmas.Option.{slice_get-get_or, same_Some}
+use Rattle.prl_base.proofs.Standard.{◌≡◌, ◌%◌, ◌<◌, ◌≤◌, ℕ, List, [], length, get_or, take, sum, Some, sym, ◌∙◌, ap, subst, arith, ℤ, pos, slice_get, slice_index, slice_index_or, ints, mod_below}
+use Rattle.prl_base.proofs.Standard.{ext_get_or, slice_get-get_or, same_Some}
 use Rattle.prl_plan.specs.Vocabulary.{Edge, TaskGraph, Producer, Window, Used, Word, IsShortestRepeat, AreWords, Family, AreEncodedDates, window_at, no_window, encoded_release, encoded_deadline}
 use Rattle.prl_plan.specs.Vocabulary.{HasCells, AreLeastCells, no_used, IsLeastCount, PlanView, IsPlan, AreShortWindows, AreShortGaps, edge_at, no_edge}
 use Rattle.prl_plan.specs.declared.graphs.Producer.TheVariants as producers

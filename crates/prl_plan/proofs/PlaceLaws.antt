@@ -1,11 +1,7 @@
 -- The place of a used instance, by division and by the sums of the gaps.
-use Rattle.std.proofs.Common.{◌≡◌, ◌+◌, ◌-◌, ◌*◌, ◌/◌, ◌%◌, ◌<◌, ◌≤◌, ℕ, Option, Some, None, length, get_or, take, sum, inl, inr, refl, sym, ◌∙◌, ap, arith, Bool, cond}
-use Rattle.std.proofs.lemmas.Bool.{cases_lt}
-use Rattle.std.proofs.lemmas.Nat.{div-mul-add, mod-mul-add, mod_below}
-use Rattle.std.proofs.lemmas.List.Sums.{sum_by_more}
+use Rattle.prl_base.proofs.Standard.{◌≡◌, ◌+◌, ◌-◌, ◌*◌, ◌/◌, ◌%◌, ◌<◌, ◌≤◌, ℕ, Option, Some, None, length, get_or, take, sum, inl, inr, refl, sym, ◌∙◌, ap, arith, Bool, cond, cases_lt, div-mul-add}
+use Rattle.prl_base.proofs.Standard.{mod-mul-add, mod_below, sum_by_more, mod-add-div', take_all}
 use Rattle.prl_plan.specs.Vocabulary.{Edge, Used, used_at, place_up_to, place_of, EnumeratesUsed, IsOrdered, CountsUsed}
-use Rattle.std.proofs.Math.Nat.{mod-add-div'}
-use Rattle.std.proofs.lemmas.List.{take_all}
 use Rattle.prl_plan.proofs.RepeatLaws.{next_gap, first_number, some_length}
 use Rattle.prl_plan.proofs.UsedLaws.{rising_to, at_least, some_gaps, sum_all, test_same, place_found, place_stands}
 

@@ -1,8 +1,6 @@
 -- Lists of numbers with a place set, and the elements of two lists.
-use Rattle.std.proofs.Common.{◌≡◌, ◌≢◌, ◌+◌, ◌++◌, ◌<◌, ◌⊎◌, ℕ, zero, suc, List, [], ◌∷◌, Some, length, get_or, set, inl, inr, ap, arith, get_or-set_other}
-use Rattle.std.specs.Prelude.{slice_get}
-use Rattle.std.proofs.lemmas.Bool.{cases_eq}
-use Rattle.std.proofs.lemmas.Grind.{get_or-set_at}
+use Rattle.prl_base.proofs.Standard.{◌≡◌, ◌≢◌, ◌+◌, ◌++◌, ◌<◌, ◌⊎◌, ℕ, zero, suc, List, [], ◌∷◌, Some, length, get_or, set, inl, inr, ap, arith, slice_get, cases_eq, get_or-set_at}
+use Rattle.std.proofs.Common.{get_or-set_other}
 
 -- an element of a list with place i set: the new one, or as it was
 pub get_set : (xs : List ℕ) (i v j : ℕ) → i < length xs →

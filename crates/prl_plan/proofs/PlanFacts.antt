@@ -1,10 +1,6 @@
 -- The facts of every plan, from what a plan is.
-use Rattle.std.proofs.Common.{◌≡◌, ◌+◌, ◌*◌, ◌/◌, ◌%◌, ◌<◌, ◌≤◌, ℕ, Bool, true, false, length, take, sum, Option, Some, None, inl, inr, refl, sym, ◌∙◌, ap, subst, arith}
-use Rattle.std.specs.Prelude.{pos, ◌≤ℤ◌, is_some, IsSome, unwrap_or, slice_get, slice_index, slice_index_or}
-use Rattle.std.proofs.Math.Nat.{div-add-mod, mod-lt, mul-le-mul_left, mul-le-mul_right}
-use Rattle.std.proofs.lemmas.Bool.{cases_lt}
-use Rattle.std.proofs.lemmas.Int.{ints}
-use Rattle.std.proofs.lemmas.Option.{slice_get-get_or}
+use Rattle.prl_base.proofs.Standard.{◌≡◌, ◌+◌, ◌*◌, ◌/◌, ◌%◌, ◌<◌, ◌≤◌, ℕ, Bool, true, false, length, take, sum, Option, Some, None, inl, inr, refl, sym, ◌∙◌, ap, subst, arith, pos, ◌≤ℤ◌, is_some}
+use Rattle.prl_base.proofs.Standard.{IsSome, unwrap_or, slice_get, slice_index, slice_index_or, div-add-mod, mod-lt, mul-le-mul_left, mul-le-mul_right, cases_lt, ints, slice_get-get_or}
 use Rattle.prl_base.specs.declared.numbers.EdgeNo.{EdgeNo}
 use Rattle.prl_plan.specs.Vocabulary.{Action, Edge, TaskGraph, Producer, Horizon, Used, task_at, no_task, deadline_of, job_count, IsHorizonJob, walk, operand_of, ComesFrom, Precedes, IsWellFormed}
 use Rattle.prl_plan.specs.Vocabulary.{IsTask, IsEdge, encoded_release, encoded_deadline, EnumeratesUsed, IsLeastCount, used_at, no_used, PlanView, IsPlan, edge_at, no_edge, release_at, deadline_at}

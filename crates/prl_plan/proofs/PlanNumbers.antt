@@ -1,9 +1,5 @@
 -- The numbers of a graph and of its plans fit.
-use Rattle.std.proofs.Common.{◌≡◌, ◌+◌, ◌*◌, ◌<◌, ◌≤◌, ◌^◌, ℕ, List, [], ◌∷◌, length, subst, arith}
-use Rattle.std.specs.Prelude.{ℤ, pos}
-use Rattle.std.proofs.Math.Nat.{mul-le-mul_left}
-use Rattle.std.proofs.lemmas.Int.{ints}
-use Rattle.std.proofs.lemmas.Option.{slice_get-get_or}
+use Rattle.prl_base.proofs.Standard.{◌≡◌, ◌+◌, ◌*◌, ◌<◌, ◌≤◌, ◌^◌, ℕ, List, [], ◌∷◌, length, subst, arith, ℤ, pos, mul-le-mul_left, ints, slice_get-get_or}
 use Rattle.prl_base.specs.declared.operators.Clock.{Clock}
 use Rattle.prl_base.specs.declared.operators.Op.{Op}
 use Rattle.prl_plan.specs.Vocabulary.{Edge, TaskGraph, Window, task_at, IsHorizonJob, IsWellFormed, IsEdge, IsTask, TakeClock, walk, operand_of, AreEncodedDates, window_at, PlanView, HaveRoom, IsPlan}

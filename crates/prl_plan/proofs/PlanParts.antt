@@ -1,8 +1,6 @@
 -- What the look-ups of a plan rest on.
-use Rattle.std.proofs.Common.{◌≡◌, ◌+◌, ◌*◌, ◌<◌, ◌≤◌, ℕ, length, sum, take, Some, None, Option, inl, inr, refl, sym, ◌∙◌, ap, subst, arith}
-use Rattle.std.specs.Prelude.{slice_get, slice_index, slice_index_or}
-use Rattle.std.proofs.Math.Nat.{mul-le-mul_left}
-use Rattle.std.proofs.lemmas.Option.{slice_get-get_or}
+use Rattle.prl_base.proofs.Standard.{◌≡◌, ◌+◌, ◌*◌, ◌<◌, ◌≤◌, ℕ, length, sum, take, Some, None, Option, inl, inr, refl, sym, ◌∙◌, ap, subst, arith, slice_get, slice_index, slice_index_or}
+use Rattle.prl_base.proofs.Standard.{mul-le-mul_left, slice_get-get_or}
 use Rattle.prl_plan.specs.Vocabulary.{Edge, Producer, Used, HasCells, IsUsed, no_used, IsOrdered, span_of, encoded_release, encoded_deadline, IsEdge, PlanView, IsPlan, edge_at, no_edge, place_on}
 use Rattle.prl_plan.specs.Vocabulary.{ComesFrom, task_at}
 use Rattle.prl_plan.specs.declared.graphs.Producer.TheVariants as producers

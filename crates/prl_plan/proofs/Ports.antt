@@ -1,7 +1,5 @@
 -- The reads of a job are at its ports in order.
-use Rattle.std.proofs.Common.{◌≡◌, ◌+◌, ◌%◌, ◌<◌, ◌++◌, ℕ, zero, suc, Bool, true, false, List, [], ◌∷◌, get_or, inl, inr, refl, sym, subst, arith, cond, eqb}
-use Rattle.std.specs.Prelude.{is_some}
-use Rattle.std.proofs.lemmas.Bool.{cases_eq}
+use Rattle.prl_base.proofs.Standard.{◌≡◌, ◌+◌, ◌%◌, ◌<◌, ◌++◌, ℕ, zero, suc, Bool, true, false, List, [], ◌∷◌, get_or, inl, inr, refl, sym, subst, arith, cond, eqb, is_some, cases_eq}
 use Rattle.prl_plan.specs.Vocabulary.{Action, Edge, Producer, Operand, IsWellFormed, PortsFollow, AreInOrder, operand_of, PlanView, place_on, cell_of, low, high, both_writes, reading, reads_of}
 use Rattle.prl_plan.specs.Vocabulary.{writing, writes_of, actions_of, operands_in, operands_before, IsAtPort}
 use Rattle.prl_plan.specs.declared.events.Action.TheVariants as actions

@@ -1,6 +1,5 @@
 -- A sound state in which some job has not ended goes on.
-use Rattle.std.proofs.Common.{◌≡◌, ◌+◌, ◌<◌, ◌≤◌, ◌⊎◌, ℕ, zero, suc, get_or, inl, inr, refl, sym, ap, subst, arith}
-use Rattle.std.proofs.lemmas.Bool.{cases_lt}
+use Rattle.prl_base.proofs.Standard.{◌≡◌, ◌+◌, ◌<◌, ◌≤◌, ◌⊎◌, ℕ, zero, suc, get_or, inl, inr, refl, sym, ap, subst, arith, cases_lt}
 use Rattle.prl_plan.specs.Vocabulary.{Action, RunConstants, ExecState, next_action, IsUnfinished, HasJob, ActsReleased, MayTick, FindsTag, KeepsGated, first_unfinished, IsJob, ReadsAt, Provides}
 use Rattle.prl_plan.specs.Vocabulary.{HasPlanFacts, IsSound, IsLeastReleased}
 use Rattle.prl_plan.specs.declared.events.Action.TheVariants as actions

@@ -1,7 +1,6 @@
 -- Where a job reads an edge, and that it writes both halves.
-use Rattle.std.proofs.Common.{◌≡◌, ◌+◌, ◌<◌, ◌++◌, ℕ, zero, suc, Bool, true, false, List, [], ◌∷◌, length, take, Some, refl, sym, ◌∙◌, ap, subst, arith, cond, eqb, length-append}
-use Rattle.std.specs.Prelude.{IsSome, slice_get}
-use Rattle.std.proofs.lemmas.Option.{slice_get-get_or}
+use Rattle.prl_base.proofs.Standard.{◌≡◌, ◌+◌, ◌<◌, ◌++◌, ℕ, zero, suc, Bool, true, false, List, [], ◌∷◌, length, take, Some, refl, sym, ◌∙◌, ap, subst, arith, cond, eqb, length-append, IsSome}
+use Rattle.prl_base.proofs.Standard.{slice_get, slice_get-get_or}
 use Rattle.prl_plan.specs.Vocabulary.{Action, Edge, operand_of, ComesFrom, PlanView, edge_at, no_edge, place_on, cell_of, IsHalfOf, reading, reads_of, writes_of, actions_of, reads_before}
 use Rattle.prl_plan.specs.declared.events.Action.TheVariants as actions
 use Rattle.prl_plan.proofs.ActionPlaces.{write_stands, half_stands}

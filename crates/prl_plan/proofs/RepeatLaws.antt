@@ -1,12 +1,7 @@
 -- The shortest list that repeats in one way is one; and so are the word of an edge, and an enumeration by gaps.
-use Rattle.std.proofs.Common.{◌≡◌, ◌+◌, ◌-◌, ◌*◌, ◌/◌, ◌%◌, ◌<◌, ◌≤◌, ℕ, zero, suc, List, [], ◌∷◌, length, get_or, take, sum, Some, inl, inr, refl, sym, ◌∙◌, ap, subst, arith}
-use Rattle.std.specs.Prelude.{slice_get, slice_index}
-use Rattle.std.proofs.lemmas.Bool.{cases_lt}
-use Rattle.std.proofs.lemmas.Nat.{div-mul-add, mod-mul-add, mod_below}
-use Rattle.std.proofs.lemmas.List.{same_lists, take_all, get_or_default}
-use Rattle.std.proofs.lemmas.List.Sums.{sum_by_more}
-use Rattle.std.proofs.lemmas.Option.{slice_get-get_or, same_Some}
-use Rattle.std.proofs.Math.Nat.{add-mul-mod_self_right, mod-eq_of_lt, div-eq_of_lt, mod-add-div'}
+use Rattle.prl_base.proofs.Standard.{◌≡◌, ◌+◌, ◌-◌, ◌*◌, ◌/◌, ◌%◌, ◌<◌, ◌≤◌, ℕ, zero, suc, List, [], ◌∷◌, length, get_or, take, sum, Some, inl, inr, refl, sym, ◌∙◌, ap, subst, arith, slice_get}
+use Rattle.prl_base.proofs.Standard.{slice_index, cases_lt, div-mul-add, mod-mul-add, mod_below, same_lists, take_all, get_or_default, sum_by_more, slice_get-get_or, same_Some, add-mul-mod_self_right}
+use Rattle.prl_base.proofs.Standard.{mod-eq_of_lt, div-eq_of_lt, mod-add-div'}
 use Rattle.prl_base.specs.declared.operators.Op.{Op}
 use Rattle.prl_base.specs.declared.values.Value.{Value}
 use Rattle.prl_plan.specs.declared.walks.Operand.TheVariants as operands

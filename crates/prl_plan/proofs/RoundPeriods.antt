@@ -1,8 +1,5 @@
 -- What comes again with the hyperperiod: releases, and the jobs that precede along an edge.
-use Rattle.std.proofs.Common.{◌≡◌, ◌*◌, ◌<◌, ℕ, length, refl, ◌∙◌, ap, subst, arith}
-use Rattle.std.specs.Prelude.{ℤ, pos, ◌+ℤ◌}
-use Rattle.std.proofs.lemmas.Int.{ints}
-use Rattle.std.proofs.lemmas.Option.{slice_get-get_or}
+use Rattle.prl_base.proofs.Standard.{◌≡◌, ◌*◌, ◌<◌, ℕ, length, refl, ◌∙◌, ap, subst, arith, ℤ, pos, ◌+ℤ◌, ints, slice_get-get_or}
 use Rattle.prl_base.specs.declared.operators.Clock.{Clock}
 use Rattle.prl_plan.specs.Vocabulary.{Edge, TaskGraph, Producer, task_at, no_task, release_of, preceding, ComesFrom, IsWellFormed, IsTask, IsEdge, IsSource, TakeClock}
 use Rattle.prl_plan.specs.declared.graphs.Producer.TheVariants as producers

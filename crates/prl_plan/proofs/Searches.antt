@@ -1,8 +1,5 @@
 -- Searches among the numbers below a bound, and lists by what stands at each place.
-use Rattle.std.proofs.Common.{◌≡◌, ◌+◌, ◌<◌, ◌⊎◌, ℕ, zero, suc, List, [], ◌∷◌, length, get_or, refl, ap, inl, inr, arith, subst}
-use Rattle.std.specs.Prelude.{Option, Some, None, slice_get, slice_index}
-use Rattle.std.proofs.lemmas.Bool.{cases_lt}
-use Rattle.std.proofs.lemmas.Option.{same_Some}
+use Rattle.prl_base.proofs.Standard.{◌≡◌, ◌+◌, ◌<◌, ◌⊎◌, ℕ, zero, suc, List, [], ◌∷◌, length, get_or, refl, ap, inl, inr, arith, subst, Option, Some, None, slice_get, slice_index, cases_lt, same_Some}
 
 -- of the numbers below a bound all have one of two properties, or there is a least one that has the other
 pub record IsLeastSuch (P Q : ℕ → Type 0) (bound k : ℕ) : Type 0 where

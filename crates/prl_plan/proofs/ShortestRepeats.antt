@@ -1,9 +1,7 @@
 -- The shortest list that repeats as a list does, found among the divisors of its length.
-use Rattle.std.proofs.Common.{◌≡◌, ◌+◌, ◌-◌, ◌*◌, ◌/◌, ◌%◌, ◌<◌, ◌≤◌, ◌⊎◌, ℕ, zero, suc, List, [], ◌∷◌, length, length-take-le, take, inl, inr, refl, sym, ◌∙◌, ap, arith}
-use Rattle.std.specs.Prelude.{slice_get}
-use Rattle.std.proofs.Math.Nat.{add-mul-mod_self_right, mod-eq_of_lt, mod-add-div'}
-use Rattle.std.proofs.lemmas.Bool.{cases_eq, cases_lt}
-use Rattle.std.proofs.lemmas.Nat.{mod_below}
+use Rattle.prl_base.proofs.Standard.{◌≡◌, ◌+◌, ◌-◌, ◌*◌, ◌/◌, ◌%◌, ◌<◌, ◌≤◌, ◌⊎◌, ℕ, zero, suc, List, [], ◌∷◌, length, take, inl, inr, refl, sym, ◌∙◌, ap, arith, slice_get, add-mul-mod_self_right}
+use Rattle.prl_base.proofs.Standard.{mod-eq_of_lt, mod-add-div', cases_eq, cases_lt, mod_below}
+use Rattle.std.proofs.Common.{length-take-le}
 use Rattle.prl_plan.proofs.Searches.{all_or_least}
 use Rattle.prl_plan.specs.Repeats.{repeated, ComesAgain, ComesWithin, IsShortestRepeat, IsLeastRepeat}
 

@@ -1,7 +1,5 @@
 -- Each event that a gated list allows keeps a sound state.
-use Rattle.std.proofs.Common.{◌≡◌, ◌+◌, ◌<◌, ◌≤◌, ℕ, length, get_or, set, replicate, inl, inr, refl, sym, ap, subst, arith}
-use Rattle.std.proofs.lemmas.Bool.{cases_lt}
-use Rattle.std.proofs.lemmas.List.{get_or-replicate}
+use Rattle.prl_base.proofs.Standard.{◌≡◌, ◌+◌, ◌<◌, ◌≤◌, ℕ, length, get_or, set, replicate, inl, inr, refl, sym, ap, subst, arith, cases_lt, get_or-replicate}
 use Rattle.prl_base.specs.declared.numbers.EdgeNo.{EdgeNo}
 use Rattle.prl_plan.specs.Vocabulary.{Action, Event, RunConstants, ExecState, opening, next_action, moved, after_action, after_event, IsUnfinished, HasJob, ActsReleased, KeepsGated, IsJob, ReadsAt}
 use Rattle.prl_plan.specs.Vocabulary.{WritesAt, HasPlanFacts, IsSound}

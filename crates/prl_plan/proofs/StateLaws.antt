@@ -1,7 +1,6 @@
 -- For the crates above: lemmas over public definitions alone, those of the laws of states in `src/laws.rt` and what a proof
 -- about actions and halves asks for.
-use Rattle.std.proofs.Common.{◌≡◌, ◌+◌, ◌%◌, ◌<◌, ◌⊎◌, ℕ, length, get_or, inl, inr, refl, ◌∙◌, ap, arith}
-use Rattle.std.specs.Prelude.{slice_index}
+use Rattle.prl_base.proofs.Standard.{◌≡◌, ◌+◌, ◌%◌, ◌<◌, ◌⊎◌, ℕ, length, get_or, inl, inr, refl, ◌∙◌, ap, arith, slice_index}
 use Rattle.prl_base.specs.declared.numbers.EdgeNo.{EdgeNo}
 use Rattle.prl_base.specs.declared.numbers.TaskNo.{TaskNo}
 use Rattle.prl_plan.specs.Vocabulary.{Action, Event, RunConstants, ExecState, opening, action_at, next_action, moved, after_action, after_event, PlanView, low, high, actions_of, IsActionOf, HasJob}

@@ -1,7 +1,5 @@
 -- Sums over the jobs of a task: how many actions their reads and writes are, by counts.
-use Rattle.std.proofs.Common.{◌≡◌, ◌+◌, ◌-◌, ◌*◌, ◌<◌, ◌≤◌, ◌↔◌, ℕ, zero, suc, [], Option, Some, None, length, inl, inr, refl, sym, ◌∙◌, ap, subst, arith}
-use Rattle.std.specs.Prelude.{if◌then◌else◌, is_some}
-use Rattle.std.proofs.lemmas.Bool.{cases_lt}
+use Rattle.prl_base.proofs.Standard.{◌≡◌, ◌+◌, ◌-◌, ◌*◌, ◌<◌, ◌≤◌, ◌↔◌, ℕ, zero, suc, [], Option, Some, None, length, inl, inr, refl, sym, ◌∙◌, ap, subst, arith, if◌then◌else◌, is_some, cases_lt}
 use Rattle.prl_plan.specs.Vocabulary.{Edge, Producer, Used, Operand, used_at, place_of, EnumeratesUsed, IsOrdered, CountsUsed, IsFirstReader, sum_below, walk, operand_from, operand_of, PlanView}
 use Rattle.prl_plan.specs.Vocabulary.{reading, both_writes}
 use Rattle.prl_plan.specs.declared.graphs.Producer.TheVariants as producers

@@ -1,8 +1,7 @@
 -- The rows by date are the job table.
-use Rattle.std.proofs.Common.{◌≡◌, ◌+◌, ◌*◌, ◌<◌, ◌≤◌, ◌⊎◌, ◌++◌, ℕ, zero, suc, List, [], ◌∷◌, length, Some, None, inl, inr, refl, sym, ◌∙◌, ap, subst, arith, cond, eqb, eq-eqb, ne_eqb}
-use Rattle.std.specs.Prelude.{pos, ◌≤ℤ◌, slice_get}
-use Rattle.std.proofs.lemmas.Bool.{cases_eq, cases_lt}
-use Rattle.std.proofs.lemmas.Int.{ints}
+use Rattle.prl_base.proofs.Standard.{◌≡◌, ◌+◌, ◌*◌, ◌<◌, ◌≤◌, ◌⊎◌, ◌++◌, ℕ, zero, suc, List, [], ◌∷◌, length, Some, None, inl, inr, refl, sym, ◌∙◌, ap, subst, arith, cond, eqb, pos, ◌≤ℤ◌, slice_get}
+use Rattle.prl_base.proofs.Standard.{cases_eq, cases_lt, ints}
+use Rattle.std.proofs.Common.{eq-eqb, ne_eqb}
 use Rattle.prl_plan.specs.Vocabulary.{Operand, task_at, deadline_of, job_count, IsHorizonJob, encoded_deadline, PlanView, IsPlan, release_at, TableRow, IsJobTable, ComesBefore, operands_over, row_of}
 use Rattle.prl_plan.specs.Vocabulary.{jobs_at, rows_at, rows_before, job_table}
 use Rattle.prl_plan.proofs.Counts.{IsHorizonJob_count, job_count_horizon}

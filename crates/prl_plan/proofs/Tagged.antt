@@ -1,8 +1,7 @@
 -- Each event that a free list allows keeps the tags.
-use Rattle.std.proofs.Common.{◌≡◌, ◌+◌, ◌-◌, ◌<◌, ◌≤◌, ◌⊎◌, ℕ, List, [], ◌∷◌, length, get_or, set, replicate, inl, inr, refl, sym, ◌∙◌, ap, subst, arith}
-use Rattle.std.proofs.lemmas.Bool.{cases_eq, cases_lt, cases_order}
-use Rattle.std.proofs.lemmas.List.{get_or_past, length-set, length-replicate, get_or-replicate, get_or-set_other}
-use Rattle.std.proofs.lemmas.Grind.{get_or-set_at}
+use Rattle.prl_base.proofs.Standard.{◌≡◌, ◌+◌, ◌-◌, ◌<◌, ◌≤◌, ◌⊎◌, ℕ, List, [], ◌∷◌, length, get_or, set, replicate, inl, inr, refl, sym, ◌∙◌, ap, subst, arith, cases_eq, cases_lt, cases_order}
+use Rattle.prl_base.proofs.Standard.{get_or_past, length-replicate, get_or-replicate, get_or-set_other, get_or-set_at}
+use Rattle.std.proofs.lemmas.List.{length-set}
 use Rattle.prl_base.specs.declared.numbers.EdgeNo.{EdgeNo}
 use Rattle.prl_base.specs.declared.values.Value.{Value}
 use Rattle.prl_plan.specs.Vocabulary.{SlotNo, Action, Event, RunConstants, ExecState, opening, action_at, next_action, moved, after_action, after_event, after_events, low, high, IsHigh, low_of}

@@ -1,8 +1,6 @@
 -- Used instances in order, and the cells of edges side by side.
-use Rattle.std.proofs.Common.{◌≡◌, ◌+◌, ◌*◌, ◌/◌, ◌%◌, ◌<◌, ◌≤◌, ℕ, zero, suc, Bool, true, false, List, [], ◌∷◌, length, get_or, take, sum, Option, Some, None, inl, inr, refl, sym, ◌∙◌, ap, subst, arith, eqb, cond}
-use Rattle.std.proofs.lemmas.Bool.{cases_lt}
-use Rattle.std.proofs.lemmas.List.Sums.{sum_by-cons}
-use Rattle.std.proofs.lemmas.Bool.Decides.{nat_tests}
+use Rattle.prl_base.proofs.Standard.{◌≡◌, ◌+◌, ◌*◌, ◌/◌, ◌%◌, ◌<◌, ◌≤◌, ℕ, zero, suc, Bool, true, false, List, [], ◌∷◌, length, get_or, take, sum, Option, Some, None, inl, inr, refl, sym, ◌∙◌, ap}
+use Rattle.prl_base.proofs.Standard.{subst, arith, eqb, cond, cases_lt, sum_by-cons, nat_tests}
 use Rattle.prl_plan.specs.Vocabulary.{Edge, Used, used_at, EnumeratesUsed, place_up_to, place_of}
 
 pub test_same : (x y : ℕ) → x ≡ y → eqb x y ≡ true

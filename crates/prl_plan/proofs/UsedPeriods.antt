@@ -1,9 +1,6 @@
 -- The used instances of an edge come again with the producer's jobs in a hyperperiod, so the shortest gaps are no longer.
-use Rattle.std.proofs.Common.{◌≡◌, ◌+◌, ◌-◌, ◌*◌, ◌/◌, ◌%◌, ◌<◌, ◌≤◌, ℕ, zero, suc, length, get_or, take, sum, Some, inl, inr, sym, ◌∙◌, ap, subst, arith}
-use Rattle.std.specs.Prelude.{pos}
-use Rattle.std.proofs.lemmas.Bool.{cases_lt}
-use Rattle.std.proofs.lemmas.Nat.{div-mul-add, mod-mul-add, mod_below}
-use Rattle.std.proofs.lemmas.Option.{slice_get-get_or}
+use Rattle.prl_base.proofs.Standard.{◌≡◌, ◌+◌, ◌-◌, ◌*◌, ◌/◌, ◌%◌, ◌<◌, ◌≤◌, ℕ, zero, suc, length, get_or, take, sum, Some, inl, inr, sym, ◌∙◌, ap, subst, arith, pos, cases_lt, div-mul-add}
+use Rattle.prl_base.proofs.Standard.{mod-mul-add, mod_below, slice_get-get_or}
 use Rattle.prl_plan.specs.Vocabulary.{Edge, TaskGraph, Used, IsWellFormed, IsEdge, ComesFrom, ComesAgain, IsShortestRepeat, IsUsed, used_at, EnumeratesUsed, first_instance, IsAsked, span_of}
 use Rattle.prl_plan.proofs.CellPeriods.{again, some_span}
 use Rattle.prl_plan.proofs.ReaderLaws.{used_is}

@@ -1,10 +1,7 @@
 -- The numbers on the way to a preceding job are bounded by the date of the job that they begin with and by a hyperperiod for
 -- each operator.
-use Rattle.std.proofs.Common.{◌≡◌, ◌+◌, ◌*◌, ◌/◌, ◌<◌, ◌≤◌, ◌^◌, ℕ, zero, suc, List, [], ◌∷◌, length, refl, sym, ◌∙◌, ap, subst, arith}
-use Rattle.std.specs.Prelude.{ℤ, pos, negsuc, ◌+ℤ◌, ◌-ℤ◌, ◌*ℤ◌, neg_ℤ, nat_abs}
-use Rattle.std.proofs.Math.IntN.{pos-*ℤ-pos, pos-*ℤ-negsuc, zero-*ℤ}
-use Rattle.std.proofs.Math.Nat.{div-mul-le_self, mul-le-mul_left, mul-le-mul_right}
-use Rattle.std.proofs.lemmas.Int.{ints}
+use Rattle.prl_base.proofs.Standard.{◌≡◌, ◌+◌, ◌*◌, ◌/◌, ◌<◌, ◌≤◌, ◌^◌, ℕ, zero, suc, List, [], ◌∷◌, length, refl, sym, ◌∙◌, ap, subst, arith, ℤ, pos, negsuc, ◌+ℤ◌, ◌-ℤ◌, ◌*ℤ◌, neg_ℤ, nat_abs}
+use Rattle.prl_base.proofs.Standard.{pos-*ℤ-pos, pos-*ℤ-negsuc, zero-*ℤ, div-mul-le_self, mul-le-mul_left, mul-le-mul_right, ints}
 use lib.IntN.{suc_ℤ, pred_ℤ}
 use Rattle.prl_base.specs.Operators.{floor_div}
 use Rattle.prl_base.specs.declared.operators.Clock.{Clock}

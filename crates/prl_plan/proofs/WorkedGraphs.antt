@@ -1,6 +1,5 @@
 -- Worked graphs: two lanes that overload one processor for a while, and a loop that needs longer than its period.
-use Rattle.std.proofs.Common.{◌≡◌, ℕ, List, [], ◌∷◌, refl, lit<}
-use Rattle.std.specs.Prelude.{ℤ, pos, negsuc, codes}
+use Rattle.prl_base.proofs.Standard.{◌≡◌, ℕ, List, [], ◌∷◌, refl, lit<, ℤ, pos, negsuc, codes}
 use Rattle.prl_base.specs.declared.operators.Op.TheVariants as operators
 use Rattle.prl_base.specs.declared.values.Ty.TheVariants as types
 use Rattle.prl_base.specs.declared.values.Value.TheVariants as values

@@ -1,6 +1,5 @@
 -- The worked plan of the sampling program, and those of an input held for three periods and of one shifted by one and a half.
-use Rattle.std.proofs.Common.{◌≡◌, ℕ, List, [], ◌∷◌, refl}
-use Rattle.std.specs.Prelude.{pos, codes}
+use Rattle.prl_base.proofs.Standard.{◌≡◌, ℕ, List, [], ◌∷◌, refl, pos, codes}
 use Rattle.prl_base.specs.declared.operators.Op.{Op}
 use Rattle.prl_base.specs.declared.values.Value.{Value}
 use Rattle.prl_base.specs.declared.operators.Op.TheVariants as operators

@@ -1,12 +1,6 @@
 -- Bytes that numbers, values and names do not have.
-use Rattle.std.proofs.Common.{◌≡◌, ◌==◌, ◌++◌, ◌+◌, ◌<◌, ◌/◌, ◌%◌, ◌&&◌, ℕ, zero, suc, ℤ, pos, negsuc, Bool, true, false, not, List, [], ◌∷◌, cond, length, nat_lt, refl, ap, ◌∙◌, arith, decimal}
-use Rattle.std.specs.Char.{is_ascii_digit}
-use Rattle.std.specs.List.{list_all}
-use Rattle.std.specs.Fmt.{digit_glyph, digits, digits_onto, signed_decimal}
-use Rattle.std.proofs.lemmas.Bool.{and_parts}
-use Rattle.std.proofs.lemmas.Bool.Decides.{nat_tests}
-use Rattle.std.proofs.lemmas.List.Folds.{list_all-append}
-use Rattle.std.proofs.lemmas.Nat.{mod_below}
+use Rattle.prl_base.proofs.Standard.{◌≡◌, ◌==◌, ◌++◌, ◌+◌, ◌<◌, ◌/◌, ◌%◌, ◌&&◌, ℕ, zero, suc, ℤ, pos, negsuc, Bool, true, false, not, List, [], ◌∷◌, cond, length, nat_lt, refl, ap, ◌∙◌, arith}
+use Rattle.prl_base.proofs.Standard.{decimal, is_ascii_digit, list_all, digit_glyph, digits, digits_onto, signed_decimal, and_parts, nat_tests, list_all-append, mod_below}
 use Rattle.prl_base.specs.Names.{is_word_byte}
 
 -- the text has no such byte

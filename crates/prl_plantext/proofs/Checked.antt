@@ -1,11 +1,7 @@
 -- The tests of a graph pass exactly where it is well formed: first names, tasks and values.
-use Rattle.std.proofs.Common.{◌≡◌, ◌≢◌, ◌==◌, ◌++◌, ◌*◌, ◌/◌, ◌%◌, ◌<◌, ◌≤◌, ◌^◌, ◌&&◌, ◌||◌, ℕ, zero, suc, Bool, true, false, not, List, [], ◌∷◌, Some, cond, map, length, slice_get, nat_le, nat_lt, refl, ap, sym, ◌∙◌, subst, arith, decimal}
-use Rattle.std.specs.Prelude.{slice_index_or}
-use Rattle.std.specs.List.{list_all}
-use Rattle.std.specs.Str.{bytes_eq}
-use Rattle.std.proofs.lemmas.Bool.{and_parts, or_parts, false≢true, true≢false, eqb-true, eq-eqb, leb-true, le-leb, ltb-true, lt-ltb}
-use Rattle.std.proofs.Math.Nat.{mod-add-div, mul-mod_left}
-use Rattle.std.proofs.lemmas.Slice.Eq.{bytes_eq-Decides}
+use Rattle.prl_base.proofs.Standard.{◌≡◌, ◌≢◌, ◌==◌, ◌++◌, ◌*◌, ◌/◌, ◌%◌, ◌<◌, ◌≤◌, ◌^◌, ◌&&◌, ◌||◌, ℕ, zero, suc, Bool, true, false, not, List, [], ◌∷◌, Some, cond, map, length, slice_get, nat_le}
+use Rattle.prl_base.proofs.Standard.{nat_lt, refl, ap, sym, ◌∙◌, subst, arith, decimal, slice_index_or, list_all, bytes_eq, and_parts, or_parts, false≢true, true≢false, eqb-true, eq-eqb, leb-true}
+use Rattle.prl_base.proofs.Standard.{le-leb, ltb-true, lt-ltb, mod-add-div, mul-mod_left, bytes_eq-Decides}
 use Rattle.prl_base.specs.Names.{IsName, is_word}
 use Rattle.prl_base.specs.declared.names.TheConstants.{MAX_NAME}
 use Rattle.prl_plan.specs.Vocabulary.{AreNumbered, Divides, IsTask, IsTaskName, no_task}

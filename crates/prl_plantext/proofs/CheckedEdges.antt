@@ -1,10 +1,7 @@
 -- The tests of a graph pass exactly where it is well formed: clocks and edges.
-use Rattle.std.proofs.Common.{◌≡◌, ◌==◌, ◌+◌, ◌-◌, ◌*◌, ◌/◌, ◌%◌, ◌≤◌, ◌≤ℤ◌, ℕ, ℤ, pos, negsuc, Bool, true, false, List, [], ◌∷◌, Option, Some, None, if◌then◌else◌, nat_abs, nat_le, refl, ap, sym, ◌∙◌, arith}
-use Rattle.std.specs.List.{list_all}
-use Rattle.std.specs.Prelude.{int_le}
-use Rattle.std.proofs.lemmas.Bool.{and_parts, false≢true, eqb-true, eq-eqb, le-leb, leb-true}
-use Rattle.std.proofs.Math.Nat.{eq_of_mul-eq-mul_left, le_of_mul-le-mul_left, mod-add-div, mul-mod_left}
-use Rattle.std.proofs.lemmas.Int.{ints}
+use Rattle.prl_base.proofs.Standard.{◌≡◌, ◌==◌, ◌+◌, ◌-◌, ◌*◌, ◌/◌, ◌%◌, ◌≤◌, ◌≤ℤ◌, ℕ, ℤ, pos, negsuc, Bool, true, false, List, [], ◌∷◌, Option, Some, None, if◌then◌else◌, nat_abs, nat_le, refl, ap}
+use Rattle.prl_base.proofs.Standard.{sym, ◌∙◌, arith, list_all, int_le, and_parts, false≢true, eqb-true, eq-eqb, le-leb, leb-true, eq_of_mul-eq-mul_left, le_of_mul-le-mul_left, mod-add-div}
+use Rattle.prl_base.proofs.Standard.{mul-mod_left, ints}
 use Rattle.prl_base.specs.Vocabulary.{IsOperatorFor, IsResultClock, IsOfType}
 use Rattle.prl_base.specs.declared.operators.Clock.{Clock}
 use Rattle.prl_base.specs.declared.operators.Op.{Op}

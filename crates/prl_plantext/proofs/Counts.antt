@@ -1,8 +1,6 @@
 -- What words and cells count to: the same for each graph, whatever words and cells are listed.
-use Rattle.std.proofs.Common.{◌≡◌, ◌+◌, ◌<◌, ℕ, suc, List, [], ◌∷◌, Some, length, take, sum, slice_get, refl, ap, sym, ◌∙◌, subst, arith}
-use Rattle.std.specs.Prelude.{pos, slice_index, slice_index_or, sum_by}
-use Rattle.std.proofs.lemmas.List.{ext_get_or}
-use Rattle.std.proofs.lemmas.Option.{slice_get-get_or}
+use Rattle.prl_base.proofs.Standard.{◌≡◌, ◌+◌, ◌<◌, ℕ, suc, List, [], ◌∷◌, Some, length, take, sum, slice_get, refl, ap, sym, ◌∙◌, subst, arith, pos, slice_index, slice_index_or, sum_by, ext_get_or}
+use Rattle.prl_base.proofs.Standard.{slice_get-get_or}
 use Rattle.prl_base.specs.declared.operators.Op.{Op}
 use Rattle.prl_plan.specs.Vocabulary.{AreLeastCells, Fits, HasCells, IsOverBy, no_used, used_at, Family, encoded_deadline, encoded_release, IsFirstReader, first_reader, IsWellFormed, edge_at, no_edge}
 use Rattle.prl_plan.specs.Vocabulary.{AreWords, IsWordOf, constants_in}

@@ -1,8 +1,6 @@
 -- Texts that are cut at a byte, and the words of a printed line.
-use Rattle.std.proofs.Common.{◌≡◌, ◌==◌, ◌++◌, ◌<◌, ℕ, Bool, true, false, not, List, [], ◌∷◌, cond, length, refl, ap, sym, ◌∙◌, arith, append_assoc, append-nil}
-use Rattle.std.specs.List.{list_all, onto_first}
-use Rattle.std.proofs.lemmas.Bool.{and_parts}
-use Rattle.std.proofs.lemmas.Bool.Decides.{nat_tests}
+use Rattle.prl_base.proofs.Standard.{◌≡◌, ◌==◌, ◌++◌, ◌<◌, ℕ, Bool, true, false, not, List, [], ◌∷◌, cond, length, refl, ap, sym, ◌∙◌, arith, append_assoc, list_all, onto_first, and_parts, nat_tests}
+use Rattle.std.proofs.Common.{append-nil}
 use Rattle.prl_plantext.specs.PlanTexts.{line, line_rest}
 use Rattle.prl_plantext.specs.code.Graphs.{after, before, lines_in, parts, words_in}
 use Rattle.prl_plantext.proofs.Bytes.{Lacks, lacks_append, lacks_cons}

@@ -1,10 +1,6 @@
 -- Divisors by division.
-use Rattle.std.proofs.Common.{◌≡◌, ◌==◌, ◌%◌, ◌<◌, ℕ, zero, suc, Bool, true, false, cond, refl, arith}
-use Rattle.std.specs.Int.{IsGcd}
-use Rattle.std.proofs.lemmas.Bool.{eqb-true}
-use Rattle.std.proofs.lemmas.Nat.Gcd.{IsGcd-from_zero, IsGcd-from_mod, same_from_IsGcd}
+use Rattle.prl_base.proofs.Standard.{◌≡◌, ◌==◌, ◌%◌, ◌<◌, ℕ, zero, suc, Bool, true, false, cond, refl, arith, IsGcd, eqb-true, IsGcd-from_zero, IsGcd-from_mod, same_from_IsGcd, mod_below}
 use borrow.Author.Tests.{eqb-false}
-use Rattle.std.proofs.lemmas.Nat.{mod_below}
 use Rattle.prl_plantext.specs.code.Graphs.{divisor_by}
 
 by_test : (t : Bool) (steps a b : ℕ) → (b == 0) ≡ t → b < suc steps → ((c d : ℕ) → d < steps → IsGcd c d (divisor_by steps c d)) →

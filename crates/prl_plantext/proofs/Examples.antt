@@ -1,6 +1,5 @@
 -- Worked texts of plans.
-use Rattle.std.proofs.Common.{◌≡◌, ℕ, pos, List, [], ◌∷◌, refl, codes}
-use Rattle.std.specs.Fmt.{digits}
+use Rattle.prl_base.proofs.Standard.{◌≡◌, ℕ, pos, List, [], ◌∷◌, refl, codes, digits}
 use Rattle.prl_base.specs.declared.operators.Op.{Op}
 use Rattle.prl_base.specs.declared.values.Value.{Value}
 use Rattle.prl_base.specs.declared.operators.Op.TheVariants as operators

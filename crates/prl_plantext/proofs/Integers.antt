@@ -1,7 +1,6 @@
 -- Integers of 64 bits.
-use Rattle.std.proofs.Common.{◌≡◌, ℤ, pos, negsuc, true, arith, FitsSigned}
+use Rattle.prl_base.proofs.Standard.{◌≡◌, ℤ, pos, negsuc, true, arith, FitsSigned, le-leb, leb-true, lt-ltb, ltb-true}
 use Rattle.std.specs.Int.{w64}
-use Rattle.std.proofs.lemmas.Bool.{le-leb, leb-true, lt-ltb, ltb-true}
 use Rattle.prl_base.specs.declared.decimals.TheConstants.{MAX_NEGATIVE, MAX_POSITIVE}
 use Rattle.prl_plantext.specs.code.Checks.{is_integer}
 

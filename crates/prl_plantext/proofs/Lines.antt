@@ -1,8 +1,5 @@
 -- Lines of a plan's text, piece by piece as they are written.
-use Rattle.std.proofs.Common.{◌≡◌, ◌++◌, ℕ, List, [], ◌∷◌, map, length, codes, decimal, refl, ap, append_assoc, sym, ◌∙◌}
-use Rattle.std.specs.List.{flat_map}
-use Rattle.std.specs.Str.{byte}
-use Rattle.std.proofs.lemmas.List.Folds.{flat_map-map}
+use Rattle.prl_base.proofs.Standard.{◌≡◌, ◌++◌, ℕ, List, [], ◌∷◌, map, length, codes, decimal, refl, ap, append_assoc, sym, ◌∙◌, flat_map, byte, flat_map-map}
 use Rattle.prl_base.specs.Texts.{type_text, value_text}
 use Rattle.prl_plan.specs.declared.graphs.Edge.{Edge}
 use Rattle.prl_plan.specs.declared.graphs.Task.{Task}

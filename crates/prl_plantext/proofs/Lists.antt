@@ -1,7 +1,6 @@
 -- Items of lists that pass a test.
-use Rattle.std.proofs.Common.{◌≡◌, ◌<◌, ◌^◌, ◌+◌, ◌∙◌, ℕ, zero, suc, Bool, true, List, [], ◌∷◌, Some, length, drop, get_or, slice_get, refl, sym, subst, add-one, drop-cons}
-use Rattle.std.specs.List.{list_all}
-use Rattle.std.proofs.lemmas.Bool.{and_parts, ltb-true}
+use Rattle.prl_base.proofs.Standard.{◌≡◌, ◌<◌, ◌^◌, ◌+◌, ◌∙◌, ℕ, zero, suc, Bool, true, List, [], ◌∷◌, Some, length, drop, get_or, slice_get, refl, sym, subst, add-one, drop-cons, list_all, and_parts}
+use Rattle.prl_base.proofs.Standard.{ltb-true}
 use Rattle.prl_plan.specs.declared.graphs.Task.{Task}
 use Rattle.prl_plantext.specs.code.Checks.{is_task}
 

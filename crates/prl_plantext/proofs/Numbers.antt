@@ -1,15 +1,9 @@
 -- Numbers, values and ratios are read back as they are printed.
-use Rattle.std.proofs.Common.{◌≡◌, ◌==◌, ◌<◌, ◌≤◌, ◌^◌, ◌&&◌, ℕ, suc, ℤ, pos, negsuc, Bool, true, false, not, List, [], ◌∷◌, Some, None, cond, length, nat_lt, nat_le, refl, ap, sym, ◌∙◌, arith, decimal, codes, FitsSigned}
-use Rattle.std.specs.List.{list_all}
-use Rattle.std.specs.Char.{digit_value, is_ascii_digit}
-use Rattle.std.specs.Fmt.{signed_decimal}
+use Rattle.prl_base.proofs.Standard.{◌≡◌, ◌==◌, ◌<◌, ◌≤◌, ◌^◌, ◌&&◌, ℕ, suc, ℤ, pos, negsuc, Bool, true, false, not, List, [], ◌∷◌, Some, None, cond, length, nat_lt, nat_le, refl, ap, sym, ◌∙◌, arith}
+use Rattle.prl_base.proofs.Standard.{decimal, codes, FitsSigned, list_all, digit_value, is_ascii_digit, signed_decimal, option_and_then, bytes_eq, AllDigits, digits_value, false≢true, nat_tests}
+use Rattle.prl_base.proofs.Standard.{decimal_is_IsNumeral, bytes_eq-Decides}
 use Rattle.std.specs.Int.{w64}
-use Rattle.std.specs.Option.{option_and_then, unwrap_or}
-use Rattle.std.specs.Str.{bytes_eq}
-use Rattle.std.specs.Str.Parse.{AllDigits, digits_value}
-use Rattle.std.proofs.lemmas.Bool.{false≢true}
-use Rattle.std.proofs.lemmas.Bool.Decides.{nat_tests}
-use Rattle.std.proofs.lemmas.Fmt.{decimal_is_IsNumeral}
+use Rattle.std.specs.Option.{unwrap_or}
 use Rattle.prl_base.specs.Vocabulary.{are_digits, decimal_of, integer_of, negative, positive, type_text, value_text, FitsValue}
 use Rattle.prl_base.specs.declared.decimals.TheConstants.{MAX_NEGATIVE, MAX_POSITIVE}
 use Rattle.prl_base.specs.declared.values.Ty.{Ty}
@@ -19,7 +13,6 @@ use Rattle.prl_base.specs.declared.values.Value.TheVariants as values
 use Rattle.prl_plantext.specs.code.Graphs.{number_in, or_small, small_in, type_in, value_in}
 use Rattle.prl_plantext.proofs.Bytes.{Lacks, decimal_lacks, decimal_some, signed_lacks}
 use Rattle.prl_plantext.proofs.Cuts.{head_lacks}
-use Rattle.std.proofs.lemmas.Slice.Eq.{bytes_eq-Decides}
 
 digit_by_value : (c : ℕ) → digit_value c < 10 → is_ascii_digit c ≡ true
 digit_by_value c small = grind (arith, nat_tests)

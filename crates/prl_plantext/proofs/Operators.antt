@@ -1,6 +1,5 @@
 -- The operators of a list of words, one after another.
-use Rattle.std.proofs.Common.{◌≡◌, ◌++◌, ◌<◌, ℕ, true, false, List, [], ◌∷◌, Option, Some, None, append_assoc, cond, length, codes, refl, ap, sym, ◌∙◌, arith}
-use Rattle.std.specs.Str.{bytes_eq}
+use Rattle.prl_base.proofs.Standard.{◌≡◌, ◌++◌, ◌<◌, ℕ, true, false, List, [], ◌∷◌, Option, Some, None, append_assoc, cond, length, codes, refl, ap, sym, ◌∙◌, arith, bytes_eq}
 use Rattle.prl_base.specs.declared.operators.Op.{Op}
 use Rattle.prl_base.specs.declared.operators.Op.TheVariants as operators
 use Rattle.prl_plantext.specs.code.Graphs.{first_of, operator_in, operators_in, rest_of, with_operator}

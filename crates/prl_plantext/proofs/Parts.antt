@@ -1,7 +1,5 @@
 -- The parts of a text.
-use Rattle.std.proofs.Common.{◌≡◌, ◌==◌, ◌+◌, ◌<◌, ◌≤◌, ℕ, Bool, true, false, List, [], ◌∷◌, cond, length, refl, ap, sym, ◌∙◌, arith}
-use Rattle.std.proofs.lemmas.Bool.Decides.{nat_tests}
-use Rattle.std.specs.List.{onto_first}
+use Rattle.prl_base.proofs.Standard.{◌≡◌, ◌==◌, ◌+◌, ◌<◌, ◌≤◌, ℕ, Bool, true, false, List, [], ◌∷◌, cond, length, refl, ap, sym, ◌∙◌, arith, nat_tests, onto_first}
 use Rattle.prl_plantext.specs.code.Graphs.{after, before, first_of, lines_in, parts, rest_of, with_line, with_lines}
 use Rattle.prl_plan.specs.declared.graphs.TaskGraph.{TaskGraph}
 

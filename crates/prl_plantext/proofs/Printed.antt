@@ -1,8 +1,7 @@
 -- The words of a plan's text have bytes, and neither blanks nor line feeds.
-use Rattle.std.proofs.Common.{◌≡◌, ◌==◌, ◌++◌, ◌<◌, ℕ, ℤ, Bool, true, false, List, [], ◌∷◌, cond, eqb, map, length, length-append, append-nil, refl, sym, ◌∙◌, subst, arith, decimal, codes}
-use Rattle.std.specs.List.{flat_map, list_all}
-use Rattle.std.specs.Fmt.{signed_decimal}
-use Rattle.std.proofs.lemmas.Bool.{and_parts, false≢true, eqb-true}
+use Rattle.prl_base.proofs.Standard.{◌≡◌, ◌==◌, ◌++◌, ◌<◌, ℕ, ℤ, Bool, true, false, List, [], ◌∷◌, cond, eqb, map, length, length-append, refl, sym, ◌∙◌, subst, arith, decimal, codes, flat_map}
+use Rattle.prl_base.proofs.Standard.{list_all, signed_decimal, and_parts, false≢true, eqb-true}
+use Rattle.std.proofs.Common.{append-nil}
 use Rattle.prl_base.specs.Vocabulary.{IsName, is_word_byte, is_word_start, Fraction, fraction_text, type_text, value_text}
 use Rattle.prl_base.specs.declared.operators.Op.{Op}
 use Rattle.prl_base.specs.declared.values.Ty.{Ty}

@@ -1,11 +1,8 @@
 -- The words of tasks and edges are read back.
-use Rattle.std.proofs.Common.{◌≡◌, ◌==◌, ◌++◌, ◌<◌, ◌≤ℤ◌, ◌^◌, ◌&&◌, ℕ, ℤ, pos, negsuc, Bool, true, false, List, [], ◌∷◌, cond, nat_le, if◌then◌else◌, append-nil, refl, ap, sym, ◌∙◌, arith, decimal, codes}
-use Rattle.std.specs.List.{flat_map}
+use Rattle.prl_base.proofs.Standard.{◌≡◌, ◌==◌, ◌++◌, ◌<◌, ◌≤ℤ◌, ◌^◌, ◌&&◌, ℕ, ℤ, pos, negsuc, Bool, true, false, List, [], ◌∷◌, cond, nat_le, if◌then◌else◌, refl, ap, sym, ◌∙◌, arith, decimal, codes}
+use Rattle.prl_base.proofs.Standard.{flat_map, bytes_eq, eqb-true, nat_tests, ints}
+use Rattle.std.proofs.Common.{append-nil}
 use Rattle.std.specs.Option.{unwrap_or}
-use Rattle.std.specs.Str.{bytes_eq}
-use Rattle.std.proofs.lemmas.Bool.{eqb-true}
-use Rattle.std.proofs.lemmas.Bool.Decides.{nat_tests}
-use Rattle.std.proofs.lemmas.Int.{ints}
 use Rattle.prl_base.specs.Vocabulary.{decimal_of, IsOperatorFor, Fraction, IsSmallFraction, fraction_text, type_text, FitsValue}
 use Rattle.prl_base.specs.declared.operators.Op.{Op}
 use Rattle.prl_base.specs.declared.ratios.TheConstants.{MAX_PART}

@@ -1,8 +1,7 @@
 -- A plan's text is read back to the plan's graph.
-use Rattle.std.proofs.Common.{◌≡◌, inl, inr, ◌++◌, ◌+◌, ◌*◌, ◌<◌, ◌≤◌, ◌^◌, ℕ, zero, suc, Bool, true, List, [], ◌∷◌, Some, cond, map, length, length-append, slice_get, nat_le, append_assoc, append-nil, refl, ap, sym, ◌∙◌, subst, if◌then◌else◌, arith, decimal, codes}
-use Rattle.std.specs.Str.{bytes_eq}
-use Rattle.std.proofs.lemmas.Bool.Decides.{nat_tests}
-use Rattle.std.proofs.lemmas.List.Sums.{sum_by-append, sum_by-cons}
+use Rattle.prl_base.proofs.Standard.{◌≡◌, inl, inr, ◌++◌, ◌+◌, ◌*◌, ◌<◌, ◌≤◌, ◌^◌, ℕ, zero, suc, Bool, true, List, [], ◌∷◌, Some, cond, map, length, length-append, slice_get, nat_le, append_assoc}
+use Rattle.prl_base.proofs.Standard.{refl, ap, sym, ◌∙◌, subst, if◌then◌else◌, arith, decimal, codes, bytes_eq, nat_tests, sum_by-append, sum_by-cons}
+use Rattle.std.proofs.Common.{append-nil}
 use Rattle.prl_base.specs.Operators.{IsOperatorFor}
 use Rattle.prl_base.specs.declared.operators.Clock.{Clock}
 use Rattle.prl_base.specs.declared.operators.Op.{Op}

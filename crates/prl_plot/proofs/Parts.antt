@@ -1,9 +1,7 @@
 -- The names of a list with commas.
-use Rattle.std.proofs.Common.{◌≡◌, ◌<◌, ◌≤◌, ◌+◌, ◌∙◌, ◌||◌, ℕ, Bool, true, false, not, cond, List, [], ◌∷◌, ◌++◌, length, take, drop, refl, ap, sym, arith}
-use Rattle.std.specs.List.{filter, list_any, onto_first, position_or_len, slice_split}
-use Rattle.std.specs.Str.{bytes_eq}
-use Rattle.std.proofs.lemmas.List.Splits.{slice_split_first}
-use Rattle.std.proofs.lemmas.List.Elements.{filter-append}
+use Rattle.prl_base.proofs.Standard.{◌≡◌, ◌<◌, ◌≤◌, ◌+◌, ◌∙◌, ◌||◌, ℕ, Bool, true, false, not, cond, List, [], ◌∷◌, ◌++◌, length, take, drop, refl, ap, sym, arith, list_any, onto_first}
+use Rattle.prl_base.proofs.Standard.{position_or_len, slice_split, bytes_eq, slice_split_first, filter-append}
+use Rattle.std.specs.List.{filter}
 use Rattle.prl_steps.specs.Flows.{FlowView}
 use Rattle.prl_plot.specs.Asked.{is_comma, is_named}
 

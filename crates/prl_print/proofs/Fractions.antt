@@ -1,11 +1,6 @@
 -- The ratios of texts are reduced and not negative, and such ratios are read as themselves.
-use Rattle.std.proofs.Common.{◌≡◌, ◌==◌, ◌≤◌, ◌<◌, ◌/◌, ◌%◌, ◌≤ℤ◌, ℕ, zero, suc, ℤ, pos, negsuc, nat_abs, Option, Some, None, refl, sym, ap, ◌∙◌, subst, ⊎_elim, arith}
-use Rattle.std.proofs.lemmas.Bool.{cond-false, cond_both, cases_lt, ne_eqb}
-use Rattle.std.proofs.lemmas.Bool.Decides.{nat_tests}
-use Rattle.std.proofs.lemmas.Int.{ints}
-use Rattle.std.proofs.lemmas.Nat.Gcd.{IsGcd-from_zero, IsGcd-from_mod, IsGcd-swap}
-use Rattle.std.proofs.Math.Nat.{div-one}
-use Rattle.std.specs.Int.{IsGcd}
+use Rattle.prl_base.proofs.Standard.{◌≡◌, ◌==◌, ◌≤◌, ◌<◌, ◌/◌, ◌%◌, ◌≤ℤ◌, ℕ, zero, suc, ℤ, pos, negsuc, nat_abs, Option, Some, None, refl, sym, ap, ◌∙◌, subst, ⊎_elim, arith, cond-false, cond_both}
+use Rattle.prl_base.proofs.Standard.{cases_lt, ne_eqb, nat_tests, ints, IsGcd-from_zero, IsGcd-from_mod, IsGcd-swap, div-one, IsGcd}
 use Rattle.prl_base.specs.Ratios.{Fraction}
 use Rattle.prl_ast.specs.InRange.{IsShift}
 use Rattle.prl_syntax.specs.Values.{small, common_divisor, reduced, ratio_of, ratio_with}

@@ -1,8 +1,6 @@
 -- Expressions that are printed one after another.
-use Rattle.std.proofs.Common.{◌≡◌, ◌+◌, ◌<◌, ℕ, suc, codes, List, [], ◌∷◌, ◌++◌, map, length, take, get_or, Result, Ok, Err, OnOk, sym, ap, ◌∙◌, arith, append_assoc}
-use Rattle.std.proofs.lemmas.Bool.Decides.{nat_tests}
-use Rattle.std.proofs.lemmas.List.{append-nil, take_more, map_push, flat_map_more, length-map, length-take-le}
-use Rattle.std.specs.List.{flat_map}
+use Rattle.prl_base.proofs.Standard.{◌≡◌, ◌+◌, ◌<◌, ℕ, suc, codes, List, [], ◌∷◌, ◌++◌, map, length, take, get_or, Result, Ok, Err, OnOk, sym, ap, ◌∙◌, arith, append_assoc, nat_tests, append-nil}
+use Rattle.prl_base.proofs.Standard.{take_more, map_push, flat_map_more, length-map, length-take-le, flat_map}
 use Rattle.prl_ast.specs.Trees.{Tree, tree_of}
 use Rattle.prl_ast.specs.declared.expressions.Expr.{Expr}
 use Rattle.prl_syntax.specs.Trees.{trees_from}

@@ -1,8 +1,6 @@
 -- What holds of the trees of programs.
-use Rattle.std.proofs.Common.{◌≡◌, ◌≤◌, ◌+◌, ℕ, zero, suc, false, true, List, [], ◌∷◌, map, length, Option, Some, None, refl, sym, subst, arith, length-append}
-use Rattle.std.proofs.lemmas.List.{append-nil, length-map}
-use Rattle.std.proofs.lemmas.Int.{ints}
-use Rattle.std.specs.List.{AllByRecursion}
+use Rattle.prl_base.proofs.Standard.{◌≡◌, ◌≤◌, ◌+◌, ℕ, zero, suc, false, true, List, [], ◌∷◌, map, length, Option, Some, None, refl, sym, subst, arith, length-append, append-nil, length-map, ints}
+use Rattle.prl_base.proofs.Standard.{AllByRecursion}
 use Rattle.prl_base.specs.Values.{FitsValue}
 use Rattle.prl_ast.specs.Vocabulary.{IsCount, IsShift, IsRate, IsDue, IfThere, IsInRange, IsParamInRange, IsPrefix, IsPostfix, IsRootInRange, IsEquationInRange, Tree, Root, group, Trees, ProgramTree}
 use Rattle.prl_ast.specs.declared.declarations.Placed.{Placed}

@@ -1,6 +1,5 @@
 -- What holds of the program of each text: it is in range, and its names are no keywords.
-use Rattle.std.specs.Prelude.{◌≡◌, List, [], ◌∷◌, None, ℕ}
-use Rattle.std.specs.List.{AllByRecursion}
+use Rattle.prl_base.proofs.Standard.{◌≡◌, List, [], ◌∷◌, None, ℕ, AllByRecursion}
 use Rattle.prl_base.specs.Names.{IsName}
 use Rattle.prl_ast.specs.Vocabulary.{IsParamInRange, IsImportInRange, IsCount, IsTreeInRange, AreTreesInRange, IsEquationInRange, IsNodeInRange, Tree, Root, const, var, apply, group, Trees, none}
 use Rattle.prl_ast.specs.Vocabulary.{more, EquationTree, NodeTree, ProgramTree}

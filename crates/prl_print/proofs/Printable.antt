@@ -1,6 +1,5 @@
 -- A printable program is printed as a text of itself, places aside.
-use Rattle.std.proofs.Common.{◌≡◌, ◌≤◌, ℕ, List, map, length, Vec, Global, Result, Ok, Err, IfOk, sym, ap, subst, arith}
-use Rattle.std.proofs.lemmas.List.{length-map}
+use Rattle.prl_base.proofs.Standard.{◌≡◌, ◌≤◌, ℕ, List, map, length, Vec, Global, Result, Ok, Err, IfOk, sym, ap, subst, arith, length-map}
 use Rattle.prl_ast.specs.Trees.{ProgramTree}
 use Rattle.prl_syntax.specs.Parsing.{IsProgramOf}
 use Rattle.prl_print.specs.Printing.{printed}

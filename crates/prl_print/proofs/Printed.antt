@@ -1,13 +1,7 @@
 -- Parts of a printed text, which are texts of the grammar wherever they stand in it.
-use Rattle.std.proofs.Common.{◌≡◌, ◌==◌, ◌<◌, ◌≤◌, ◌+◌, ◌^◌, ◌&&◌, ℕ, Bool, true, false, leb, not, codes, decimal, List, [], ◌∷◌, ◌++◌, map, length, drop, Some, refl, sym, ap, ◌∙◌, subst, inl, inr, arith, append_assoc, length-append}
-use Rattle.std.proofs.lemmas.Bool.{cond-true, and_from, le-leb, or_parts}
-use Rattle.std.proofs.lemmas.Bool.Decides.{nat_tests}
-use Rattle.std.proofs.lemmas.Fmt.{decimal_is_IsNumeral}
-use Rattle.std.proofs.lemmas.List.{append-nil, drop-drop}
-use Rattle.std.proofs.lemmas.List.Folds.{flat_map-map}
-use Rattle.std.proofs.Math.Seq.{drop-append_seam}
-use Rattle.std.specs.Char.{is_ascii_digit}
-use Rattle.std.specs.List.{flat_map, AllByRecursion}
+use Rattle.prl_base.proofs.Standard.{◌≡◌, ◌==◌, ◌<◌, ◌≤◌, ◌+◌, ◌^◌, ◌&&◌, ℕ, Bool, true, false, leb, not, codes, decimal, List, [], ◌∷◌, ◌++◌, map, length, drop, Some, refl, sym, ap, ◌∙◌, subst, inl}
+use Rattle.prl_base.proofs.Standard.{inr, arith, append_assoc, length-append, cond-true, and_from, le-leb, or_parts, nat_tests, decimal_is_IsNumeral, append-nil, drop-drop, flat_map-map}
+use Rattle.prl_base.proofs.Standard.{drop-append_seam, is_ascii_digit, flat_map, AllByRecursion}
 use Rattle.prl_base.specs.Names.{is_word}
 use Rattle.prl_base.specs.declared.decimals.TheConstants.{MAX_NEGATIVE}
 use Rattle.prl_lex.specs.Vocabulary.{is_blank, is_one_byte_symbol, is_two_byte_symbol, depth_after}

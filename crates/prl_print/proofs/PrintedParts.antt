@@ -1,11 +1,6 @@
 -- The printed parts of programs are texts of the grammar.
-use Rattle.std.proofs.Common.{◌≡◌, ◌==◌, ◌≤◌, ◌+◌, ℕ, suc, pos, negsuc, neg_ℤ, nat_abs, min, Bool, true, false, cond, codes, decimal, List, [], ◌∷◌, ◌++◌, length, map, Option, Some, None, refl, sym, ap, ◌∙◌, subst, arith, append_assoc}
-use Rattle.std.proofs.lemmas.Bool.{eqb-true, le-leb}
-use Rattle.std.proofs.lemmas.Bool.Decides.{nat_tests}
-use Rattle.std.proofs.lemmas.Grind.{flat_map-append}
-use Rattle.std.proofs.lemmas.List.{append-nil, map-append}
-use Rattle.std.specs.Fmt.{signed_decimal}
-use Rattle.std.specs.List.{flat_map, AllByRecursion}
+use Rattle.prl_base.proofs.Standard.{◌≡◌, ◌==◌, ◌≤◌, ◌+◌, ℕ, suc, pos, negsuc, neg_ℤ, nat_abs, min, Bool, true, false, cond, codes, decimal, List, [], ◌∷◌, ◌++◌, length, map, Option, Some, None, refl}
+use Rattle.prl_base.proofs.Standard.{sym, ap, ◌∙◌, subst, arith, append_assoc, eqb-true, le-leb, nat_tests, flat_map-append, append-nil, map-append, signed_decimal, flat_map, AllByRecursion}
 use Rattle.prl_base.specs.Vocabulary.{Fraction, value_text, fraction_text, type_text, FitsValue}
 use Rattle.prl_base.specs.declared.decimals.TheConstants.{MAX_NEGATIVE, MAX_POSITIVE}
 use Rattle.prl_base.specs.declared.operators.Op.{Op}

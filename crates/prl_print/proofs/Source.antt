@@ -1,11 +1,7 @@
 -- The tokens of a text are within its limits, and what holds of the trees of a grammar's texts for that.
-use Rattle.std.proofs.Common.{◌≡◌, ◌==◌, ◌≤◌, ◌+◌, ◌-◌, ◌&&◌, ℕ, zero, suc, Bool, true, false, cond, not, leb, codes, List, [], ◌∷◌, length, take, drop, Option, Some, None, Result, Ok, Err, refl, sym, ap, ◌∙◌, subst, ⊎_elim, arith, ◌++◌, append_assoc}
-use Rattle.std.proofs.lemmas.Bool.{cond-false, cond_both, and_parts, leb-true, cases_Bool}
-use Rattle.std.proofs.lemmas.Bool.Decides.{nat_tests}
-use Rattle.std.proofs.lemmas.List.{drop-drop, length-take-le}
-use Rattle.std.proofs.lemmas.Slice.Eq.{bytes_eq-Decides}
-use Rattle.std.specs.List.{list_all, AllByRecursion}
-use Rattle.std.specs.Str.{bytes_eq}
+use Rattle.prl_base.proofs.Standard.{◌≡◌, ◌==◌, ◌≤◌, ◌+◌, ◌-◌, ◌&&◌, ℕ, zero, suc, Bool, true, false, cond, not, leb, codes, List, [], ◌∷◌, length, take, drop, Option, Some, None, Result, Ok, Err}
+use Rattle.prl_base.proofs.Standard.{refl, sym, ap, ◌∙◌, subst, ⊎_elim, arith, ◌++◌, append_assoc, cond-false, cond_both, and_parts, leb-true, cases_Bool, nat_tests, drop-drop, length-take-le}
+use Rattle.prl_base.proofs.Standard.{bytes_eq-Decides, list_all, AllByRecursion, bytes_eq}
 use Rattle.prl_base.specs.Vocabulary.{is_word, IsName, ◌>>=◌}
 use Rattle.prl_lex.specs.Vocabulary.{kind_of, piece_of, FitsPiece, token_text, token_at, depth_after, checked, with_piece, tokens_from}
 use Rattle.prl_lex.specs.declared.tokens.Kind.TheVariants.{Word, Number, Symbol}

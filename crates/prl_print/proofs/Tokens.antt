@@ -1,12 +1,7 @@
 -- The tokens of a text, one after another from its end on.
-use Rattle.std.proofs.Common.{◌≡◌, ◌==◌, ◌<◌, ◌≤◌, ◌+◌, ◌&&◌, ◌||◌, ℕ, zero, suc, Bool, true, false, leb, List, [], ◌∷◌, ◌++◌, length, take, drop, get_or, None, Some, Ok, refl, sym, ap, ◌∙◌, subst, arith, length-append, ◌^◌, not, ltb}
-use Rattle.std.proofs.Math.Seq.{take-append_seam, drop-append_seam}
-use Rattle.std.proofs.lemmas.Bool.{cond-true, cond-false, and_from, le-leb, and_parts, or_parts, lt-ltb, false≢true}
-use Rattle.std.proofs.lemmas.Bool.Decides.{nat_tests}
-use Rattle.std.proofs.lemmas.Str.Parse.{numerals_by_value, tells_all_ascii_digits}
-use Rattle.std.specs.Char.{is_ascii_digit}
-use Rattle.std.specs.List.{list_all, prefix_len}
-use Rattle.std.specs.Str.Parse.{AllDigits, digits_value}
+use Rattle.prl_base.proofs.Standard.{◌≡◌, ◌==◌, ◌<◌, ◌≤◌, ◌+◌, ◌&&◌, ◌||◌, ℕ, zero, suc, Bool, true, false, leb, List, [], ◌∷◌, ◌++◌, length, take, drop, get_or, None, Some, Ok, refl, sym, ap, ◌∙◌}
+use Rattle.prl_base.proofs.Standard.{subst, arith, length-append, ◌^◌, not, ltb, take-append_seam, drop-append_seam, cond-true, cond-false, and_from, le-leb, and_parts, or_parts, lt-ltb, false≢true}
+use Rattle.prl_base.proofs.Standard.{nat_tests, numerals_by_value, tells_all_ascii_digits, is_ascii_digit, list_all, prefix_len, AllDigits, digits_value}
 use Rattle.prl_base.specs.Names.{is_word_start, is_word_byte, IsName}
 use Rattle.prl_base.specs.declared.decimals.TheConstants.{MAX_POSITIVE}
 use Rattle.prl_lex.specs.Vocabulary.{is_blank, begins, piece_of, FitsPiece, is_one_byte_symbol, is_two_byte_symbol, is_symbol, token_by_first, symbol_by_bytes, token_text}

@@ -1,6 +1,5 @@
 -- The first items of a list, and edges of small numbers.
-use Rattle.std.proofs.Common.{◌≡◌, ◌<◌, ℕ, List, Some}
-use Rattle.std.specs.Prelude.{slice_get}
+use Rattle.prl_base.proofs.Standard.{◌≡◌, ◌<◌, ℕ, List, Some, slice_get}
 use Rattle.prl_base.specs.declared.operators.Op.{Op}
 use Rattle.prl_plan.specs.Representable.{HasSmallOutput, HasSmallShift}
 use Rattle.prl_plan.specs.declared.graphs.Edge.{Edge}

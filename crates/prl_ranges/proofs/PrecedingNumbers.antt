@@ -1,7 +1,5 @@
 -- The numbers on the way to a preceding job fit.
-use Rattle.std.proofs.Common.{◌*◌, ◌<◌, ◌≤◌, ◌^◌, ℕ, length, arith}
-use Rattle.std.specs.Prelude.{ℤ, nat_abs}
-use Rattle.std.proofs.Math.Nat.{mul-le-mul_left, mul-le-mul_right}
+use Rattle.prl_base.proofs.Standard.{◌*◌, ◌<◌, ◌≤◌, ◌^◌, ℕ, length, arith, ℤ, nat_abs, mul-le-mul_left, mul-le-mul_right}
 use Rattle.prl_plan.specs.Vocabulary.{task_at, IsWellFormed, PrecedingFits, edge_at}
 use Rattle.prl_plan.specs.declared.graphs.TaskGraph.{TaskGraph}
 use Rattle.prl_plan.proofs.PlanNumbers.{edge_fact}

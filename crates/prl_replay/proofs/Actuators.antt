@@ -1,7 +1,5 @@
 -- Each actuator has one task.
-use Rattle.std.proofs.Common.{◌≡◌, ◌+◌, ◌<◌, ◌≤◌, ℕ, zero, suc, List, [], ◌∷◌, length, map, get_or, inl, inr, refl, sym, ◌∙◌, ap, subst, arith}
-use Rattle.std.proofs.lemmas.Bool.{cases_order}
-use Rattle.std.proofs.lemmas.List.{get_or_default}
+use Rattle.prl_base.proofs.Standard.{◌≡◌, ◌+◌, ◌<◌, ◌≤◌, ℕ, zero, suc, List, [], ◌∷◌, length, map, get_or, inl, inr, refl, sym, ◌∙◌, ap, subst, arith, cases_order, get_or_default}
 use Rattle.prl_base.specs.Names.{IsName}
 use Rattle.prl_plan.specs.Vocabulary.{AreNumbered, IsTaskName, no_task, PlanView, IsPlan}
 use Rattle.prl_plan.specs.declared.graphs.Kind.{Kind}

@@ -1,7 +1,5 @@
 -- Lists of events that grow by one at their end.
-use Rattle.std.proofs.Common.{◌≡◌, List, [], ◌∷◌, ◌++◌, refl, ap, sym, subst, ◌∙◌}
-use Rattle.std.specs.Prelude.{filter}
-use Rattle.std.proofs.lemmas.List.Elements.{filter-append}
+use Rattle.prl_base.proofs.Standard.{◌≡◌, List, [], ◌∷◌, ◌++◌, refl, ap, sym, subst, ◌∙◌, filter, filter-append}
 use Rattle.prl_plan.specs.Vocabulary.{RunConstants, ExecState, after_event, after_events, IsLegal, KeepsLegal}
 use Rattle.prl_plan.specs.declared.events.Event.{Event}
 use Rattle.prl_track.specs.declared.seen.Seen.{Seen}

@@ -1,6 +1,5 @@
 -- Each legal and complete list of events has a replay.
-use Rattle.std.proofs.Common.{◌≡◌, ◌<◌, ◌≤◌, ◌++◌, ℕ, zero, suc, List, [], ◌∷◌, length, refl, arith}
-use Rattle.std.specs.Prelude.{filter}
+use Rattle.prl_base.proofs.Standard.{◌≡◌, ◌<◌, ◌≤◌, ◌++◌, ℕ, zero, suc, List, [], ◌∷◌, length, refl, arith, filter}
 use Rattle.prl_base.specs.declared.values.Value.{Value}
 use Rattle.prl_flow.specs.declared.programs.OutFlow.{OutFlow}
 use Rattle.prl_plan.specs.Vocabulary.{HasPlanFacts, task_at, IsLegal, IsComplete, KeepsLegal, ExecState, IsSound}

@@ -1,8 +1,6 @@
 -- What a closed board shows is what the machine of its plan has.
-use Rattle.std.proofs.Common.{◌≡◌, ◌<◌, ◌≤◌, ◌↔◌, ℕ, zero, suc, List, length, get_or, Option, Some, refl, sym, ◌∙◌, ap, subst, arith}
-use Rattle.std.specs.Prelude.{slice_get, pos, unwrap_or}
-use Rattle.std.proofs.lemmas.List.{get_or_default}
-use Rattle.std.proofs.lemmas.Option.{slice_get-get_or}
+use Rattle.prl_base.proofs.Standard.{◌≡◌, ◌<◌, ◌≤◌, ◌↔◌, ℕ, zero, suc, List, length, get_or, Option, Some, refl, sym, ◌∙◌, ap, subst, arith, slice_get, pos, unwrap_or, get_or_default}
+use Rattle.prl_base.proofs.Standard.{slice_get-get_or}
 use Rattle.prl_base.specs.Vocabulary.{IsName, type_of}
 use Rattle.prl_base.specs.declared.values.Value.{Value}
 use Rattle.prl_base.specs.declared.values.Value.TheVariants as values

@@ -1,6 +1,5 @@
 -- What the table asks of each kind of step is what the rule grants.
-use Rattle.std.proofs.Common.{◌≡◌, ℕ, List, length, get_or, set, refl, sym, subst, Some}
-use Rattle.std.proofs.lemmas.List.{set-get_or}
+use Rattle.prl_base.proofs.Standard.{◌≡◌, ℕ, List, length, get_or, set, refl, sym, subst, Some, set-get_or}
 use mathlib.Core.Option.{some}
 use lib.ListN.{get_elem?}
 use Rattle.atomic_table.specs.Table.{Me, Allows, Splits, keeps}

@@ -1,8 +1,5 @@
 -- The edge of a cell.
-use Rattle.std.proofs.Common.{◌≡◌, ℕ, zero, suc, ◌+◌, ◌-◌, ◌<◌, ◌≤◌, List, [], ◌∷◌, length, get_or, take, sum, ap, ◌∙◌, arith, Bool, true, false, cond}
-use Rattle.std.proofs.lemmas.Bool.Decides.{nat_tests}
-use Rattle.std.proofs.lemmas.List.Sums.{sum_by-cons}
-use Rattle.std.specs.Prelude.{nat_lt}
+use Rattle.prl_base.proofs.Standard.{◌≡◌, ℕ, zero, suc, ◌+◌, ◌-◌, ◌<◌, ◌≤◌, List, [], ◌∷◌, length, get_or, take, sum, ap, ◌∙◌, arith, Bool, true, false, cond, nat_tests, sum_by-cons, nat_lt}
 use Rattle.prl_rule.specs.Known.{edge_in}
 
 -- the cells of edge e are of edge e

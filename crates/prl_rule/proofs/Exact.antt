@@ -1,10 +1,6 @@
 -- Halves give their value back, and words their tags and halves.
-use Rattle.std.proofs.Common.{◌≡◌, ℕ, zero, suc, ◌+◌, ◌*◌, ◌/◌, ◌%◌, ◌^◌, ◌<◌, ℤ, refl, sym, ap, ◌∙◌, arith, true, false, FitsSigned, w64}
-use Rattle.std.proofs.Math.Facts.{Fits-of_z, sfits_to_z, Fits-of_lt}
-use Rattle.std.proofs.Math.Nat.{mod-lt}
-use Rattle.std.proofs.lemmas.Int.{to_z-of_z, of_z-to_z}
-use Rattle.std.proofs.lemmas.Nat.{div-add-mod'}
-use Rattle.std.specs.Int.{cast_signed, cast_unsigned}
+use Rattle.prl_base.proofs.Standard.{◌≡◌, ℕ, zero, suc, ◌+◌, ◌*◌, ◌/◌, ◌%◌, ◌^◌, ◌<◌, ℤ, refl, sym, ap, ◌∙◌, arith, true, false, FitsSigned, w64, Fits-of_z, sfits_to_z, Fits-of_lt, mod-lt, to_z-of_z}
+use Rattle.prl_base.proofs.Standard.{of_z-to_z, div-add-mod', cast_signed, cast_unsigned}
 use Rattle.prl_base.specs.Values.{type_of, FitsValue, IsOfType}
 use Rattle.prl_base.specs.declared.values.Ty.{Ty}
 use Rattle.prl_base.specs.declared.values.Value.{Value}

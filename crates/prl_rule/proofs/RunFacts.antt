@@ -1,11 +1,7 @@
 -- The values of a run hang together.
-use Rattle.std.proofs.Common.{◌≡◌, ℕ, zero, suc, ◌+◌, ◌-◌, ◌/◌, ◌%◌, ◌<◌, ◌≤◌, List, [], ◌∷◌, ◌++◌, length, length-append, get_or, take, sum, refl, sym, ap, ◌∙◌, subst, inl, inr, arith, Bool, true, false, cond, eqb, max, Option, Some, None, pos}
-use Rattle.std.proofs.Math.Nat.{mod-lt}
-use Rattle.std.proofs.lemmas.Bool.{cases_eq}
-use Rattle.std.proofs.lemmas.Bool.Decides.{nat_tests}
+use Rattle.prl_base.proofs.Standard.{◌≡◌, ℕ, zero, suc, ◌+◌, ◌-◌, ◌/◌, ◌%◌, ◌<◌, ◌≤◌, List, [], ◌∷◌, ◌++◌, length, length-append, get_or, take, sum, refl, sym, ap, ◌∙◌, subst, inl, inr, arith, Bool}
+use Rattle.prl_base.proofs.Standard.{true, false, cond, eqb, max, Option, Some, None, pos, mod-lt, cases_eq, nat_tests, slice_get-get_or, slice_get, unwrap_or}
 use Rattle.std.proofs.lemmas.List.{append_assoc}
-use Rattle.std.proofs.lemmas.Option.{slice_get-get_or}
-use Rattle.std.specs.Prelude.{slice_get, unwrap_or}
 use Rattle.prl_base.specs.Values.{type_of}
 use Rattle.prl_base.specs.declared.numbers.EdgeNo.{EdgeNo}
 use Rattle.prl_base.specs.declared.values.Value.{Value}

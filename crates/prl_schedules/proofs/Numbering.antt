@@ -1,12 +1,7 @@
 -- The numbers of tasks in a list that grows.
-use Rattle.std.proofs.Common.{◌≡◌, ◌<◌, ◌≤◌, ℕ, ◌+◌, suc, refl, true, false, cond, List, [], ◌∷◌, ◌++◌, length, take, get_or, sym, ap, ◌∙◌, Some, arith, Bor}
-use Rattle.std.proofs.lemmas.List.{take_more, map-append, length-take-le, length-map}
-use Rattle.std.proofs.lemmas.Map.Text.{btree_map_updates_str}
-use Rattle.std.specs.BTreeMap.{BTreeMap, UpdatesBy}
-use Rattle.std.specs.Cmp.Lexicographic.{slice_cmp}
-use Rattle.std.specs.Ordering.{nat_cmp}
-use Rattle.std.specs.Option.{is_some, option_map}
-use Rattle.std.specs.Str.{bytes_eq}
+use Rattle.prl_base.proofs.Standard.{◌≡◌, ◌<◌, ◌≤◌, ℕ, ◌+◌, suc, refl, true, false, cond, List, [], ◌∷◌, ◌++◌, length, take, get_or, sym, ap, ◌∙◌, Some, arith, Bor, take_more, map-append}
+use Rattle.prl_base.proofs.Standard.{length-take-le, length-map, btree_map_updates_str, BTreeMap, UpdatesBy, slice_cmp, nat_cmp, option_map, bytes_eq}
+use Rattle.std.specs.Option.{is_some}
 use Rattle.prl_names.specs.Lookups.{index_from, index_of}
 use Rattle.prl_schedules.specs.Vocabulary.{task_no, task_from, names_of, number_in, AreNumbers}
 use Rattle.prl_names.proofs.FirstIndices.{kept, new}

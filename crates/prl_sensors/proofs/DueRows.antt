@@ -1,12 +1,9 @@
 -- The rows of the actuators that are due at a date are those of all actuators at it.
-use Rattle.std.proofs.Common.{◌≡◌, ◌+◌, ◌<◌, ◌≤◌, ◌++◌, ◌⊎◌, ◌%◌, ◌/◌, ◌-◌, ◌*◌, inl, inr, ℕ, zero, suc, true, All, List, [], ◌∷◌, length, Option, None, Some, map, slice_get, slice_index_or, take, slice_index, nat_le, refl, sym, ◌∙◌, ap, subst, arith}
-use Rattle.std.specs.List.{Contains, flat_map}
-use Rattle.std.specs.List.Sorted.{IsStrictlyIncreasing}
-use Rattle.std.proofs.lemmas.Bool.{cases_Bool, cases_order, le-leb}
-use Rattle.std.proofs.lemmas.List.{append_assoc, append-nil, get_or_default, length-map, take_more}
+use Rattle.prl_base.proofs.Standard.{◌≡◌, ◌+◌, ◌<◌, ◌≤◌, ◌++◌, ◌⊎◌, ◌%◌, ◌/◌, ◌-◌, ◌*◌, inl, inr, ℕ, zero, suc, true, All, List, [], ◌∷◌, length, Option, None, Some, map, slice_get, slice_index_or}
+use Rattle.prl_base.proofs.Standard.{take, slice_index, nat_le, refl, sym, ◌∙◌, ap, subst, arith, Contains, flat_map, IsStrictlyIncreasing, cases_Bool, cases_order, le-leb, append-nil, get_or_default}
+use Rattle.prl_base.proofs.Standard.{length-map, take_more, mul-mod_left, get_or_from_slice_get, same_Some, slice_get-map, slice_get_within}
+use Rattle.std.proofs.lemmas.List.{append_assoc}
 use Rattle.std.proofs.lemmas.List.Concat.{flat_map-append}
-use Rattle.std.proofs.Math.Nat.{mul-mod_left}
-use Rattle.std.proofs.lemmas.Option.{get_or_from_slice_get, same_Some, slice_get-map, slice_get_within}
 use Rattle.prl_base.specs.Clocks.{IsClock, IsDate}
 use Rattle.prl_base.specs.declared.operators.Clock.{Clock}
 use Rattle.prl_base.specs.declared.values.Value.{Value}

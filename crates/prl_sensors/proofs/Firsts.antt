@@ -1,6 +1,5 @@
 -- The first of some names.
-use Rattle.std.proofs.Common.{◌≡◌, ℕ, List, [], ◌∷◌, Some, refl, slice_get}
-use Rattle.std.proofs.lemmas.Slice.Eq.{bytes_eq-Decides}
+use Rattle.prl_base.proofs.Standard.{◌≡◌, ℕ, List, [], ◌∷◌, Some, refl, slice_get, bytes_eq-Decides}
 use Rattle.prl_names.specs.Lookups.{index_of}
 
 pub some_is : {A : Type 0} (x y : A) → Some x ≡ Some y → x ≡ y

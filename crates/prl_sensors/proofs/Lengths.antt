@@ -1,7 +1,6 @@
 -- How long numbers are in decimal.
-use Rattle.std.proofs.Common.{◌<◌, ◌≤◌, ◌^◌, ℕ, length, arith}
+use Rattle.prl_base.proofs.Standard.{◌<◌, ◌≤◌, ◌^◌, ℕ, length, arith, length-decimal-le}
 use Rattle.std.specs.Fmt.{decimal}
-use Rattle.std.proofs.lemmas.Fmt.{length-decimal-le}
 
 pub number_length : (n : ℕ) → n < 2 ^ 64 → length (decimal n) ≤ 20
 number_length n fits = length-decimal-le 20 n (omega arith) (omega (arith, fits)) fits

@@ -1,8 +1,6 @@
 -- Records in plain form, and what `csv` reads them as.
-use Rattle.std.proofs.Common.{◌≡◌, ◌==◌, ◌||◌, ◌+◌, ◌++◌, ◌∷◌, ◌∙◌, [], ℕ, suc, List, Bool, Some, refl, sym, ap, subst, arith, true, false, append_assoc, inl, inr, length, take, slice_index_or, ◌<◌, ◌≤◌}
-use Rattle.std.specs.List.{position_or_len}
-use Rattle.std.proofs.lemmas.List.{append-nil}
-use Rattle.std.proofs.lemmas.Bool.{cases_Bool, eqb-true, ne_eqb}
+use Rattle.prl_base.proofs.Standard.{◌≡◌, ◌==◌, ◌||◌, ◌+◌, ◌++◌, ◌∷◌, ◌∙◌, [], ℕ, suc, List, Bool, Some, refl, sym, ap, subst, arith, true, false, append_assoc, inl, inr, length, take, slice_index_or}
+use Rattle.prl_base.proofs.Standard.{◌<◌, ◌≤◌, position_or_len, append-nil, cases_Bool, eqb-true, ne_eqb}
 use Rattle.csv.specs.Machine.{next_record}
 use Rattle.csv.specs.Reading.{default_config, records, strip_bom}
 use Rattle.csv.specs.declared.parser.State.TheVariants as st

@@ -1,12 +1,7 @@
 -- The dates of actuators' rows, and the text up to a date.
-use Rattle.std.proofs.Common.{◌≡◌, ◌+◌, ◌-◌, ◌/◌, ◌%◌, ◌<◌, ◌≤◌, ◌++◌, ℕ, zero, suc, true, List, [], ◌∷◌, length, None, refl, ◌∙◌, ap, arith, add-one, All, nat_le, ◌==◌, inl, inr}
-use Rattle.std.specs.List.{flat_map}
-use Rattle.std.proofs.lemmas.Bool.{cases_Bool, cases_lt, and_parts, leb-true, eqb-true}
+use Rattle.prl_base.proofs.Standard.{◌≡◌, ◌+◌, ◌-◌, ◌/◌, ◌%◌, ◌<◌, ◌≤◌, ◌++◌, ℕ, zero, suc, true, List, [], ◌∷◌, length, None, refl, ◌∙◌, ap, arith, add-one, All, nat_le, ◌==◌, inl, inr, flat_map}
+use Rattle.prl_base.proofs.Standard.{cases_Bool, cases_lt, and_parts, leb-true, eqb-true, append-nil, All-head, All-tail, div-add-mod', slice_get_past}
 use Rattle.std.proofs.lemmas.List.Concat.{flat_map-append}
-use Rattle.std.proofs.lemmas.List.{append-nil}
-use Rattle.std.proofs.lemmas.List.Elements.{All-head, All-tail}
-use Rattle.std.proofs.lemmas.Nat.{div-add-mod'}
-use Rattle.std.proofs.lemmas.Option.{slice_get_past}
 use Rattle.prl_base.specs.Clocks.{date_at}
 use Rattle.prl_base.specs.declared.operators.Clock.{Clock}
 use Rattle.prl_flow.specs.Vocabulary.{value_at, AreUpTo, is_date, row_at, actuator_rows, actuator_text, row_text}

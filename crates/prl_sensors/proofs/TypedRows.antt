@@ -1,13 +1,11 @@
 -- The rows of a text are of the types of their inputs, and enough.
-use Rattle.std.proofs.Common.{◌≡◌, ◌<◌, ◌≤◌, ℕ, zero, suc, ◌+◌, Bool, true, false, cond, ℤ, pos, negsuc, List, [], ◌∷◌, ◌++◌, length, Option, Some, None, Result, Ok, Err, refl, sym, subst, ◌∙◌, arith, inl, inr, bytes_eq, decimal, ◌==◌, ◌&&◌, if◌then◌else◌}
+use Rattle.prl_base.proofs.Standard.{◌≡◌, ◌<◌, ◌≤◌, ℕ, zero, suc, ◌+◌, Bool, true, false, cond, ℤ, pos, negsuc, List, [], ◌∷◌, ◌++◌, length, Option, Some, None, Result, Ok, Err, refl, sym, subst, ◌∙◌}
+use Rattle.prl_base.proofs.Standard.{arith, inl, inr, decimal, ◌==◌, ◌&&◌, if◌then◌else◌, option_map, option_and_then, FitsSigned, nat_lt, nat_le, cases_eq, leb-true, ltb-false, ltb-true}
+use Rattle.prl_base.proofs.Standard.{get_or-set_at, get_or-set_other, length-map, slice_get_within}
+use Rattle.std.proofs.Common.{bytes_eq}
 use Rattle.std.specs.List.{slice_get}
-use Rattle.std.specs.Option.{option_map, option_and_then}
 use Rattle.std.specs.Int.{w64}
-use Rattle.std.specs.Prelude.{FitsSigned, nat_lt, nat_le}
-use Rattle.std.proofs.lemmas.Bool.{cases_eq, leb-true, ltb-false, ltb-true}
-use Rattle.std.proofs.lemmas.Grind.{get_or-set_at}
-use Rattle.std.proofs.lemmas.List.{get_or-set_other, length-map, length-set}
-use Rattle.std.proofs.lemmas.Option.{slice_get_within}
+use Rattle.std.proofs.lemmas.List.{length-set}
 use Rattle.prl_base.specs.Vocabulary.{decimal_of, integer_of, negative, positive, ◌>>=◌, IsOfType}
 use Rattle.prl_base.specs.declared.decimals.TheConstants.{MAX_NEGATIVE, MAX_POSITIVE}
 use Rattle.prl_base.specs.declared.values.Ty.{Ty}

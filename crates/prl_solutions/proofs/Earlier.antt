@@ -1,9 +1,7 @@
 -- What a definition makes of a table depends on the instances that it reads alone, and these are earlier.
-use Rattle.std.proofs.Common.{◌≡◌, ◌+◌, ◌*◌, ◌/◌, ◌<◌, ◌≤◌, ◌⊎◌, inl, inr, ℕ, zero, suc, Bool, true, false, List, [], ◌∷◌, length, Option, Some, None, slice_get, slice_index_or, refl, sym, ◌∙◌, ap, subst, arith, nat_abs}
-use Rattle.std.specs.Prelude.{ℤ, pos, negsuc, int_lt}
-use Rattle.std.proofs.lemmas.Option.{slice_get_within}
-use Rattle.std.proofs.lemmas.Bool.{cases_lt}
-use Rattle.std.proofs.Math.Nat.{mul-le-mul_left, mul-le-mul_right, mul_assoc, mul_comm, div-mul-le_self, le_of_mul-le-mul_left}
+use Rattle.prl_base.proofs.Standard.{◌≡◌, ◌+◌, ◌*◌, ◌/◌, ◌<◌, ◌≤◌, ◌⊎◌, inl, inr, ℕ, zero, suc, Bool, true, false, List, [], ◌∷◌, length, Option, Some, None, slice_get, slice_index_or, refl, sym, ◌∙◌}
+use Rattle.prl_base.proofs.Standard.{ap, subst, arith, nat_abs, ℤ, pos, negsuc, int_lt, slice_get_within, cases_lt, mul-le-mul_left, mul-le-mul_right, mul_assoc, mul_comm, div-mul-le_self}
+use Rattle.prl_base.proofs.Standard.{le_of_mul-le-mul_left}
 use Rattle.prl_base.specs.Vocabulary.{IsClock, date_at, IsOperatorFor, IsResultClock, Origin, constant, delays, instance, origin_of}
 use Rattle.prl_base.specs.declared.numbers.FlowNo.{FlowNo}
 use Rattle.prl_base.specs.declared.operators.Clock.{Clock}

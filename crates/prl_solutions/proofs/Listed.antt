@@ -1,8 +1,6 @@
 -- The lists of a table up to a date, and that the values of a solution are these.
-use Rattle.std.proofs.Common.{◌≡◌, ◌<◌, ℕ, List, [], map, length, Some, slice_index_or, sym, ◌∙◌, ap, arith}
-use Rattle.std.specs.List.{range_with_len}
-use Rattle.std.proofs.lemmas.List.FromFn.{get_or-map-range_with_len, length-map-range_with_len}
-use Rattle.std.proofs.lemmas.Option.{slice_get-get_or}
+use Rattle.prl_base.proofs.Standard.{◌≡◌, ◌<◌, ℕ, List, [], map, length, Some, slice_index_or, sym, ◌∙◌, ap, arith, range_with_len, get_or-map-range_with_len, length-map-range_with_len}
+use Rattle.prl_base.proofs.Standard.{slice_get-get_or}
 use Rattle.prl_base.specs.Clocks.{IsClock, date_at}
 use Rattle.prl_base.specs.declared.numbers.FlowNo.{FlowNo}
 use Rattle.prl_base.specs.declared.operators.Clock.{Clock}

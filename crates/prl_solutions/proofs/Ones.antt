@@ -1,8 +1,6 @@
 -- A program has exactly one solution over its clocks, and its values have the types of their flows.
-use Rattle.std.proofs.Common.{◌≡◌, ◌<◌, ℕ, List, [], length, take, Some, slice_get, sym, ◌∙◌, ap, subst, arith}
-use Rattle.std.specs.List.{AllByRecursion}
+use Rattle.prl_base.proofs.Standard.{◌≡◌, ◌<◌, ℕ, List, [], length, take, Some, slice_get, sym, ◌∙◌, ap, subst, arith, AllByRecursion, get_or_from_slice_get, slice_get_within}
 use Rattle.std.proofs.lemmas.List.{length-take}
-use Rattle.std.proofs.lemmas.Option.{get_or_from_slice_get, slice_get_within}
 use Rattle.prl_base.specs.Vocabulary.{date_at, type_of}
 use Rattle.prl_base.specs.declared.numbers.FlowNo.{FlowNo}
 use Rattle.prl_base.specs.declared.operators.Clock.{Clock}

@@ -1,7 +1,6 @@
 -- Lists of values solve a program over its clocks exactly where they are as long as the clocks ask and their table is fixed.
-use Rattle.std.proofs.Common.{◌≡◌, ◌<◌, ◌≤◌, ℕ, List, [], ◌∷◌, map, length, take, Some, slice_get, slice_index_or, refl, sym, ◌∙◌, ap, subst, arith}
-use Rattle.std.proofs.lemmas.List.{length-take-le, length-map}
-use Rattle.std.proofs.lemmas.Option.{get_or_from_slice_get, slice_get-get_or, slice_get_within}
+use Rattle.prl_base.proofs.Standard.{◌≡◌, ◌<◌, ◌≤◌, ℕ, List, [], ◌∷◌, map, length, take, Some, slice_get, slice_index_or, refl, sym, ◌∙◌, ap, subst, arith, length-take-le, length-map}
+use Rattle.prl_base.proofs.Standard.{get_or_from_slice_get, slice_get-get_or, slice_get_within}
 use Rattle.prl_base.specs.Vocabulary.{IsClock, date_at, IsOperatorFor, Origin, constant, instance, origin_of}
 use Rattle.prl_base.specs.declared.operators.Clock.{Clock}
 use Rattle.prl_base.specs.declared.operators.Op.{Op}

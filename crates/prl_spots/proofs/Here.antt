@@ -1,8 +1,5 @@
 -- What is told of what stands at a byte.
-use Rattle.std.proofs.Common.{◌≡◌, ◌≢◌, ◌++◌, ℕ, List, [], ◌∷◌, Option, Some, None, Ok, Err, refl, sym, ◌∙◌}
-use Rattle.std.specs.Prelude.{All}
-use Rattle.std.proofs.lemmas.List.Elements.{All-nil}
-use Rattle.std.proofs.lemmas.List.{append-nil}
+use Rattle.prl_base.proofs.Standard.{◌≡◌, ◌≢◌, ◌++◌, ℕ, List, [], ◌∷◌, Option, Some, None, Ok, Err, refl, sym, ◌∙◌, All, All-nil, append-nil}
 use Rattle.prl_lex.specs.Lexing.{token_text, tokens_of}
 use Rattle.prl_lex.specs.declared.tokens.Token.{Token}
 use Rattle.prl_ast.specs.Trees.{ProgramTree}

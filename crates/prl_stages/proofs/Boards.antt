@@ -1,8 +1,6 @@
 -- A closed board on which every job of the horizon has ended, and which shows what the actuators got.
-use Rattle.std.proofs.Common.{◌≡◌, ◌<◌, ◌≤◌, ◌+◌, ◌++◌, ◌↔◌, ℕ, zero, suc, List, [], ◌∷◌, length, map, get_or, replicate, Option, Some, refl, sym, ap, ◌∙◌, subst, arith}
-use Rattle.std.specs.Prelude.{pos, slice_get, unwrap_or}
-use Rattle.std.specs.List.{range_with_len}
-use Rattle.std.proofs.lemmas.Option.{get_or_from_slice_get, slice_get-get_or, slice_get_within}
+use Rattle.prl_base.proofs.Standard.{◌≡◌, ◌<◌, ◌≤◌, ◌+◌, ◌++◌, ◌↔◌, ℕ, zero, suc, List, [], ◌∷◌, length, map, get_or, replicate, Option, Some, refl, sym, ap, ◌∙◌, subst, arith, pos, slice_get}
+use Rattle.prl_base.proofs.Standard.{unwrap_or, range_with_len, get_or_from_slice_get, slice_get-get_or, slice_get_within}
 use Rattle.prl_base.specs.Values.{type_of}
 use Rattle.prl_base.specs.declared.values.Value.{Value}
 use Rattle.prl_base.specs.declared.values.Value.TheVariants as values

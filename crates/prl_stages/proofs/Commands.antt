@@ -1,6 +1,5 @@
 -- The stages of every command are decided, each once those before it hold.
-use Rattle.std.proofs.Common.{◌≤◌, ◌<◌, ◌^◌, ◌++◌, Bool, true, false, List, [], ◌∷◌, Option, ap, arith}
-use Rattle.std.specs.Prelude.{is_some}
+use Rattle.prl_base.proofs.Standard.{◌≤◌, ◌<◌, ◌^◌, ◌++◌, Bool, true, false, List, [], ◌∷◌, Option, ap, arith, is_some}
 use Rattle.prl_arguments.specs.declared.arguments.Command.{Command}
 use Rattle.prl_arguments.specs.declared.arguments.Mode.{Mode}
 use Rattle.prl_arguments.specs.declared.arguments.TheConstants.{MAX_UNTIL}

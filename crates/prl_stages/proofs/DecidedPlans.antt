@@ -1,6 +1,5 @@
 -- The stages that make a plan of a task graph are decided, by the laws of the crates below: words, dates and cells.
-use Rattle.std.proofs.Common.{◌≡◌, ◌≢◌, ◌≤◌, ◌⊎◌, ℕ, List, refl, inl, inr, subst, ⊎_elim}
-use Rattle.std.specs.Prelude.{sum}
+use Rattle.prl_base.proofs.Standard.{◌≡◌, ◌≢◌, ◌≤◌, ◌⊎◌, ℕ, List, refl, inl, inr, subst, ⊎_elim, sum}
 use Rattle.prl_buffers.specs.CellFaults.{IsCellFault}
 use Rattle.prl_buffers.specs.declared.tables.CellFault.{CellFault}
 use Rattle.prl_buffers.specs.declared.tables.CellFault.TheVariants as cell_faults

@@ -1,7 +1,6 @@
 -- Stages after the types are decided, by the laws of the crates below: the flat program, its cycles and clocks, the task graph, the
 -- horizon, the rows, the schedule and how many values there are.
-use Rattle.std.proofs.Common.{◌≡◌, ◌≢◌, ◌∙◌, ◌<◌, ◌^◌, ◌⊎◌, ℕ, List, Option, Result, Ok, Err, length, refl, ap, inl, inr, subst, ⊎_elim}
-use Rattle.std.proofs.lemmas.Bool.{cases_lt}
+use Rattle.prl_base.proofs.Standard.{◌≡◌, ◌≢◌, ◌∙◌, ◌<◌, ◌^◌, ◌⊎◌, ℕ, List, Option, Result, Ok, Err, length, refl, ap, inl, inr, subst, ⊎_elim, cases_lt}
 use Rattle.prl_ast.specs.Trees.{ProgramTree}
 use Rattle.prl_base.specs.declared.limits.Limit.{Limit}
 use Rattle.prl_base.specs.declared.operators.Clock.{Clock}

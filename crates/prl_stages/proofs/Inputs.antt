@@ -1,8 +1,7 @@
 -- Main's inputs and outputs: how many there are, their names, types and needs one by one, and what is known of their rows.
-use Rattle.std.proofs.Common.{◌≡◌, ℕ, ◌+◌, ◌<◌, ◌≤◌, List, [], ◌∷◌, ◌++◌, length, map, take, Some, Ok, sym, ap, ◌∙◌, arith, slice_get}
-use Rattle.std.specs.Option.{option_map}
-use Rattle.std.proofs.lemmas.List.{length-map, length-append, map_more}
-use Rattle.std.proofs.lemmas.Option.{get_or_from_slice_get, slice_get-map, slice_get_within}
+use Rattle.prl_base.proofs.Standard.{◌≡◌, ℕ, ◌+◌, ◌<◌, ◌≤◌, List, [], ◌∷◌, ◌++◌, length, map, take, Some, Ok, sym, ap, ◌∙◌, arith, slice_get, option_map, length-map, map_more, get_or_from_slice_get}
+use Rattle.prl_base.proofs.Standard.{slice_get-map, slice_get_within}
+use Rattle.std.proofs.lemmas.List.{length-append}
 use Rattle.prl_base.specs.Clocks.{IsClock}
 use Rattle.prl_base.specs.declared.numbers.FlowNo.{FlowNo}
 use Rattle.prl_base.specs.declared.operators.Clock.{Clock}

@@ -1,6 +1,5 @@
 -- What a program computes is its one behaviour.
-use Rattle.std.proofs.Common.{◌≡◌, ℕ, List, Option, map, sym, ap, ◌∙◌, subst}
-use Rattle.std.proofs.lemmas.List.Elements.{All-from_recursion}
+use Rattle.prl_base.proofs.Standard.{◌≡◌, ℕ, List, Option, map, sym, ap, ◌∙◌, subst, All-from_recursion}
 use Rattle.prl_base.specs.Clocks.{IsClock}
 use Rattle.prl_base.specs.declared.operators.Clock.{Clock}
 use Rattle.prl_base.specs.declared.values.Ty.{Ty}

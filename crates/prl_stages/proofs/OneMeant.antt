@@ -1,11 +1,10 @@
 -- The text that a command means is one, whatever has run.
-use Rattle.std.proofs.Common.{◌≡◌, ℕ, Bool, List, None}
+use Rattle.prl_base.proofs.Standard.{◌≡◌, ℕ, Bool, List, None, is_some}
 use Rattle.prl_arguments.specs.declared.arguments.Command.{Command}
 use Rattle.prl_arguments.specs.declared.arguments.Mode.{Mode}
 use Rattle.prl_arguments.specs.declared.arguments.Mode.TheVariants as modes
 use Rattle.prl_stages.specs.Vocabulary.{Given, IsMeant, IsMeantIn, Comes, files, stages_after, stages_of}
 use Rattle.prl_stages.specs.declared.ran.Ran.{Ran}
-use Rattle.std.specs.Prelude.{is_some}
 use Rattle.prl_stages.proofs.AllHold.{behind}
 use Rattle.prl_stages.proofs.OneMode.{one_text}
 use Rattle.prl_stages.proofs.OneText as one

@@ -1,5 +1,5 @@
 -- A program has one placement on the processors of its text, or one fault of it; and its schedule there is whole or is refused with one fault.
-use Rattle.std.proofs.Common.{◌≡◌, ◌+◌, ℕ, Bool, List, [], Some, Ok, Err, Result, sym, ap, ◌∙◌, subst}
+use Rattle.prl_base.proofs.Standard.{◌≡◌, ◌+◌, ℕ, Bool, List, [], Some, Ok, Err, Result, sym, ap, ◌∙◌, subst, slice_get, take}
 use Rattle.prl_core.specs.Cores.{opened_on}
 use Rattle.prl_cores.specs.declared.texts.CoresFault.{CoresFault}
 use Rattle.prl_cores.specs.Processors.{processors_of}
@@ -12,7 +12,6 @@ use Rattle.prl_replay.specs.declared.faults.ReplayFault.{ReplayFault}
 use Rattle.prl_replay.specs.declared.faults.ReplayFault.TheVariants as causes
 use Rattle.prl_schedules.specs.declared.schedules.ScheduleFault.TheVariants as lines
 use Rattle.prl_schedules.specs.Vocabulary.{schedule_of, task_names}
-use Rattle.std.specs.Prelude.{slice_get, take}
 use Rattle.prl_stages.specs.declared.faults.InputFile.TheVariants as parts
 use Rattle.prl_stages.specs.Vocabulary.{Fault, Given, text_of, HasPlacement, IsPlacedRun, Lists, RefusesCores, RefusesPlaced, cores_refusal, HasGraph, HasPlan, schedule_refusal, HasHorizon, RunLaws}
 use Rattle.prl_stages.specs.declared.faults.Fault.TheVariants as faults

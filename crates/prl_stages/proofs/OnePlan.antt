@@ -1,6 +1,5 @@
 -- A program has one task graph, and the stages that plan it refuse with one fault and only where there is no part.
-use Rattle.std.proofs.Common.{◌≡◌, ◌<◌, ℕ, ℤ, pos, List, Some, None, sum, sym, ap, ◌∙◌, ◌⊎◌, inl, inr, subst, arith}
-use Rattle.std.specs.Prelude.{◌≤ℤ◌}
+use Rattle.prl_base.proofs.Standard.{◌≡◌, ◌<◌, ℕ, ℤ, pos, List, Some, None, sum, sym, ap, ◌∙◌, ◌⊎◌, inl, inr, subst, arith, ◌≤ℤ◌}
 use borrow.Author.Differences.{ints}
 use Rattle.prl_base.specs.declared.limits.Limit.{Limit}
 use Rattle.prl_base.specs.declared.numbers.TaskNo.{TaskNo}

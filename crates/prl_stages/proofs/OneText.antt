@@ -1,6 +1,5 @@
 -- The text that a mode means is one.
-use Rattle.std.proofs.Common.{◌≡◌, ◌++◌, ℕ, Bool, true, false, List, Ok, sym, ap, ◌∙◌, subst}
-use Rattle.std.specs.Prelude.{length}
+use Rattle.prl_base.proofs.Standard.{◌≡◌, ◌++◌, ℕ, Bool, true, false, List, Ok, sym, ap, ◌∙◌, subst, length}
 use Rattle.prl_arguments.specs.declared.arguments.Mode.TheVariants as modes
 use Rattle.prl_base.specs.declared.operators.Clock.{Clock}
 use Rattle.prl_core.specs.Cores.{opened, opened_on}

@@ -1,9 +1,6 @@
 -- A program that is accepted runs on its plan: the machine has what it needs, and what it tells is of the one behaviour.
-use Rattle.std.proofs.Common.{◌≡◌, ◌++◌, ◌<◌, ◌<ℤ◌, ◌+ℤ◌, ◌*ℤ◌, ℕ, pos, List, [], Option, Some, Ok, length, map, slice_get, refl, sym, ap, ◌∙◌, subst, arith}
-use Rattle.std.specs.Option.{option_map}
-use Rattle.std.proofs.lemmas.Int.{ints}
-use Rattle.std.specs.List.{AllByRecursion}
-use Rattle.std.proofs.lemmas.Option.{get_or_from_slice_get, slice_get-map, slice_get_within}
+use Rattle.prl_base.proofs.Standard.{◌≡◌, ◌++◌, ◌<◌, ◌<ℤ◌, ◌+ℤ◌, ◌*ℤ◌, ℕ, pos, List, [], Option, Some, Ok, length, map, slice_get, refl, sym, ap, ◌∙◌, subst, arith, option_map, ints, AllByRecursion}
+use Rattle.prl_base.proofs.Standard.{get_or_from_slice_get, slice_get-map, slice_get_within}
 use Rattle.prl_base.specs.Vocabulary.{date_at, type_of}
 use Rattle.prl_base.specs.declared.numbers.FlowNo.{FlowNo}
 use Rattle.prl_base.specs.declared.operators.Clock.{Clock}

@@ -1,9 +1,6 @@
 -- The only clocks of a flat program are small.
-use Rattle.std.proofs.Common.{◌≡◌, ◌<◌, ◌*◌, ◌^◌, ◌-ℤ◌, ℕ, ℤ, pos, List, length, inl, inr, sym, ap, ◌∙◌, subst, arith}
+use Rattle.prl_base.proofs.Standard.{◌≡◌, ◌<◌, ◌*◌, ◌^◌, ◌-ℤ◌, ℕ, ℤ, pos, List, length, inl, inr, sym, ap, ◌∙◌, subst, arith, one-dvd, cases_lt, take_all}
 use borrow.Author.Differences.{ints}
-use Rattle.std.proofs.Math.Nat.{one-dvd}
-use Rattle.std.proofs.lemmas.Bool.{cases_lt}
-use Rattle.std.proofs.lemmas.List.{take_all}
 use Rattle.prl_base.specs.Reductions.{IsReducedForm}
 use Rattle.prl_base.specs.declared.operators.Clock.{Clock}
 use Rattle.prl_clock.specs.Vocabulary.{Passes, period as period_passes, start as start_passes, Placed, constraints_of, over_one, AreOnlyClocks}

@@ -1,6 +1,5 @@
 -- Each command whose stages hold means a text.
-use Rattle.std.proofs.Common.{ℕ, Bool, List, map, None, refl}
-use Rattle.std.specs.Prelude.{is_some}
+use Rattle.prl_base.proofs.Standard.{ℕ, Bool, List, map, None, refl, is_some}
 use Rattle.prl_arguments.specs.declared.arguments.Command.{Command}
 use Rattle.prl_arguments.specs.declared.arguments.Mode.{Mode}
 use Rattle.prl_arguments.specs.declared.arguments.Mode.TheVariants as modes

@@ -1,6 +1,5 @@
 -- Where the stages of a mode hold, there is a text that it means.
-use Rattle.std.proofs.Common.{◌≡◌, ◌++◌, ℕ, Bool, true, false, List, [], ◌∷◌, map, Option, None, refl, subst, arith}
-use Rattle.std.specs.List.Sorted.{IsPermutation}
+use Rattle.prl_base.proofs.Standard.{◌≡◌, ◌++◌, ℕ, Bool, true, false, List, [], ◌∷◌, map, Option, None, refl, subst, arith, IsPermutation}
 use Rattle.prl_arguments.specs.declared.arguments.Mode.TheVariants as modes
 use Rattle.prl_body.specs.Checks.{body_tree}
 use Rattle.prl_body.specs.declared.bodies.CheckedBody.{CheckedBody}

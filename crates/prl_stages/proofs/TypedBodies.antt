@@ -1,7 +1,5 @@
 -- Checked bodies are well typed.
-use Rattle.std.proofs.Common.{◌≡◌, ◌++◌, ℕ, true, false, cond, List, [], ◌∷◌, map, Option, Some, None, Result, Ok, subst}
-use Rattle.std.specs.List.{AllByRecursion}
-use Rattle.std.specs.Str.{bytes_eq}
+use Rattle.prl_base.proofs.Standard.{◌≡◌, ◌++◌, ℕ, true, false, cond, List, [], ◌∷◌, map, Option, Some, None, Result, Ok, subst, AllByRecursion, bytes_eq}
 use Rattle.prl_base.specs.Reading.{◌>>=◌}
 use Rattle.prl_ast.specs.declared.declarations.Import.{Import}
 use Rattle.prl_body.specs.Vocabulary.{IsWellTyped, body_named, BodyTree, all_there, body_tree, checked, checked_bodies, checked_body, checked_one, has_text, import_named, TextTree}

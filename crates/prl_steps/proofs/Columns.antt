@@ -1,8 +1,7 @@
 -- The bars of columns, with one more step before the others.
-use Rattle.std.proofs.Common.{◌≡◌, ◌<◌, ◌≤◌, ◌+◌, ◌-◌, ◌∙◌, ◌==◌, ℕ, zero, suc, true, false, cond, List, [], ◌∷◌, ◌++◌, length, map, set, drop, get_or, Option, Some, None, refl, ap, sym, subst, arith}
-use Rattle.std.specs.List.{filter, range_with_len}
-use Rattle.std.proofs.lemmas.List.{drop_more}
-use Rattle.std.proofs.lemmas.List.FromFn.{get_or-map-range_with_len, length-map-range_with_len, map-range_with_len_more}
+use Rattle.prl_base.proofs.Standard.{◌≡◌, ◌<◌, ◌≤◌, ◌+◌, ◌-◌, ◌∙◌, ◌==◌, ℕ, zero, suc, true, false, cond, List, [], ◌∷◌, ◌++◌, length, map, set, drop, get_or, Option, Some, None, refl, ap, sym, subst}
+use Rattle.prl_base.proofs.Standard.{arith, range_with_len, drop_more, get_or-map-range_with_len, length-map-range_with_len, map-range_with_len_more}
+use Rattle.std.specs.List.{filter}
 use Rattle.prl_drawing.specs.declared.scales.Scale.{Scale}
 use Rattle.prl_steps.specs.declared.bars.Bar.{Bar}
 use Rattle.prl_steps.specs.declared.samples.Step.{Step}

@@ -1,8 +1,6 @@
 -- The steps of samples, one after another.
-use Rattle.std.proofs.Common.{◌≡◌, ◌<◌, ◌+◌, ◌∙◌, ℕ, List, [], ◌∷◌, ◌++◌, length, drop, get_or, refl, ap, sym, append_assoc}
+use Rattle.prl_base.proofs.Standard.{◌≡◌, ◌<◌, ◌+◌, ◌∙◌, ℕ, List, [], ◌∷◌, ◌++◌, length, drop, get_or, refl, ap, sym, append_assoc, drop_more, filter-append}
 use Rattle.std.specs.List.{filter}
-use Rattle.std.proofs.lemmas.List.{drop_more}
-use Rattle.std.proofs.lemmas.List.Elements.{filter-append}
 use Rattle.prl_drawing.specs.declared.scales.Scale.{Scale}
 use Rattle.prl_steps.specs.declared.samples.Sample.{Sample}
 use Rattle.prl_steps.specs.declared.samples.Step.{Step}

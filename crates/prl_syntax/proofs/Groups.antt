@@ -1,6 +1,5 @@
 -- Items from the last one back: each is noted by itself, or by the next one that is.
-use Rattle.std.proofs.Common.{◌≡◌, List, [], ◌∷◌, ◌++◌, Option, reverse, refl, sym, ap, ◌∙◌, append_assoc}
-use Rattle.std.proofs.lemmas.List.{reverse-append}
+use Rattle.prl_base.proofs.Standard.{◌≡◌, List, [], ◌∷◌, ◌++◌, Option, reverse, refl, sym, ap, ◌∙◌, append_assoc, reverse-append}
 use Rattle.prl_ast.specs.declared.declarations.Param.{Param}
 use Rattle.prl_syntax.specs.declared.parameters.Note.{Note}
 use Rattle.prl_syntax.specs.declared.parameters.Item.{Item}

@@ -1,6 +1,5 @@
 -- A loop over the links of a stem reads the stem.
-use Rattle.std.proofs.Common.{◌≡◌, cond, true, false, Bool, List, [], ◌∷◌, ◌++◌, Ok, Err, refl, sym, ap, ◌∙◌, append_assoc}
-use Rattle.std.proofs.lemmas.List.{append-nil}
+use Rattle.prl_base.proofs.Standard.{◌≡◌, cond, true, false, Bool, List, [], ◌∷◌, ◌++◌, Ok, Err, refl, sym, ap, ◌∙◌, append_assoc, append-nil}
 use Rattle.prl_ast.specs.Trees.{Root}
 use Rattle.prl_ast.specs.declared.expressions.PlacedOp.{PlacedOp}
 use Rattle.prl_base.specs.Reading.{◌>>=◌, FailsAs}

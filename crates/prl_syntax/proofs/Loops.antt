@@ -1,7 +1,5 @@
 -- A loop that reads one list after another gives what the reader of many gives.
-use Rattle.std.proofs.Common.{◌≡◌, ℕ, true, false, List, ◌∷◌, ◌++◌, Ok, Err, refl, sym, ap, ◌∙◌, append_assoc}
-use Rattle.std.proofs.lemmas.Bool.{cond-true, cond-false}
-use Rattle.std.proofs.lemmas.List.{append-nil}
+use Rattle.prl_base.proofs.Standard.{◌≡◌, ℕ, true, false, List, ◌∷◌, ◌++◌, Ok, Err, refl, sym, ap, ◌∙◌, append_assoc, cond-true, cond-false, append-nil}
 use Rattle.prl_base.specs.Reading.{◌>>=◌, FailsAs}
 use Rattle.prl_grammar.specs.Vocabulary.{Lexeme, Read, next_in, many_at, stop_of}
 use Rattle.prl_grammar.specs.declared.reading.Stop.{Stop}

@@ -1,9 +1,8 @@
 -- The greatest common divisor, and reduced ratios.
-use Rattle.std.proofs.Common.{◌≡◌, pos, ℕ, zero, suc, ◌*◌, ◌/◌, ◌%◌, ◌<◌, ◌≤◌, true, ◌&&◌, ◌==◌, sym, ◌∙◌, subst, ⊎_elim, arith}
-use Rattle.std.proofs.lemmas.Bool.{cond-true, cond-false, cases_lt, cases_Bool, and_parts, and_from, eqb-true, eq-eqb, true≢false}
-use Rattle.std.proofs.lemmas.Nat.Gcd.{dvd_of_mod-eq-zero, mod-eq-zero_of_dvd, le_of_dvd}
-use Rattle.std.proofs.Math.Nat.{dvd_of_mul-dvd-mul_left, mul-dvd-mul_left, mul-div_cancel', one-dvd, eq-zero_of_zero-dvd, div-le_self, mul-zero}
-use Rattle.std.specs.Int.{IsGcd, ◌∣◌}
+use Rattle.prl_base.proofs.Standard.{◌≡◌, pos, ℕ, zero, suc, ◌*◌, ◌/◌, ◌%◌, ◌<◌, ◌≤◌, true, ◌&&◌, ◌==◌, sym, ◌∙◌, subst, ⊎_elim, arith, cond-true, cond-false, cases_lt, cases_Bool, and_parts}
+use Rattle.prl_base.proofs.Standard.{and_from, eqb-true, eq-eqb, true≢false, dvd_of_mod-eq-zero, mod-eq-zero_of_dvd, le_of_dvd, dvd_of_mul-dvd-mul_left, mul-dvd-mul_left, mul-div_cancel', one-dvd}
+use Rattle.prl_base.proofs.Standard.{eq-zero_of_zero-dvd, div-le_self, IsGcd, ◌∣◌}
+use Rattle.std.proofs.Math.Nat.{mul-zero}
 use Rattle.prl_base.specs.Ratios.{IsSmallFraction}
 use Rattle.prl_base.specs.declared.ratios.TheConstants.{MAX_PART}
 use Rattle.prl_syntax.specs.Values.{divisor_up_to, common_divisor}

@@ -1,10 +1,6 @@
 -- The entries that are cut out of a run, tick by tick.
-use Rattle.std.proofs.Common.{◌≡◌, ◌≢◌, ◌==◌, ◌+◌, ◌*◌, ◌/◌, ◌%◌, ◌<◌, ◌≤◌, ◌++◌, ◌&&◌, ◌⊎◌, ℕ, zero, suc, Bool, true, false, cond, List, [], ◌∷◌, Option, Some}
-use Rattle.std.proofs.Common.{None, length, inl, inr, refl, sym, ◌∙◌, ap, subst, arith}
-use Rattle.std.specs.Prelude.{slice_get}
-use Rattle.std.proofs.Math.Nat.{mul-le-mul_right}
-use Rattle.std.proofs.lemmas.Bool.{cases_eq, cases_lt}
-use Rattle.std.proofs.lemmas.Bool.Decides.{nat_tests}
+use Rattle.prl_base.proofs.Standard.{◌≡◌, ◌≢◌, ◌==◌, ◌+◌, ◌*◌, ◌/◌, ◌%◌, ◌<◌, ◌≤◌, ◌++◌, ◌&&◌, ◌⊎◌, ℕ, zero, suc, Bool, true, false, cond, List, [], ◌∷◌, Option, Some, None, length, inl, inr, refl}
+use Rattle.prl_base.proofs.Standard.{sym, ◌∙◌, ap, subst, arith, slice_get, mul-le-mul_right, cases_eq, cases_lt, nat_tests}
 use Rattle.prl_plan.specs.Vocabulary.{sum_below, PlanView, IsPlan, release_at}
 use Rattle.prl_tables.specs.Tables.{classes, is_of, units_of}
 use Rattle.prl_tables.specs.declared.tables.Entry.{Entry}

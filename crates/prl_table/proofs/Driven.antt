@@ -1,12 +1,6 @@
 -- One thread does the list of a table.
-use Rattle.std.proofs.Common.{◌≡◌, ◌≢◌, ◌+◌, ◌-◌, ◌<◌, ◌≤◌, ◌++◌, ◌^◌, ℕ, suc, Bool, true, false, List, [], ◌∷◌, length, get_or, refl, sym, ◌∙◌, ap, subst, arith, inl, inr, Option, Some, None, cond}
-use Rattle.std.specs.Prelude.{set, slice_get}
-use Rattle.std.proofs.Common.{replicate}
-use Rattle.std.proofs.lemmas.Bool.{cases_eq, cases_lt}
-use Rattle.std.proofs.lemmas.Bool.Decides.{leb_tells}
-use Rattle.std.proofs.lemmas.Grind.{get_or-set_at}
-use Rattle.std.proofs.lemmas.List.{get_or-set_other, get_or-replicate}
-use Rattle.std.proofs.lemmas.Option.{slice_get-get_or, slice_get_within}
+use Rattle.prl_base.proofs.Standard.{◌≡◌, ◌≢◌, ◌+◌, ◌-◌, ◌<◌, ◌≤◌, ◌++◌, ◌^◌, ℕ, suc, Bool, true, false, List, [], ◌∷◌, length, get_or, refl, sym, ◌∙◌, ap, subst, arith, inl, inr, Option, Some, None}
+use Rattle.prl_base.proofs.Standard.{cond, set, slice_get, replicate, cases_eq, cases_lt, leb_tells, get_or-set_at, get_or-set_other, get_or-replicate, slice_get-get_or, slice_get_within}
 use Rattle.prl_plan.specs.Vocabulary.{IsJob, HasPlanFacts, constants_of, PlanView, KeepsGated, RunConstants, ExecState, opening, after_event, after_events}
 use Rattle.prl_plan.specs.declared.events.Event.{Event}
 use Rattle.prl_plan.specs.declared.horizons.Horizon.{Horizon}

@@ -1,6 +1,5 @@
 -- A timed run by earliest deadlines that meets all windows is such a run as tables are cut from.
-use Rattle.std.proofs.Common.{◌≡◌, ◌+◌, ◌-◌, ◌<◌, ◌≤◌, ℕ, suc, Bool, true, false, refl, ap, arith, cond, inl, inr}
-use Rattle.std.proofs.lemmas.Bool.{cases_lt}
+use Rattle.prl_base.proofs.Standard.{◌≡◌, ◌+◌, ◌-◌, ◌<◌, ◌≤◌, ℕ, suc, Bool, true, false, refl, ap, arith, cond, inl, inr, cases_lt}
 use Rattle.prl_plan.specs.Vocabulary.{task_at, PlanView, deadline_at}
 use Rattle.prl_table.specs.Made.{Run, units_in, IsRun, IsTimed, IsEdf}
 use Rattle.prl_table.proofs.Units.{units_none, units_join}

@@ -1,17 +1,11 @@
 -- Facts on which the making of a table rests.
-use Rattle.std.proofs.Common.{◌≡◌, ◌+◌, ◌*◌, ◌/◌, ◌%◌, ◌<◌, ◌≤◌, ◌^◌, ◌&&◌, ℕ, suc, Bool, true, false, List, [], ◌∷◌, Option, Some, None, length, get_or}
-use Rattle.std.proofs.Common.{nat_le, nat_lt, inl, inr, refl, sym, ◌∙◌, ap, arith}
-use Rattle.std.specs.Prelude.{IfSome, max, min, slice_get}
-use Rattle.std.proofs.Math.Nat.{mul-le-mul_left}
-use Rattle.std.proofs.lemmas.Bool.{cases_lt}
-use Rattle.std.proofs.lemmas.Bool.Decides.{nat_tests}
-use Rattle.std.proofs.lemmas.Grind.{div_ceil_times}
-use Rattle.std.proofs.lemmas.Option.{get_or_from_slice_get, slice_get-get_or, slice_get_within}
+use Rattle.prl_base.proofs.Standard.{◌≡◌, ◌+◌, ◌*◌, ◌/◌, ◌%◌, ◌<◌, ◌≤◌, ◌^◌, ◌&&◌, ℕ, suc, Bool, true, false, List, [], ◌∷◌, Option, Some, None, length, get_or, nat_le, nat_lt, inl, inr, refl, sym}
+use Rattle.prl_base.proofs.Standard.{◌∙◌, ap, arith, IfSome, max, min, slice_get, mul-le-mul_left, cases_lt, nat_tests, div_ceil_times, get_or_from_slice_get, slice_get-get_or, slice_get_within}
+use Rattle.prl_base.proofs.Standard.{IsNonDecreasingBy}
 use Rattle.prl_base.specs.declared.numbers.TaskNo.{TaskNo}
 use Rattle.prl_plan.specs.Vocabulary.{PlanView, IsPlan, constants_of, release_at}
 use Rattle.prl_plan.specs.declared.graphs.Task.{Task}
 use Rattle.prl_plan.specs.declared.horizons.Horizon.{Horizon}
-use Rattle.std.specs.List.Sorted.{IsNonDecreasingBy}
 use Rattle.prl_edf.specs.Vocabulary.{IsEdfRun, wcets_of}
 use Rattle.prl_tables.specs.Vocabulary.{comes_after, AreOrdered, classes, IsGood}
 use Rattle.prl_tables.specs.declared.tables.Entry.{Entry}

@@ -1,16 +1,7 @@
 -- What is cut out of a feasible and steady run of a plan, in whatever order, is a good table.
-use Rattle.std.proofs.Common.{◌≡◌, ◌+◌, ◌*◌, ◌<◌, ◌≤◌, ℕ, List, [], ◌∷◌, Option, Some, length, cond, refl, sym, ◌∙◌, ap, arith}
-use Rattle.std.specs.Prelude.{pos, ◌≤ℤ◌, ◌↔◌, slice_get}
-use Rattle.std.specs.Int.{div_ceil}
-use Rattle.std.specs.List.{sum_by, swap}
-use Rattle.std.specs.List.Sorted.{IsPermutation}
-use Rattle.std.proofs.Math.IntN.{pos-*ℤ-pos}
-use Rattle.std.proofs.Math.Nat.{mul-le-mul_right}
-use Rattle.std.proofs.lemmas.Grind.{div_ceil_times}
-use Rattle.std.proofs.lemmas.Int.{ints}
-use Rattle.std.proofs.lemmas.List.Sums.{sum_by-cons}
-use Rattle.std.proofs.lemmas.List.Sorted.{IsPermutation-keeps, sum_by-IsPermutation}
-use Rattle.std.proofs.lemmas.Option.{slice_get-get_or}
+use Rattle.prl_base.proofs.Standard.{◌≡◌, ◌+◌, ◌*◌, ◌<◌, ◌≤◌, ℕ, List, [], ◌∷◌, Option, Some, length, cond, refl, sym, ◌∙◌, ap, arith, pos, ◌≤ℤ◌, ◌↔◌, slice_get, div_ceil, swap, IsPermutation}
+use Rattle.prl_base.proofs.Standard.{pos-*ℤ-pos, mul-le-mul_right, div_ceil_times, ints, sum_by-cons, IsPermutation-keeps, sum_by-IsPermutation, slice_get-get_or}
+use Rattle.std.specs.List.{sum_by}
 use Rattle.prl_plan.specs.Vocabulary.{encoded_deadline, constants_of, task_at, no_task, deadline_of, job_count, IsHorizonJob, PlanView, IsPlan, release_at}
 use Rattle.prl_plan.specs.declared.horizons.Horizon.{Horizon}
 use Rattle.prl_plan.proofs.DatePeriods.{jobs_are}

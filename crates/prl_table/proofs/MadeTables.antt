@@ -1,11 +1,6 @@
 -- A table that is cut out of a steady run by earliest deadlines is good.
-use Rattle.std.proofs.Common.{◌≡◌, ◌≢◌, ◌+◌, ◌*◌, ◌-◌, ◌<◌, ◌≤◌, ℕ, zero, suc, Bool, true, false, List, length, Some, inl, inr, refl, sym, ◌∙◌, ap, subst, arith}
-use Rattle.std.specs.Prelude.{ℤ, pos, negsuc, ◌+ℤ◌, ◌-ℤ◌, ◌*ℤ◌, ◌≤ℤ◌, slice_get}
-use Rattle.std.proofs.Math.IntN.{pos-*ℤ-pos}
-use Rattle.std.proofs.Math.Nat.{mul-le-mul_right}
-use Rattle.std.proofs.lemmas.Bool.{cases_eq, cases_lt}
-use Rattle.std.proofs.lemmas.Int.{ints}
-use Rattle.std.proofs.lemmas.Option.{slice_get-get_or}
+use Rattle.prl_base.proofs.Standard.{◌≡◌, ◌≢◌, ◌+◌, ◌*◌, ◌-◌, ◌<◌, ◌≤◌, ℕ, zero, suc, Bool, true, false, List, length, Some, inl, inr, refl, sym, ◌∙◌, ap, subst, arith, ℤ, pos, negsuc, ◌+ℤ◌, ◌-ℤ◌}
+use Rattle.prl_base.proofs.Standard.{◌*ℤ◌, ◌≤ℤ◌, slice_get, pos-*ℤ-pos, mul-le-mul_right, cases_eq, cases_lt, ints, slice_get-get_or}
 use Rattle.prl_plan.specs.Vocabulary.{encoded_release, encoded_deadline, sum_below, task_at, deadline_of, IsHorizonJob, PlanView, IsPlan, edge_at, no_edge, release_at, deadline_at, preceding}
 use Rattle.prl_plan.specs.Vocabulary.{ComesFrom, Precedes}
 use Rattle.prl_plan.proofs.DatePeriods.{jobs_are, least_repeat, greatest_repeat}

@@ -1,6 +1,5 @@
 -- A plan has one made table or one fault of making.
-use Rattle.std.proofs.Common.{◌≡◌, ◌≢◌, ◌+◌, ◌<◌, ◌≤◌, ℕ, List, Option, Some, None, refl, sym, ap, ◌∙◌, inl, inr, subst, arith}
-use Rattle.std.proofs.lemmas.Bool.{cases_order}
+use Rattle.prl_base.proofs.Standard.{◌≡◌, ◌≢◌, ◌+◌, ◌<◌, ◌≤◌, ℕ, List, Option, Some, None, refl, sym, ap, ◌∙◌, inl, inr, subst, arith, cases_order}
 use Rattle.prl_base.specs.declared.limits.Limit.{Limit}
 use Rattle.prl_base.specs.declared.numbers.TaskNo.{TaskNo}
 use Rattle.prl_edf.specs.Vocabulary.{IsOverloaded, MeetsAllWindows, run_of, IsTimedRun, wcets_of, IsVerdict}

@@ -1,12 +1,6 @@
 -- A plan has one made table.
-use Rattle.std.proofs.Common.{◌≡◌, ◌+◌, ◌*◌, ◌<◌, ◌≤◌, ℕ, zero, suc, true, false, List, [], ◌∷◌, length, get_or, Option, Some, None, refl, sym, ap, ◌∙◌, inl, inr, subst, arith}
-use Rattle.std.specs.Prelude.{slice_get}
-use Rattle.std.specs.List.{Contains}
-use Rattle.std.specs.List.Sorted.{IsPermutation}
-use Rattle.std.proofs.lemmas.Bool.{cases_order}
-use Rattle.std.proofs.lemmas.Bool.Decides.{nat_tests}
-use Rattle.std.proofs.lemmas.List.Sorted.{Contains-permutation, IsPermutation-sym}
-use Rattle.std.proofs.lemmas.Option.{get_or_from_slice_get, slice_get-get_or, slice_get_within}
+use Rattle.prl_base.proofs.Standard.{◌≡◌, ◌+◌, ◌*◌, ◌<◌, ◌≤◌, ℕ, zero, suc, true, false, List, [], ◌∷◌, length, get_or, Option, Some, None, refl, sym, ap, ◌∙◌, inl, inr, subst, arith, slice_get}
+use Rattle.prl_base.proofs.Standard.{Contains, IsPermutation, cases_order, nat_tests, Contains-permutation, IsPermutation-sym, get_or_from_slice_get, slice_get-get_or, slice_get_within}
 use Rattle.prl_edf.specs.Vocabulary.{IsEdfRun, MeetsAllWindows, run_of, wcets_of}
 use Rattle.prl_edf.specs.declared.runs.Timed.{Timed}
 use Rattle.prl_plan.specs.Vocabulary.{constants_of, PlanView, IsPlan}

@@ -1,9 +1,5 @@
 -- Classes are released early, and pieces are short.
-use Rattle.std.proofs.Common.{◌≡◌, ◌+◌, ◌*◌, ◌<◌, ◌≤◌, ◌^◌, ℕ, length, arith}
-use Rattle.std.specs.Prelude.{pos, ◌≤ℤ◌}
-use Rattle.std.proofs.Math.IntN.{pos-*ℤ-pos}
-use Rattle.std.proofs.Math.Nat.{mul-le-mul_right}
-use Rattle.std.proofs.lemmas.Int.{ints}
+use Rattle.prl_base.proofs.Standard.{◌≡◌, ◌+◌, ◌*◌, ◌<◌, ◌≤◌, ◌^◌, ℕ, length, arith, pos, ◌≤ℤ◌, pos-*ℤ-pos, mul-le-mul_right, ints}
 use Rattle.prl_plan.specs.Vocabulary.{encoded_deadline, task_at, deadline_of, IsHorizonJob, PlanView, IsPlan, release_at, deadline_at}
 use Rattle.prl_plan.proofs.DatePeriods.{jobs_are}
 use Rattle.prl_plan.proofs.RoundPeriods.{task_is}

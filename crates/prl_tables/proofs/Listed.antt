@@ -1,8 +1,6 @@
 -- What holds of the elements of a list, one after another.
-use Rattle.std.proofs.Common.{◌≡◌, ◌+◌, ◌<◌, ◌≤◌, ℕ, zero, suc, List, [], ◌∷◌, ◌++◌, length, get_or, Some, inl, inr, ◌∙◌, ap, subst, arith}
-use Rattle.std.specs.Prelude.{slice_get}
-use Rattle.std.proofs.lemmas.Bool.{cases_lt}
-use Rattle.std.proofs.lemmas.Option.{get_or_from_slice_get, slice_get_within}
+use Rattle.prl_base.proofs.Standard.{◌≡◌, ◌+◌, ◌<◌, ◌≤◌, ℕ, zero, suc, List, [], ◌∷◌, ◌++◌, length, get_or, Some, inl, inr, ◌∙◌, ap, subst, arith, slice_get, cases_lt, get_or_from_slice_get}
+use Rattle.prl_base.proofs.Standard.{slice_get_within}
 
 -- what held of the first k elements and holds of the next one
 pub so_far : {X : Type 0} (P : ℕ → X → Type 0) (xs : List X) (k : ℕ) (d : X) → ((j : ℕ) (x : X) → j < k → slice_get xs j ≡ Some x → P j x) →

@@ -1,10 +1,6 @@
 -- When the order along an edge is kept, told by where classes begin and end.
-use Rattle.std.proofs.Common.{◌≡◌, ◌+◌, ◌*◌, ◌-◌, ◌/◌, ◌%◌, ◌<◌, ◌≤◌, ◌^◌, ℕ, zero, suc, Bool, true, false, cond, List, [], ◌∷◌, length, Some, inl, inr, refl, sym, ◌∙◌, ap, subst, arith}
-use Rattle.std.specs.Prelude.{ℤ, pos, negsuc, ◌+ℤ◌, ◌-ℤ◌, ◌*ℤ◌, slice_get, max}
-use Rattle.std.proofs.Math.IntN.{pos-*ℤ-pos}
-use Rattle.std.proofs.Math.Nat.{mul-le-mul_right}
-use Rattle.std.proofs.lemmas.Bool.{cases_lt}
-use Rattle.std.proofs.lemmas.Int.{ints}
+use Rattle.prl_base.proofs.Standard.{◌≡◌, ◌+◌, ◌*◌, ◌-◌, ◌/◌, ◌%◌, ◌<◌, ◌≤◌, ◌^◌, ℕ, zero, suc, Bool, true, false, cond, List, [], ◌∷◌, length, Some, inl, inr, refl, sym, ◌∙◌, ap, subst, arith, ℤ}
+use Rattle.prl_base.proofs.Standard.{pos, negsuc, ◌+ℤ◌, ◌-ℤ◌, ◌*ℤ◌, slice_get, max, pos-*ℤ-pos, mul-le-mul_right, cases_lt, ints}
 use Rattle.prl_plan.specs.Vocabulary.{PlanView, IsPlan, edge_at, preceding, ComesFrom}
 use Rattle.prl_plan.specs.declared.graphs.Producer.{Producer}
 use Rattle.prl_plan.specs.declared.graphs.Producer.TheVariants as producers

@@ -1,18 +1,8 @@
 -- A table's text is read back.
-use Rattle.std.proofs.Common.{◌≡◌, ◌==◌, ◌<◌, ◌+◌, ◌^◌, ◌&&◌, not, get_or, ℕ, suc, Bool, true, false, List, [], ◌∷◌, ◌++◌, Option, Some, None, Ok, Err, All, cond, length, take, drop}
-use Rattle.std.proofs.Common.{nat_lt, refl, ap, sym, ◌∙◌, arith, append_assoc, decimal, codes}
-use Rattle.std.specs.List.{list_all, before_first, after_first, flat_map, position_or_len}
-use Rattle.std.specs.Char.{digit_value, is_ascii_digit}
-use Rattle.std.specs.Option.{option_and_then}
-use Rattle.std.specs.Str.{bytes_eq}
-use Rattle.std.specs.Str.Parse.{AllDigits, digits_value}
-use Rattle.std.proofs.Math.Seq.{take-append_seam, drop-append_seam, drop-append-add}
-use Rattle.std.proofs.lemmas.Bool.Decides.{nat_tests}
-use Rattle.std.proofs.lemmas.Fmt.{decimal_is_IsNumeral}
-use Rattle.std.proofs.lemmas.List.Elements.{All-append}
-use Rattle.std.proofs.lemmas.List.Splits.{slice_split_at}
-use Rattle.std.proofs.lemmas.List.Sums.{AllPass-from_list_all}
-use Rattle.std.proofs.lemmas.Slice.Eq.{bytes_eq-Decides}
+use Rattle.prl_base.proofs.Standard.{◌≡◌, ◌==◌, ◌<◌, ◌+◌, ◌^◌, ◌&&◌, not, get_or, ℕ, suc, Bool, true, false, List, [], ◌∷◌, ◌++◌, Option, Some, None, Ok, Err, All, cond, length, take, drop, nat_lt}
+use Rattle.prl_base.proofs.Standard.{refl, ap, sym, ◌∙◌, arith, append_assoc, decimal, codes, list_all, before_first, after_first, flat_map, position_or_len, digit_value, is_ascii_digit}
+use Rattle.prl_base.proofs.Standard.{option_and_then, bytes_eq, AllDigits, digits_value, take-append_seam, drop-append_seam, drop-append-add, nat_tests, decimal_is_IsNumeral, All-append}
+use Rattle.prl_base.proofs.Standard.{slice_split_at, AllPass-from_list_all, bytes_eq-Decides}
 use Rattle.prl_base.specs.Vocabulary.{are_digits, decimal_of, is_line_feed, lines_of, ◌>>=◌}
 use Rattle.prl_tables.specs.Vocabulary.{Entry, after_line, after_words, cut_number, entries_from, entries_of, entry_if, entry_line, entry_of, entry_text, field, is_blank, is_header, is_number}
 use Rattle.prl_tables.specs.Vocabulary.{keeps_order, last_field, next_entry, number_if, number_of, or_line, tells_hyper, text_of, AreOrdered, FitsEntry}

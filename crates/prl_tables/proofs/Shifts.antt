@@ -1,8 +1,5 @@
 -- Jobs, their dates and what precedes them, a number of hyperperiods later.
-use Rattle.std.proofs.Common.{◌≡◌, ◌+◌, ◌*◌, ◌/◌, ◌%◌, ◌<◌, ◌≤◌, ℕ, zero, suc, length, ap, arith}
-use Rattle.std.specs.Prelude.{pos, ◌+ℤ◌}
-use Rattle.std.proofs.lemmas.Int.{ints}
-use Rattle.std.proofs.lemmas.Option.{slice_get-get_or}
+use Rattle.prl_base.proofs.Standard.{◌≡◌, ◌+◌, ◌*◌, ◌/◌, ◌%◌, ◌<◌, ◌≤◌, ℕ, zero, suc, length, ap, arith, pos, ◌+ℤ◌, ints, slice_get-get_or}
 use Rattle.prl_plan.specs.Vocabulary.{Family, RepeatsByHyper, IsEdge, task_at, PlanView, IsPlan, edge_at, no_edge, preceding, ComesFrom}
 use Rattle.prl_plan.proofs.DatePeriods.{jobs_are}
 use Rattle.prl_plan.proofs.RoundPeriods.{edge_precedes}

@@ -1,14 +1,7 @@
 -- Spots of entries, and which of them meet.
-use Rattle.std.proofs.Common.{◌≡◌, ◌≢◌, ◌+◌, ◌*◌, ◌/◌, ◌%◌, ◌<◌, ◌≤◌, ◌^◌, ◌⊎◌, ℕ, Bool, true, false, List, [], ◌∷◌, ◌++◌, length, length-append, get_or, Option}
-use Rattle.std.proofs.Common.{Some, None, inl, inr, refl, sym, ◌∙◌, ap, subst, arith}
-use Rattle.std.specs.Prelude.{slice_get, max, IfSome}
-use Rattle.std.specs.Bool.{OnFalse, OnTrue}
-use Rattle.std.specs.List.{swap}
-use Rattle.std.specs.List.Sorted.{IsPermutation}
-use Rattle.std.proofs.Math.Nat.{mul-le-mul_right}
-use Rattle.std.proofs.lemmas.Bool.{cases_lt}
-use Rattle.std.proofs.lemmas.List.Sorted.{IsPermutation-keeps}
-use Rattle.std.proofs.lemmas.Option.{get_or_from_slice_get, slice_get-get_or, slice_get_within}
+use Rattle.prl_base.proofs.Standard.{◌≡◌, ◌≢◌, ◌+◌, ◌*◌, ◌/◌, ◌%◌, ◌<◌, ◌≤◌, ◌^◌, ◌⊎◌, ℕ, Bool, true, false, List, [], ◌∷◌, ◌++◌, length, length-append, get_or, Option, Some, None, inl, inr, refl}
+use Rattle.prl_base.proofs.Standard.{sym, ◌∙◌, ap, subst, arith, slice_get, max, IfSome, OnFalse, OnTrue, swap, IsPermutation, mul-le-mul_right, cases_lt, IsPermutation-keeps, get_or_from_slice_get}
+use Rattle.prl_base.proofs.Standard.{slice_get-get_or, slice_get_within}
 use Rattle.prl_tables.specs.Vocabulary.{Spot, Entry, IsFirstClash, Clash, IsPiece, ArePieces, Overlap, lower, no_spot, spot_of, with_meeting, AreShort, AreSorted, AreSpots, IsFirstMeeting, IsFirstMet}
 use Rattle.prl_tables.specs.Vocabulary.{IsHighest, IsLeastMeeting, IsShort, Meet, Meets, MeetsSome}
 use Rattle.prl_plan.specs.Plans.{PlanView, IsPlan}

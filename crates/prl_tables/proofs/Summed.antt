@@ -1,10 +1,7 @@
 -- The sums of classes.
-use Rattle.std.proofs.Common.{◌≡◌, ◌≢◌, ◌+◌, ◌-◌, ◌<◌, ◌^◌, ℕ, Bool, true, false, cond, List, [], ◌∷◌, length, get_or, set, replicate, Some, inl, inr, refl, sym, ◌∙◌, ap, subst, arith}
-use Rattle.std.specs.Prelude.{slice_get, min}
-use Rattle.std.proofs.lemmas.Bool.{cases_eq}
-use Rattle.std.proofs.lemmas.Bool.Decides.{nat_tests}
-use Rattle.std.proofs.lemmas.List.{get_or-replicate, length-replicate, length-set}
-use Rattle.std.proofs.lemmas.Option.{get_or_from_slice_get, slice_get-get_or}
+use Rattle.prl_base.proofs.Standard.{◌≡◌, ◌≢◌, ◌+◌, ◌-◌, ◌<◌, ◌^◌, ℕ, Bool, true, false, cond, List, [], ◌∷◌, length, get_or, set, replicate, Some, inl, inr, refl, sym, ◌∙◌, ap, subst, arith}
+use Rattle.prl_base.proofs.Standard.{slice_get, min, cases_eq, nat_tests, get_or-replicate, length-replicate, get_or_from_slice_get, slice_get-get_or}
+use Rattle.std.proofs.lemmas.List.{length-set}
 use Rattle.prl_plan.specs.Vocabulary.{task_at, PlanView}
 use Rattle.prl_track.proofs.Places.{slice_get_set_same, slice_get_set_other}
 use Rattle.prl_tables.specs.Vocabulary.{Sums, Entry, is_of, units_of, IsWhole, no_sums, sums_of, with_entry, HasSums}

@@ -1,11 +1,6 @@
 -- Lists in which two elements have changed places.
-use Rattle.std.proofs.Common.{◌≡◌, ◌≢◌, ◌<◌, ◌⊎◌, ℕ, List, length, get_or, set, inl, inr, refl, sym, ◌∙◌, ap, arith}
-use Rattle.std.specs.Prelude.{slice_get}
-use Rattle.std.specs.List.{swap}
-use Rattle.std.proofs.lemmas.Bool.{cases_eq}
+use Rattle.prl_base.proofs.Standard.{◌≡◌, ◌≢◌, ◌<◌, ◌⊎◌, ℕ, List, length, get_or, set, inl, inr, refl, sym, ◌∙◌, ap, arith, slice_get, swap, cases_eq, swap_is, slice_get-get_or}
 use Rattle.std.proofs.lemmas.List.{length-set}
-use Rattle.std.proofs.lemmas.List.Edits.{swap_is}
-use Rattle.std.proofs.lemmas.Option.{slice_get-get_or}
 use Rattle.prl_track.proofs.Places.{slice_get_set_same, slice_get_set_other}
 
 -- where two elements of a list have changed places

@@ -1,7 +1,6 @@
 -- A placed list is gated and complete.
-use Rattle.std.proofs.Common.{◌≡◌, ◌≢◌, ◌+◌, ◌++◌, ◌<◌, ◌≤◌, ℕ, zero, suc, Bool, List, [], ◌∷◌, length, replicate, get_or, set, inl, inr, refl, sym, ◌∙◌, ap, subst, arith, eqb, cond}
-use Rattle.std.proofs.lemmas.Bool.{cases_eq, cases_lt}
-use Rattle.std.proofs.lemmas.Bool.Decides.{eqb_tells}
+use Rattle.prl_base.proofs.Standard.{◌≡◌, ◌≢◌, ◌+◌, ◌++◌, ◌<◌, ◌≤◌, ℕ, zero, suc, Bool, List, [], ◌∷◌, length, replicate, get_or, set, inl, inr, refl, sym, ◌∙◌, ap, subst, arith, eqb, cond, cases_eq}
+use Rattle.prl_base.proofs.Standard.{cases_lt, eqb_tells}
 use Rattle.prl_plan.specs.Vocabulary.{RunConstants, ExecState, opening, action_at, next_action, after_action, after_event, after_events, HasJob, FindsTag, KeepsGated, IsGated, IsComplete, MayTick}
 use Rattle.prl_plan.specs.Vocabulary.{IsJob, ReadsAt, Provides, HasPlanFacts, IsSound}
 use Rattle.prl_plan.specs.declared.events.Action.{Action}

@@ -1,7 +1,6 @@
 -- The types that the marks leave, and the first rule that contradicts the earlier ones.
-use Rattle.std.proofs.Common.{◌≡◌, ◌<◌, ◌++◌, ◌∙◌, ℕ, zero, suc, List, [], ◌∷◌, length, get_or, take, drop, arith, sym, ap, subst, Some, drop-cons}
-use Rattle.std.proofs.lemmas.Option.{slice_get-get_or}
-use Rattle.std.proofs.lemmas.List.{take-append-drop, get_or_default}
+use Rattle.prl_base.proofs.Standard.{◌≡◌, ◌<◌, ◌++◌, ◌∙◌, ℕ, zero, suc, List, [], ◌∷◌, length, get_or, take, drop, arith, sym, ap, subst, Some, drop-cons, slice_get-get_or, take-append-drop}
+use Rattle.prl_base.proofs.Standard.{get_or_default}
 use Rattle.prl_base.specs.declared.values.Ty.{Ty}
 use Rattle.prl_base.specs.declared.values.Ty.TheVariants as ty
 use Rattle.prl_terms.specs.Vocabulary.{Rule, Term, Unsolved, Choice, type_in, FitsRule, FitRules, IsFree, AreTypes, Explains, mark_of, Follows, Solves, IsSettled, Refuses}

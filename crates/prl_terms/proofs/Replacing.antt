@@ -1,11 +1,7 @@
 -- Another term in place of a parameter, in all marks.
-use Rattle.std.proofs.Common.{◌≡◌, ◌≢◌, ◌<◌, ◌++◌, ◌∙◌, ℕ, List, [], length, length-set, get_or, set, get_or-set_other, get_or-set_same, arith, inl, inr, ◌⊎◌, map, Vec, Global, refl, sym, ap, subst, Contains}
-use Rattle.std.proofs.lemmas.Bool.Decides.{eqb_tells}
-use Rattle.std.proofs.lemmas.List.{get_or_default}
-use Rattle.std.proofs.Math.ListN.{get_or-eq_default}
-use Rattle.std.proofs.lemmas.Bool.{cases_lt}
-use Rattle.std.proofs.lemmas.List.{map-set, get_or-map, length-map}
-use Rattle.std.proofs.lemmas.List.Elements.{Contains-get_or, Contains-append_left, Contains-append_right, Contains-append_cases}
+use Rattle.prl_base.proofs.Standard.{◌≡◌, ◌≢◌, ◌<◌, ◌++◌, ◌∙◌, ℕ, List, [], length, length-set, get_or, set, get_or-set_same, arith, inl, inr, ◌⊎◌, map, Vec, Global, refl, sym, ap, subst, eqb_tells}
+use Rattle.prl_base.proofs.Standard.{get_or_default, get_or-eq_default, cases_lt, map-set, get_or-map, length-map, Contains-get_or, Contains-append_left, Contains-append_right, Contains-append_cases}
+use Rattle.std.proofs.Common.{get_or-set_other, Contains}
 use Rattle.prl_terms.specs.Vocabulary.{Term, Choice, type_in, FitsTerm, mark_of, resolved, replaced, added, members_at, Follows, IsSettled, AreMembers, IsReplaced, IsApart}
 use Rattle.prl_terms.specs.declared.terms.Term.TheVariants as terms
 

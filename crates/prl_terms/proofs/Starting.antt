@@ -1,10 +1,7 @@
 -- The marks before any rule.
-use Rattle.std.proofs.Common.{◌≡◌, ◌<◌, ◌+◌, ◌++◌, ◌∙◌, ℕ, zero, suc, List, [], ◌∷◌, length, length-append, get_or, map, Vec, Global, arith, refl, sym, ap, subst, inl, inr, Contains}
-use Rattle.std.proofs.Math.ListN.{get_or-append, get_or-eq_default}
-use Rattle.std.proofs.Math.Seq.{get_or-append_seam}
-use Rattle.std.proofs.lemmas.Bool.{cases_lt}
-use Rattle.std.proofs.lemmas.Bool.Decides.{eqb_tells}
-use Rattle.std.proofs.lemmas.List.{map-append}
+use Rattle.prl_base.proofs.Standard.{◌≡◌, ◌<◌, ◌+◌, ◌++◌, ◌∙◌, ℕ, zero, suc, List, [], ◌∷◌, length, length-append, get_or, map, Vec, Global, arith, refl, sym, ap, subst, inl, inr, get_or-append}
+use Rattle.prl_base.proofs.Standard.{get_or-eq_default, get_or-append_seam, cases_lt, eqb_tells, map-append}
+use Rattle.std.proofs.Common.{Contains}
 use Rattle.prl_terms.specs.Vocabulary.{Term, type_in, mark_of, members_at, Solves, IsSettled, AreMembers}
 use Rattle.prl_terms.specs.declared.terms.Term.TheVariants as terms
 

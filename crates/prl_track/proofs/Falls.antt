@@ -1,8 +1,6 @@
 -- What is left of a run, as a number that falls with each legal event.
-use Rattle.std.proofs.Common.{◌≡◌, ◌≢◌, ◌+◌, ◌*◌, ◌-◌, ◌<◌, ◌≤◌, ℕ, zero, suc, List, [], ◌∷◌, length, get_or, set, refl, sym, ◌∙◌, ap, arith, subst, inl, inr}
-use Rattle.std.proofs.lemmas.Bool.{cases_lt, cases_eq}
-use Rattle.std.proofs.lemmas.Grind.{get_or-set_at}
-use Rattle.std.proofs.lemmas.List.{get_or-set_other}
+use Rattle.prl_base.proofs.Standard.{◌≡◌, ◌≢◌, ◌+◌, ◌*◌, ◌-◌, ◌<◌, ◌≤◌, ℕ, zero, suc, List, [], ◌∷◌, length, get_or, set, refl, sym, ◌∙◌, ap, arith, subst, inl, inr, cases_lt, cases_eq, get_or-set_at}
+use Rattle.prl_base.proofs.Standard.{get_or-set_other}
 use Rattle.prl_plan.specs.Vocabulary.{HasPlanFacts, sum_below, HasJob, KeepsLegal, RunConstants, ExecState, next_action, after_action, after_event, IsTagged}
 use Rattle.prl_plan.specs.declared.events.Action.{Action}
 use Rattle.prl_plan.specs.declared.events.Event.{Event}

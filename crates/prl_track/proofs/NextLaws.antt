@@ -1,6 +1,5 @@
 -- The event that comes next: the choice of its task, and that it is legal.
-use Rattle.std.proofs.Common.{◌≡◌, ◌+◌, ◌<◌, ◌≤◌, ◌⊎◌, ℕ, zero, suc, Option, Some, None, refl, sym, ap, subst, arith, inl, inr}
-use Rattle.std.proofs.lemmas.Bool.{cases_lt, cases_eq}
+use Rattle.prl_base.proofs.Standard.{◌≡◌, ◌+◌, ◌<◌, ◌≤◌, ◌⊎◌, ℕ, zero, suc, Option, Some, None, refl, sym, ap, subst, arith, inl, inr, cases_lt, cases_eq}
 use Rattle.prl_plan.specs.Vocabulary.{HasPlanFacts, IsJob, first_unfinished, IsUnfinished, HasJob, ActsReleased, KeepsLegal, IsComplete, IsFirstUnfinished, RunConstants, ExecState}
 use Rattle.prl_plan.specs.declared.events.Event.{Event}
 use Rattle.prl_plan.specs.declared.events.Event.TheVariants as events

@@ -1,10 +1,7 @@
 -- What a track keeps is kept by each event that the rules allow.
-use Rattle.std.proofs.Common.{◌≡◌, ◌≢◌, ◌+◌, ◌<◌, ◌≤◌, ◌⊎◌, ◌++◌, ℕ, zero, suc, List, [], ◌∷◌, length, replicate, get_or, set, take, Option, Some, None, refl, sym, ◌∙◌, ap, subst, arith, inl, inr}
-use Rattle.std.specs.Prelude.{slice_get, MatchOption}
-use Rattle.std.proofs.lemmas.Bool.{cases_eq}
-use Rattle.std.proofs.lemmas.Grind.{get_or_default_zero, get_or-set_at}
-use Rattle.std.proofs.lemmas.List.{length-set, get_or-set_other, length-replicate}
-use Rattle.std.proofs.lemmas.Option.{slice_get_read}
+use Rattle.prl_base.proofs.Standard.{◌≡◌, ◌≢◌, ◌+◌, ◌<◌, ◌≤◌, ◌⊎◌, ◌++◌, ℕ, zero, suc, List, [], ◌∷◌, length, replicate, get_or, set, take, Option, Some, None, refl, sym, ◌∙◌, ap, subst, arith, inl}
+use Rattle.prl_base.proofs.Standard.{inr, slice_get, MatchOption, cases_eq, get_or_default_zero, get_or-set_at, get_or-set_other, length-replicate, slice_get_read}
+use Rattle.std.proofs.lemmas.List.{length-set}
 use Rattle.prl_base.specs.declared.numbers.EdgeNo.{EdgeNo}
 use Rattle.prl_base.specs.declared.numbers.TaskNo.{TaskNo}
 use Rattle.prl_plan.specs.Vocabulary.{HasPlanFacts, IsHorizon, Placement, constants_on, PlanView, IsActionOf, MayTick, HasJob, KeepsLegal, first_unfinished, RunConstants, ExecState, next_action}

@@ -1,15 +1,8 @@
 -- Numbers of parameters.
-use Rattle.std.proofs.Common.{◌≡◌, ◌<◌, ◌≤◌, ◌+◌, ◌++◌, ◌∙◌, ℕ, suc, List, [], ◌∷◌, length, length-append, get_or, map, take, arith, refl, sym, ap, subst, Some, None, Bool, true, false, inl, inr, if◌then◌else◌}
-use Rattle.std.proofs.lemmas.Option.{slice_get_cases, slice_get_past}
-use Rattle.std.proofs.lemmas.List.{length-map, take_more, take_all, get_or_default, append-nil, get_or-map}
-use Rattle.std.proofs.lemmas.List.Folds.{length-flat_map-take}
-use Rattle.std.proofs.lemmas.List.FromFn.{map-range_with_len_more, length-map-range_with_len}
-use Rattle.std.proofs.lemmas.Grind.{flat_map-append}
-use Rattle.std.proofs.Math.ListN.{get_or-append}
-use Rattle.std.proofs.Math.Seq.{get_or-append_seam}
-use Rattle.std.proofs.lemmas.Bool.{cases_lt}
+use Rattle.prl_base.proofs.Standard.{◌≡◌, ◌<◌, ◌≤◌, ◌+◌, ◌++◌, ◌∙◌, ℕ, suc, List, [], ◌∷◌, length, length-append, get_or, map, take, arith, refl, sym, ap, subst, Some, None, Bool, true, false, inl}
+use Rattle.prl_base.proofs.Standard.{inr, if◌then◌else◌, slice_get_cases, slice_get_past, length-map, take_more, take_all, get_or_default, append-nil, get_or-map, length-flat_map-take}
+use Rattle.prl_base.proofs.Standard.{map-range_with_len_more, length-map-range_with_len, flat_map-append, get_or-append, get_or-append_seam, cases_lt, bytes_eq}
 use Rattle.std.specs.List.{slice_get}
-use Rattle.std.specs.Str.{bytes_eq}
 use Rattle.prl_ast.specs.Trees.{NodeTree, ProgramTree, node_tree}
 use Rattle.prl_ast.specs.declared.declarations.Node.{Node}
 use Rattle.prl_ast.specs.declared.declarations.Port.{Port}

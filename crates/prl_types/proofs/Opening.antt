@@ -1,9 +1,6 @@
 -- The faults of names, and the fault that a parameter's type is open.
-use Rattle.std.proofs.Common.{◌≡◌, ◌≢◌, ◌<◌, ◌∙◌, ℕ, List, [], length, map, get_or, Option, Some, Ok, Err, subst, ap, refl, arith}
-use Rattle.std.proofs.lemmas.Option.{slice_get_read, slice_get-map}
-use Rattle.std.proofs.lemmas.List.{length-map}
+use Rattle.prl_base.proofs.Standard.{◌≡◌, ◌≢◌, ◌<◌, ◌∙◌, ℕ, List, [], length, map, get_or, Option, Some, Ok, Err, subst, ap, refl, arith, slice_get_read, slice_get-map, length-map, option_map}
 use Rattle.std.specs.List.{slice_get}
-use Rattle.std.specs.Option.{option_map}
 use Rattle.prl_ast.specs.Trees.{ProgramTree}
 use Rattle.prl_names.specs.Checks.{names_of}
 use Rattle.prl_names.specs.declared.checks.NameFault.{NameFault}

@@ -1,9 +1,7 @@
 -- The signature that is looked up has what is taken and given.
-use Rattle.std.proofs.Common.{◌≡◌, ◌<◌, ◌≤◌, ◌+◌, ◌∙◌, ℕ, List, length, map, arith, sym, subst, ap, inl, inr, Some, None}
-use Rattle.std.proofs.lemmas.Bool.{cases_lt}
-use Rattle.std.proofs.lemmas.List.FromFn.{get_or-map-range_with_len, length-map-range_with_len}
-use Rattle.std.proofs.lemmas.Option.{slice_get-get_or, slice_get_past}
-use Rattle.std.specs.List.{slice_get, range_with_len}
+use Rattle.prl_base.proofs.Standard.{◌≡◌, ◌<◌, ◌≤◌, ◌+◌, ◌∙◌, ℕ, List, length, map, arith, sym, subst, ap, inl, inr, Some, None, cases_lt, get_or-map-range_with_len, length-map-range_with_len}
+use Rattle.prl_base.proofs.Standard.{slice_get-get_or, slice_get_past, range_with_len}
+use Rattle.std.specs.List.{slice_get}
 use Rattle.prl_ast.specs.Trees.{ProgramTree}
 use Rattle.prl_names.specs.declared.lookups.Callee.{Callee}
 use Rattle.prl_names.specs.declared.lookups.Callee.TheVariants as callees

@@ -1,6 +1,5 @@
 -- Lists of flows and of rules.
-use Rattle.std.proofs.Common.{◌≡◌, ◌≤◌, ◌++◌, ◌∙◌, ℕ, List, [], ◌∷◌, length, drop, refl, sym, ap, append_assoc}
-use Rattle.std.proofs.lemmas.List.{append-nil, map-append, drop_all}
+use Rattle.prl_base.proofs.Standard.{◌≡◌, ◌≤◌, ◌++◌, ◌∙◌, ℕ, List, [], ◌∷◌, length, drop, refl, sym, ap, append_assoc, append-nil, map-append, drop_all}
 use Rattle.prl_ast.specs.Trees.{Trees, none, more, ProgramTree}
 use Rattle.prl_ast.specs.declared.declarations.Placed.{Placed}
 use Rattle.prl_terms.specs.declared.terms.Rule.{Rule}

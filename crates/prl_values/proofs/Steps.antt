@@ -1,8 +1,6 @@
 -- The body of a task runs once a job.
-use Rattle.std.proofs.Common.{◌≡◌, ◌+◌, ◌<◌, ◌≤◌, ◌++◌, ℕ, Bool, true, false, List, [], ◌∷◌, length, length-append, get_or, set, inl, inr, sym, ◌∙◌, ap, arith, eqb, leb, cond}
-use Rattle.std.specs.Prelude.{max, slice_index, slice_index_or}
-use Rattle.std.proofs.lemmas.Bool.{cases_lt, cases_eq}
-use Rattle.std.proofs.lemmas.Bool.Decides.{nat_tests}
+use Rattle.prl_base.proofs.Standard.{◌≡◌, ◌+◌, ◌<◌, ◌≤◌, ◌++◌, ℕ, Bool, true, false, List, [], ◌∷◌, length, length-append, get_or, set, inl, inr, sym, ◌∙◌, ap, arith, eqb, leb, cond, max, slice_index}
+use Rattle.prl_base.proofs.Standard.{slice_index_or, cases_lt, cases_eq, nat_tests}
 use Rattle.std.proofs.lemmas.List.{get_or-set_same}
 use Rattle.prl_plan.specs.Vocabulary.{constants_of, PlanView, reads_of, writes_of, actions_of, HasJob, ExecState, next_action, after_action, IsTagged}
 use Rattle.prl_plan.specs.declared.events.Action.{Action}

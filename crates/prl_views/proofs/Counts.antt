@@ -1,6 +1,5 @@
 -- One more of the numbers of a range.
-use Rattle.std.proofs.Common.{◌≡◌, ◌+◌, ◌-◌, ◌<◌, ◌++◌, ◌∙◌, ℕ, suc, List, [], ◌∷◌, map, refl, ap, sym, append_assoc, arith}
-use Rattle.std.specs.List.{flat_map, range_with_len}
+use Rattle.prl_base.proofs.Standard.{◌≡◌, ◌+◌, ◌-◌, ◌<◌, ◌++◌, ◌∙◌, ℕ, suc, List, [], ◌∷◌, map, refl, ap, sym, append_assoc, arith, flat_map, range_with_len}
 
 -- the first of a range, and the others
 first_of : (n last : ℕ) → n < last → range_with_len n (last - n) ≡ n ∷ range_with_len (n + 1) (last - (n + 1))

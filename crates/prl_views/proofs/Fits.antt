@@ -1,7 +1,5 @@
 -- The dates of the jobs of a range are small.
-use Rattle.std.specs.Prelude.{pos}
-use Rattle.std.proofs.Common.{◌<◌, ◌^◌, ◌↔◌, ℕ, length, arith}
-use Rattle.std.proofs.lemmas.Int.{ints}
+use Rattle.prl_base.proofs.Standard.{pos, ◌<◌, ◌^◌, ◌↔◌, ℕ, length, arith, ints}
 use Rattle.prl_plan.specs.Vocabulary.{IsTask, IsHorizonJob, job_count, task_at, Placement, IsPlan, PlanView, deadline_at, release_at, IsSpread}
 use Rattle.prl_plan.specs.declared.graphs.TaskGraph.{TaskGraph}
 use Rattle.prl_cores.specs.Spreads.{LeavesRoom}

@@ -1,10 +1,6 @@
 -- Counts of instances in a hyperperiod from clocks, and how many constants there can be at most.
-use Rattle.std.proofs.Common.{◌≡◌, ◌+◌, ◌*◌, ◌/◌, ◌<◌, ◌≤◌, ◌^◌, ℕ, zero, suc, List, [], ◌∷◌, Some, refl, sym, ◌∙◌, ap, subst, arith, length, drop, get_or, map, sum}
-use Rattle.std.specs.Prelude.{slice_get, sum_by}
-use Rattle.std.proofs.lemmas.List.Sums.{sum-map, get_or-le-sum_by}
-use Rattle.std.proofs.lemmas.Option.{slice_get_read}
-use Rattle.std.specs.Int.{div_ceil}
-use Rattle.std.proofs.Math.Nat.{mul-le-mul_left, eq_of_mul-eq-mul_right, div-eq_of_eq-mul_left}
+use Rattle.prl_base.proofs.Standard.{◌≡◌, ◌+◌, ◌*◌, ◌/◌, ◌<◌, ◌≤◌, ◌^◌, ℕ, zero, suc, List, [], ◌∷◌, Some, refl, sym, ◌∙◌, ap, subst, arith, length, drop, get_or, map, sum, slice_get, sum_by, sum-map}
+use Rattle.prl_base.proofs.Standard.{get_or-le-sum_by, slice_get_read, div_ceil, mul-le-mul_left, eq_of_mul-eq-mul_right, div-eq_of_eq-mul_left}
 use Rattle.prl_base.specs.Operators.{IsResultClock}
 use Rattle.prl_base.specs.declared.operators.Clock.{Clock}
 use Rattle.prl_base.specs.declared.operators.Op.{Op}

@@ -1,6 +1,5 @@
 -- Worked rows of words.
-use Rattle.std.proofs.Common.{◌≡◌, List, [], ◌∷◌, refl}
-use Rattle.std.specs.Prelude.{pos}
+use Rattle.prl_base.proofs.Standard.{◌≡◌, List, [], ◌∷◌, refl, pos}
 use Rattle.prl_base.specs.declared.operators.Op.{Op}
 use Rattle.prl_base.specs.declared.values.Value.{Value}
 use Rattle.prl_base.specs.declared.operators.Op.TheVariants as operators

@@ -1,11 +1,6 @@
 -- A word with one more operator is the word of one operator more.
-use Rattle.std.proofs.Common.{◌≡◌, ◌+◌, ◌-◌, ◌*◌, ◌/◌, ◌%◌, ◌<◌, ◌≤◌, ◌++◌, ℕ, zero, suc, List, [], ◌∷◌, Option, Some, inl, inr, refl, sym, ◌∙◌, ap, arith, length, get_or, slice_get, slice_index, length-append, replicate}
-use Rattle.std.specs.Prelude.{pos}
-use Rattle.std.proofs.Math.Nat.{mul-le-mul_left, div-le_of_le-mul, mod-add-div'}
-use Rattle.std.proofs.lemmas.Nat.{mod_below}
-use Rattle.std.proofs.lemmas.Bool.{cases_lt}
-use Rattle.std.proofs.lemmas.List.{length-replicate}
-use Rattle.std.proofs.lemmas.Option.{slice_get-get_or}
+use Rattle.prl_base.proofs.Standard.{◌≡◌, ◌+◌, ◌-◌, ◌*◌, ◌/◌, ◌%◌, ◌<◌, ◌≤◌, ◌++◌, ℕ, zero, suc, List, [], ◌∷◌, Option, Some, inl, inr, refl, sym, ◌∙◌, ap, arith, length, get_or, slice_get}
+use Rattle.prl_base.proofs.Standard.{slice_index, length-append, replicate, pos, mul-le-mul_left, div-le_of_le-mul, mod-add-div', mod_below, cases_lt, length-replicate, slice_get-get_or}
 use Rattle.prl_base.specs.declared.operators.Op.{Op}
 use Rattle.prl_base.specs.declared.values.Value.{Value}
 use Rattle.prl_base.specs.declared.operators.Op.TheVariants as operators

@@ -1,12 +1,8 @@
 -- A word whose operands are each read by several jobs in turn.
-use Rattle.std.proofs.Common.{◌≡◌, ◌+◌, ◌-◌, ◌*◌, ◌/◌, ◌%◌, ◌<◌, ◌≤◌, ◌^◌, ℕ, Some, inl, inr, sym, ◌∙◌, ap, arith, length, get_or, slice_get, slice_index}
-use Rattle.std.proofs.Math.Nat.{div-lt_iff_lt-mul, mod-add-div', mul-le-mul_left, mul-le-mul_right, div-mul-le_self, lt-div-mul-add}
-use Rattle.std.proofs.lemmas.Nat.{mod_below}
-use Rattle.std.proofs.lemmas.Bool.{cases_lt}
-use Rattle.std.proofs.lemmas.Option.{slice_get-get_or, same_Some}
+use Rattle.prl_base.proofs.Standard.{◌≡◌, ◌+◌, ◌-◌, ◌*◌, ◌/◌, ◌%◌, ◌<◌, ◌≤◌, ◌^◌, ℕ, Some, inl, inr, sym, ◌∙◌, ap, arith, length, get_or, slice_get, slice_index, div-lt_iff_lt-mul, mod-add-div'}
+use Rattle.prl_base.proofs.Standard.{mul-le-mul_left, mul-le-mul_right, div-mul-le_self, lt-div-mul-add, mod_below, cases_lt, slice_get-get_or, same_Some, pos}
 use Rattle.prl_base.specs.declared.values.Value.{Value}
 use Rattle.prl_base.specs.declared.values.Value.TheVariants as values
-use Rattle.std.specs.Prelude.{pos}
 use Rattle.prl_plan.specs.declared.walks.Operand.TheVariants as operands
 use Rattle.prl_plan.specs.Words.{number_at, word_at, IsWord}
 use Rattle.prl_plan.specs.declared.words.Word.{Word}

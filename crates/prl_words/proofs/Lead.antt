@@ -1,7 +1,5 @@
 -- The `*^` and `~>` at the consumer's end.
-use Rattle.std.proofs.Common.{◌≡◌, ◌+◌, ◌*◌, ◌/◌, ◌<◌, ◌≤◌, ℕ, List, ◌∷◌, drop, length, get_or, sym, ◌∙◌, ap, subst, arith}
-use Rattle.std.proofs.Math.Nat.{div-div-eq-div-mul, mul-le-mul_left}
-use Rattle.std.proofs.lemmas.List.{drop_more}
+use Rattle.prl_base.proofs.Standard.{◌≡◌, ◌+◌, ◌*◌, ◌/◌, ◌<◌, ◌≤◌, ℕ, List, ◌∷◌, drop, length, get_or, sym, ◌∙◌, ap, subst, arith, div-div-eq-div-mul, mul-le-mul_left, drop_more}
 use Rattle.prl_base.specs.declared.operators.Op.{Op}
 use Rattle.prl_base.specs.declared.ratios.Ratio.{Ratio}
 use Rattle.prl_base.specs.declared.operators.Op.TheVariants as operators

@@ -1,6 +1,5 @@
 -- What stands in a list to which an element was added.
-use Rattle.std.proofs.Common.{◌≡◌, ◌<◌, ◌++◌, ℕ, zero, suc, List, [], ◌∷◌, Some, length, refl, arith}
-use Rattle.std.specs.Prelude.{slice_get, slice_index}
+use Rattle.prl_base.proofs.Standard.{◌≡◌, ◌<◌, ◌++◌, ℕ, zero, suc, List, [], ◌∷◌, Some, length, refl, arith, slice_get, slice_index}
 
 pub get_left : {A : Type 0} (xs ys : List A) (n : ℕ) → n < length xs → slice_get (xs ++ ys) n ≡ slice_get xs n
 get_left [] ys n h = absurd (omega (arith, h))

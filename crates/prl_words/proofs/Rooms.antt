@@ -1,8 +1,6 @@
 -- What the room for one more operator gives: which numbers are zeros, and that all numbers fit.
-use Rattle.std.proofs.Common.{◌≡◌, ◌+◌, ◌*◌, ◌/◌, ◌%◌, ◌<◌, ◌≤◌, ◌^◌, ℕ, inl, inr, refl, sym, ◌∙◌, ap, arith, length, slice_index}
-use Rattle.std.proofs.Math.Nat.{mul-le-mul_left, mul-le-mul_right, div-eq_of_lt, mod-add-div', div-mul_cancel}
-use Rattle.std.proofs.lemmas.Bool.{cases_lt}
-use Rattle.std.specs.Int.{IsGcd}
+use Rattle.prl_base.proofs.Standard.{◌≡◌, ◌+◌, ◌*◌, ◌/◌, ◌%◌, ◌<◌, ◌≤◌, ◌^◌, ℕ, inl, inr, refl, sym, ◌∙◌, ap, arith, length, slice_index, mul-le-mul_left, mul-le-mul_right, div-eq_of_lt, mod-add-div'}
+use Rattle.prl_base.proofs.Standard.{div-mul_cancel, cases_lt, IsGcd}
 use Rattle.prl_base.specs.declared.operators.Op.{Op}
 use Rattle.prl_base.specs.declared.operators.Op.TheVariants as operators
 use Rattle.prl_plan.specs.Words.{number_at, IsWord}

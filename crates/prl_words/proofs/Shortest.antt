@@ -1,9 +1,7 @@
 -- The least step by which a word climbs is that by which its gaps come again.
-use Rattle.std.proofs.Common.{◌≡◌, ◌+◌, ◌-◌, ◌*◌, ◌/◌, ◌%◌, ◌<◌, ◌≤◌, ℕ, zero, suc, List, Some, sym, ◌∙◌, ap, arith, length, length-take-le, slice_index, slice_get}
-use Rattle.std.proofs.Math.Nat.{mod-add-div'}
-use Rattle.std.proofs.lemmas.Nat.{mod_below}
-use Rattle.std.proofs.lemmas.List.{get_or-take}
-use Rattle.std.proofs.lemmas.Option.{slice_get-get_or, same_Some}
+use Rattle.prl_base.proofs.Standard.{◌≡◌, ◌+◌, ◌-◌, ◌*◌, ◌/◌, ◌%◌, ◌<◌, ◌≤◌, ℕ, zero, suc, List, Some, sym, ◌∙◌, ap, arith, length, slice_index, slice_get, mod-add-div', mod_below, get_or-take}
+use Rattle.prl_base.proofs.Standard.{slice_get-get_or, same_Some}
+use Rattle.std.proofs.Common.{length-take-le}
 use Rattle.prl_base.specs.declared.values.Value.{Value}
 use Rattle.prl_plan.specs.declared.walks.Operand.TheVariants as operands
 use Rattle.prl_plan.specs.Vocabulary.{ComesAgain, IsLeastRepeat, number_at, word_at, constant_or, IsWord}

@@ -1,11 +1,8 @@
 -- Whole turns in a hyperperiod, and how large the numbers of a word become.
 use Prim.Native.Nat.{◌∣◌}
-use Rattle.std.proofs.Common.{◌≡◌, ◌+◌, ◌*◌, ◌/◌, ◌%◌, ◌<◌, ◌≤◌, ℕ, zero, suc, sym, ◌∙◌, ap, subst, arith, slice_index}
-use Rattle.std.proofs.Math.Nat.{mul-le-mul_left, mul-le-mul_right, div-mul_cancel, dvd-mul_right, eq_of_mul-eq-mul_right, div-zero}
-use Rattle.std.proofs.lemmas.Nat.{mod_below, div_below, le-div}
-use Rattle.std.specs.Int.{IsGcd}
+use Rattle.prl_base.proofs.Standard.{◌≡◌, ◌+◌, ◌*◌, ◌/◌, ◌%◌, ◌<◌, ◌≤◌, ℕ, zero, suc, sym, ◌∙◌, ap, subst, arith, slice_index, mul-le-mul_left, mul-le-mul_right, div-mul_cancel, dvd-mul_right}
+use Rattle.prl_base.proofs.Standard.{eq_of_mul-eq-mul_right, div-zero, mod_below, div_below, le-div, IsGcd, IsGcd-swap}
 use Rattle.prl_base.proofs.Coprime.{divides_other, quotients_coprime}
-use Rattle.std.proofs.lemmas.Nat.Gcd.{IsGcd-swap}
 use Rattle.prl_base.specs.declared.operators.Op.{Op}
 use Rattle.prl_base.specs.declared.operators.Op.TheVariants as operators
 use Rattle.prl_plan.specs.Words.{number_at}

@@ -1,9 +1,7 @@
 -- How the actions of a job complete its operands.
-use Rattle.std.proofs.Common.{◌≡◌, ◌≢◌, ◌+◌, ◌-◌, ◌<◌, ◌≤◌, ◌++◌, ℕ, zero, suc, Bool, true, false, List, [], ◌∷◌, length, length-append, take, get_or, inl, inr, refl, sym, ◌∙◌, ap, subst, arith, cond, eqb}
-use Rattle.std.specs.Prelude.{is_some}
-use Rattle.std.proofs.lemmas.Bool.{cases_lt, cases_eq}
-use Rattle.std.proofs.lemmas.List.{append_assoc, take-append-le, get_or_append_left}
-use Rattle.std.proofs.Math.Seq.{take-append-add, take-length, get_or-append_right}
+use Rattle.prl_base.proofs.Standard.{◌≡◌, ◌≢◌, ◌+◌, ◌-◌, ◌<◌, ◌≤◌, ◌++◌, ℕ, zero, suc, Bool, true, false, List, [], ◌∷◌, length, length-append, take, get_or, inl, inr, refl, sym, ◌∙◌, ap, subst}
+use Rattle.prl_base.proofs.Standard.{arith, cond, eqb, is_some, cases_lt, cases_eq, take-append-le, get_or_append_left, take-append-add, take-length, get_or-append_right}
+use Rattle.std.proofs.lemmas.List.{append_assoc}
 use Rattle.prl_plan.specs.Vocabulary.{operand_of, PlanView, place_on, cell_of, both_writes, reading, reads_of, writing, writes_of, actions_of, completes, operands_in, operands_before}
 use Rattle.prl_plan.specs.declared.events.Action.{Action}
 use Rattle.prl_plan.specs.declared.graphs.Edge.{Edge}

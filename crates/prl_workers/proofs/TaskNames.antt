@@ -1,8 +1,6 @@
 -- The word of a node task's name.
-use Rattle.std.proofs.Common.{◌≡◌, ◌++◌, ◌+◌, ◌<◌, ◌≤◌, get_or, ℕ, suc, Bool, true, false, List, [], ◌∷◌, length, refl, sym, ◌∙◌, arith, ap, subst, cond, eqb}
-use Rattle.std.specs.List.{list_all}
-use Rattle.std.proofs.lemmas.Bool.{and_parts, false≢true, eqb-true}
-use Rattle.std.proofs.lemmas.List.{get_or_default}
+use Rattle.prl_base.proofs.Standard.{◌≡◌, ◌++◌, ◌+◌, ◌<◌, ◌≤◌, get_or, ℕ, suc, Bool, true, false, List, [], ◌∷◌, length, refl, sym, ◌∙◌, arith, ap, subst, cond, eqb, list_all, and_parts, false≢true}
+use Rattle.prl_base.proofs.Standard.{eqb-true, get_or_default}
 use Rattle.prl_base.specs.Names.{IsName, is_word_byte, is_word_start}
 use Rattle.prl_plan.specs.Vocabulary.{no_task, IsTaskName}
 use Rattle.prl_plan.specs.declared.graphs.Edge.{Edge}

@@ -1,9 +1,7 @@
 -- The worker of the task that acts: what its actions need, and what they leave.
-use Rattle.std.proofs.Common.{◌≡◌, ◌≢◌, ◌+◌, ◌<◌, ◌≤◌, ◌⊎◌, ℕ, zero, suc, Bool, true, false, leb, List, [], ◌∷◌, length, map, get_or, set, Option, Some, inl, inr, refl, sym, ◌∙◌, ap, subst, arith}
-use Rattle.std.specs.Prelude.{slice_get, max}
-use Rattle.std.proofs.lemmas.Bool.{cases_lt, cases_eq, le-leb, leb-true, leb-false}
-use Rattle.std.proofs.lemmas.List.{length-set, length-map, get_or_past}
-use Rattle.std.proofs.lemmas.Option.{slice_get_within}
+use Rattle.prl_base.proofs.Standard.{◌≡◌, ◌≢◌, ◌+◌, ◌<◌, ◌≤◌, ◌⊎◌, ℕ, zero, suc, Bool, true, false, leb, List, [], ◌∷◌, length, map, get_or, set, Option, Some, inl, inr, refl, sym, ◌∙◌, ap, subst}
+use Rattle.prl_base.proofs.Standard.{arith, slice_get, max, cases_lt, cases_eq, le-leb, leb-true, leb-false, length-map, get_or_past, slice_get_within}
+use Rattle.std.proofs.lemmas.List.{length-set}
 use Rattle.prl_base.specs.Values.{type_of}
 use Rattle.prl_base.specs.declared.values.Value.{Value}
 use Rattle.prl_body.specs.Vocabulary.{MachineState, body_named, body_step}

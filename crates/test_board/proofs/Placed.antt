@@ -1,6 +1,5 @@
 -- Where a task stands, by the place that is told of it.
-use Rattle.std.proofs.Common.{◌≡◌, ◌<◌, ℕ, length, subst, Some}
-use Rattle.std.specs.Prelude.{slice_get}
+use Rattle.prl_base.proofs.Standard.{◌≡◌, ◌<◌, ℕ, length, subst, Some, slice_get}
 use Rattle.prl_board.specs.Vocabulary.{IsPlacedAt, LoneView, place_of}
 use Rattle.prl_board.specs.declared.seats.Place.{Place}
 use Rattle.prl_seats.specs.JobSeats.{JobSeatView}

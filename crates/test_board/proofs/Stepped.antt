@@ -1,8 +1,6 @@
 -- The seats that come with a board.
-use Rattle.std.proofs.Common.{◌≡◌, ℕ, ◌<◌, List, length, length-set, set, get_or, ⊎_elim, sym, subst, ◌∙◌, Some}
-use Rattle.std.proofs.lemmas.Option.{get_or_from_slice_get, slice_get-get_or, slice_get_within}
+use Rattle.prl_base.proofs.Standard.{◌≡◌, ℕ, ◌<◌, List, length, length-set, set, get_or, ⊎_elim, sym, subst, ◌∙◌, Some, get_or_from_slice_get, slice_get-get_or, slice_get_within, slice_get}
 use Rattle.std.specs.List.{All}
-use Rattle.std.specs.Prelude.{slice_get}
 use Rattle.prl_seats.specs.Vocabulary.{BoardView, IsSeatOf, JobSeatView}
 use Rattle.prl_board.specs.Vocabulary.{AreSeatsOf, AreFirstSeats}
 use Rattle.prl_board.proofs.Lists.{set_at}

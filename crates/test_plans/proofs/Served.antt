@@ -1,7 +1,5 @@
 -- Rows of integers serve a plan whose edges are of integers.
-use Rattle.std.proofs.Common.{◌≡◌, ◌<◌, ◌+◌, ◌↔◌, ⊎_elim, ℕ, false, length, subst, sym, ◌∙◌, arith}
-use Rattle.std.proofs.lemmas.Bool.{cases_lt}
-use Rattle.std.proofs.lemmas.Option.{slice_get-get_or, slice_get_within}
+use Rattle.prl_base.proofs.Standard.{◌≡◌, ◌<◌, ◌+◌, ◌↔◌, ⊎_elim, ℕ, false, length, subst, sym, ◌∙◌, arith, cases_lt, slice_get-get_or, slice_get_within}
 use Rattle.prl_base.specs.declared.values.Value.TheVariants as values
 use Rattle.prl_flow.specs.Rows.{Rows, rows_of}
 use Rattle.prl_plan.specs.Vocabulary.{IsWellFormed, IsHorizonJob, job_count, no_task, task_at}

@@ -1,6 +1,5 @@
 -- Lists in which all jobs of a task have the same units.
-use Rattle.std.proofs.Common.{◌≡◌, ◌<◌, ◌≤◌, ℕ, List, [], length, get_or, replicate, ap, ◌∙◌, arith}
-use Rattle.std.proofs.lemmas.List.{get_or-replicate, length-replicate}
+use Rattle.prl_base.proofs.Standard.{◌≡◌, ◌<◌, ◌≤◌, ℕ, List, [], length, get_or, replicate, ap, ◌∙◌, arith, get_or-replicate, length-replicate}
 use Rattle.prl_plan.specs.Runs.{RunConstants}
 use Rattle.prl_edf.specs.UnitLists.{units_of, AreUnitLists}
 

@@ -1,8 +1,5 @@
 -- The first jobs are horizon jobs, and what they read is small.
-use Rattle.std.proofs.Common.{◌≡◌, ◌*◌, ◌<◌, ◌≤◌, ◌^◌, ℕ, length, refl, arith}
-use Rattle.std.proofs.Math.IntN.{pos-*ℤ-pos}
-use Rattle.std.proofs.Math.Nat.{mul-le-mul_right}
-use Rattle.std.proofs.lemmas.Int.{ints}
+use Rattle.prl_base.proofs.Standard.{◌≡◌, ◌*◌, ◌<◌, ◌≤◌, ◌^◌, ℕ, length, refl, arith, pos-*ℤ-pos, mul-le-mul_right, ints}
 use Rattle.prl_plan.specs.Vocabulary.{IsHorizonJob, task_at, operand_of, PlanView, IsSmallOperand, edge_at}
 use Rattle.prl_plan.specs.declared.graphs.TaskGraph.{TaskGraph}
 use Rattle.prl_plan.specs.declared.walks.Operand.{Operand}

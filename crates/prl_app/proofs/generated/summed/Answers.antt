@@ -1,5 +1,4 @@
-use Rattle.std.proofs.Common.{refl}
-use Rattle.std.proofs.lemmas.Result.{err_from_is_err_and}
+use Rattle.prl_base.proofs.Standard.{refl, err_from_is_err_and}
 use Rattle.prl_app.proofs.Answered.{generated_answered}
 use Rattle.prl_app.proofs.generated.summed.Goals as goal
 

@@ -1,5 +1,4 @@
-use Rattle.std.proofs.Common.{◌≡◌, ◌≤◌, take}
-use Rattle.std.specs.List.{flat_map}
+use Rattle.prl_base.proofs.Standard.{◌≡◌, ◌≤◌, take, flat_map}
 use Rattle.prl_io.specs.Growth.{appended}
 use Rattle.prl_app.specs.code.Pieces.{piece_text}
 use Rattle.prl_app.proofs.pieces.write_line.Given as goal

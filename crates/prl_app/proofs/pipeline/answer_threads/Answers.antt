@@ -1,5 +1,4 @@
-use Rattle.std.proofs.Common.{◌++◌, sym, subst}
-use Rattle.std.proofs.lemmas.Result.{err_from_is_err_and}
+use Rattle.prl_base.proofs.Standard.{◌++◌, sym, subst, err_from_is_err_and}
 use Rattle.prl_arguments.specs.declared.arguments.Mode.{Mode}
 use Rattle.prl_stages.specs.Stages.{front, ran, stages_after}
 use Rattle.prl_app.specs.Vocabulary.{IsAnswerOf, IsAnswerStop, HasFiles}

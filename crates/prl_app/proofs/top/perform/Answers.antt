@@ -1,5 +1,4 @@
-use Rattle.std.proofs.Common.{ℕ, List, map, subst}
-use Rattle.std.specs.String.{string_bytes}
+use Rattle.prl_base.proofs.Standard.{ℕ, List, map, subst, string_bytes}
 use Rattle.prl_app.specs.Vocabulary.{Outside, IsWrittenBy}
 use Rattle.prl_app.proofs.Exact.{stop_performs, written_ends}
 use Rattle.prl_app.proofs.top.perform.Goals as goal

@@ -1,5 +1,4 @@
-use Rattle.std.proofs.Common.{map, subst}
-use Rattle.std.specs.String.{string_bytes}
+use Rattle.prl_base.proofs.Standard.{map, subst, string_bytes}
 use Rattle.prl_app.specs.Endings.{Answers, Outside}
 use Rattle.prl_app.proofs.Exact.{answers_by}
 use Rattle.prl_app.proofs.top.prelude.Goals as goal

@@ -1,7 +1,4 @@
-use Rattle.std.proofs.Common.{◌≡◌, ◌≢◌, ◌<◌, ◌-◌, ◌∙◌, ℕ, zero, suc, List, [], ◌∷◌, length, map, drop, take, get_or, Option, refl, ap, arith}
-use Rattle.std.proofs.lemmas.List.{take_rest}
-use Rattle.std.specs.Option.{option_map}
-use Rattle.std.specs.String.{string_bytes}
+use Rattle.prl_base.proofs.Standard.{◌≡◌, ◌≢◌, ◌<◌, ◌-◌, ◌∙◌, ℕ, zero, suc, List, [], ◌∷◌, length, map, drop, take, get_or, Option, refl, ap, arith, take_rest, option_map, string_bytes}
 use Rattle.prl_base.specs.Options.{◌>>=◌}
 use Rattle.prl_arguments.specs.Vocabulary.{Values, first_option, with_options, given_by}
 use Rattle.prl_arguments.proofs.arguments.+with_options.Goals as goal

@@ -1,5 +1,4 @@
-use Rattle.std.proofs.Common.{◌≡◌, None, length, refl, replicate}
-use Rattle.std.proofs.Math.Path.{fun_ext}
+use Rattle.prl_base.proofs.Standard.{◌≡◌, None, length, refl, replicate, fun_ext}
 use Rattle.prl_arguments.specs.Vocabulary.{Setting, all_settings, nothing, given_by}
 use Rattle.prl_arguments.specs.declared.arguments.Setting.TheVariants as settings
 use Rattle.prl_arguments.proofs.arguments.nothing.Goals as goal

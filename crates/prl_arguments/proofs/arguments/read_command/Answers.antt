@@ -1,5 +1,4 @@
-use Rattle.std.proofs.Common.{◌∙◌, Some, None, map, if◌then◌else◌, sym, ap}
-use Rattle.std.specs.String.{string_bytes}
+use Rattle.prl_base.proofs.Standard.{◌∙◌, Some, None, map, if◌then◌else◌, sym, ap, string_bytes}
 use Rattle.prl_arguments.specs.code.Settings.{wanted_by, wanted_command}
 use Rattle.prl_arguments.proofs.Taken.{decided, unformed}
 use Rattle.prl_arguments.proofs.arguments.read_command.Goals as goal

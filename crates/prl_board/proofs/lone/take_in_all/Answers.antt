@@ -1,6 +1,4 @@
-use Rattle.std.proofs.Common.{arith, ◌≡◌, length-set, vec_items, sym, ◌∙◌, Some}
-use Rattle.std.specs.Prelude.{slice_get}
-use Rattle.std.proofs.lemmas.Option.{slice_get_within}
+use Rattle.prl_base.proofs.Standard.{arith, ◌≡◌, length-set, vec_items, sym, ◌∙◌, Some, slice_get, slice_get_within}
 use Rattle.prl_board.proofs.Lending.{lent_more, parts_more, rest_more, stand_more}
 use Rattle.prl_board.proofs.Lists.{read_there}
 use Rattle.prl_board.proofs.lone.take_in_all.Goals as goal

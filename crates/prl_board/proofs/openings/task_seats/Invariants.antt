@@ -1,5 +1,4 @@
-use Rattle.std.proofs.Common.{◌≡◌, ℕ, length, vec_items, Some}
-use Rattle.std.specs.Prelude.{slice_get}
+use Rattle.prl_base.proofs.Standard.{◌≡◌, ℕ, length, vec_items, Some, slice_get}
 use Rattle.prl_seats.specs.JobSeats.{IsFirstSeat, IsSeatOf, JobSeatView}
 use Rattle.prl_board.specs.Openings.{AreLeft}
 use Rattle.prl_board.proofs.openings.task_seats.Given as goal

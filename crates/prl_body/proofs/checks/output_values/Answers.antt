@@ -1,6 +1,4 @@
-use Rattle.std.proofs.Common.{◌≡◌, ◌+◌, suc, [], ◌∷◌, map, drop, drop-cons, add-one, refl, sym, ap, ◌∙◌, Ok, Err}
-use Rattle.std.proofs.lemmas.List.{drop_all}
-use Rattle.std.proofs.lemmas.Result.{err_from_is_err_and}
+use Rattle.prl_base.proofs.Standard.{◌≡◌, ◌+◌, suc, [], ◌∷◌, map, drop, drop-cons, add-one, refl, sym, ap, ◌∙◌, Ok, Err, drop_all, err_from_is_err_and}
 use Rattle.prl_base.specs.Reading.{◌>>=◌}
 use Rattle.prl_ast.specs.declared.declarations.Port.{Port}
 use Rattle.prl_body.specs.Checks.{output_value, output_values, statement_named}

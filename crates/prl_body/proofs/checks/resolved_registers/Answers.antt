@@ -1,6 +1,4 @@
-use Rattle.std.proofs.Common.{◌≡◌, ◌+◌, suc, [], ◌∷◌, map, drop, drop-cons, add-one, refl, sym, ap, ◌∙◌, Ok, Err}
-use Rattle.std.proofs.lemmas.List.{drop_all}
-use Rattle.std.proofs.lemmas.Result.{err_from_is_err_and}
+use Rattle.prl_base.proofs.Standard.{◌≡◌, ◌+◌, suc, [], ◌∷◌, map, drop, drop-cons, add-one, refl, sym, ap, ◌∙◌, Ok, Err, drop_all, err_from_is_err_and}
 use Rattle.prl_base.specs.Vocabulary.{◌>>=◌, type_of}
 use Rattle.prl_body.specs.Vocabulary.{Register, RegisterText, register_tree, next_value, resolved_registers, statement_named, expression_of, statement_tree}
 use Rattle.prl_body.proofs.Lists.{added_step, added_fails, added_ends}

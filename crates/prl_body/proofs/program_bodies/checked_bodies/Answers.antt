@@ -1,5 +1,4 @@
-use Rattle.std.proofs.Common.{◌≡◌, suc, List, [], ◌∷◌, ◌++◌, take, drop, map, add-one, sym, ◌∙◌, subst}
-use Rattle.std.proofs.lemmas.List.{map-append}
+use Rattle.prl_base.proofs.Standard.{◌≡◌, suc, List, [], ◌∷◌, ◌++◌, take, drop, map, add-one, sym, ◌∙◌, subst, map-append}
 use Rattle.prl_body.specs.Vocabulary.{body_tree, checked_bodies, TextTree, text_tree}
 use Rattle.prl_body.proofs.Lists.{added_to}
 use Rattle.prl_body.proofs.BodyList.{taken_with, left_from, passed_over, taken_in}

@@ -1,6 +1,4 @@
-use Rattle.std.proofs.Common.{◌≡◌, suc, List, ◌+◌, Result, Ok, sym, ap, ◌∙◌, subst, drop, drop-cons, [], ◌∷◌, add-one}
-use Rattle.std.proofs.lemmas.List.{drop_all}
-use Rattle.std.proofs.lemmas.Result.{err_from_is_err_and}
+use Rattle.prl_base.proofs.Standard.{◌≡◌, suc, List, ◌+◌, Result, Ok, sym, ap, ◌∙◌, subst, drop, drop-cons, [], ◌∷◌, add-one, drop_all, err_from_is_err_and}
 use Rattle.prl_base.specs.declared.values.Ty.{Ty}
 use Rattle.prl_body.specs.Vocabulary.{BodyFault, ExprRight, expression_of, pair_expressions, Expression, Rights, tree_of, pair_trees, typed, typed_rights}
 use Rattle.prl_body.proofs.TextSeries.{tree_of_Series}

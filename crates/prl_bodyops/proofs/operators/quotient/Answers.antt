@@ -1,5 +1,4 @@
-use Rattle.std.proofs.Common.{rules, FitsSigned, w64, of_z, ap, ◌∙◌}
-use Rattle.std.proofs.lemmas.Int.{to_z-of_z}
+use Rattle.prl_base.proofs.Standard.{rules, FitsSigned, w64, of_z, ap, ◌∙◌, to_z-of_z}
 use Rattle.prl_bodyops.proofs.Quotients.{quotient_nonzero}
 use Rattle.prl_bodyops.proofs.operators.quotient.Goals as goal
 

@@ -1,5 +1,4 @@
-use Rattle.std.proofs.Common.{rules}
-use Rattle.std.proofs.lemmas.Int.{wraps}
+use Rattle.prl_base.proofs.Standard.{rules, wraps}
 use Rattle.prl_bodyops.proofs.operators.sum.Goals as goal
 
 pub returns : goal.returns

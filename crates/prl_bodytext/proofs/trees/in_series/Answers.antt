@@ -1,5 +1,4 @@
-use Rattle.std.proofs.Common.{◌≡◌, ◌<◌, ◌==◌, ℕ, zero, suc, false, sym, ap, ◌∙◌, arith}
-use Rattle.std.proofs.lemmas.Bool.{false≢true}
+use Rattle.prl_base.proofs.Standard.{◌≡◌, ◌<◌, ◌==◌, ℕ, zero, suc, false, sym, ap, ◌∙◌, arith, false≢true}
 use Rattle.prl_body.specs.Texts.{series, tree_of, pair_trees}
 use Rattle.prl_body.proofs.TextSeries.{tree_of_Series}
 use Rattle.prl_bodytext.proofs.RightTrees.{some_rights}

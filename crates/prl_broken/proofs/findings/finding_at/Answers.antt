@@ -1,5 +1,4 @@
-use Rattle.std.proofs.Common.{get_or, take}
-use Rattle.std.proofs.lemmas.Option.{MatchOption-at_some, slice_get-get_or}
+use Rattle.prl_base.proofs.Standard.{get_or, take, MatchOption-at_some, slice_get-get_or}
 use Rattle.prl_plan.specs.declared.events.Event.TheVariants as events
 use Rattle.prl_broken.specs.code.Walks.{AreForbidden, IsWalk}
 use Rattle.prl_broken.proofs.Walking.{found_is, none_found}

@@ -1,5 +1,4 @@
-use Rattle.std.proofs.Common.{ℕ, arith, subst}
-use Rattle.std.proofs.lemmas.List.{get_or_read}
+use Rattle.prl_base.proofs.Standard.{ℕ, arith, subst, get_or_read}
 use Rattle.prl_broken.specs.code.Dates.{IsNext}
 use Rattle.prl_broken.proofs.Jobs.{have_periods}
 use Rattle.prl_broken.proofs.Told.{none_overtaken, overtaken_is}

@@ -1,5 +1,4 @@
-use Rattle.std.proofs.Common.{◌≡◌, ◌≢◌, ◌+◌, ◌<◌, ℕ}
-use Rattle.std.specs.Prelude.{slice_index_or}
+use Rattle.prl_base.proofs.Standard.{◌≡◌, ◌≢◌, ◌+◌, ◌<◌, ℕ, slice_index_or}
 use Rattle.prl_plan.specs.declared.events.Action.TheVariants as actions
 use Rattle.prl_plan.specs.Plans.{actions_of}
 use Rattle.prl_broken.proofs.lefts.before_end.Given as goal

@@ -1,5 +1,4 @@
-use Rattle.std.proofs.Common.{◌≡◌, ◌++◌, ◌∙◌, ℕ, List, ap, append_assoc}
-use Rattle.std.specs.Prelude.{codes}
+use Rattle.prl_base.proofs.Standard.{◌≡◌, ◌++◌, ◌∙◌, ℕ, List, ap, append_assoc, codes}
 use Rattle.prl_base.specs.declared.numbers.TaskNo.{TaskNo}
 use Rattle.prl_broken.specs.declared.causes.Cause.TheVariants as causes
 use Rattle.prl_broken.specs.Vocabulary.{DatedJob, cause_text, job_text, name_text, number_text}

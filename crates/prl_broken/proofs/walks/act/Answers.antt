@@ -1,5 +1,4 @@
-use Rattle.std.proofs.Common.{◌≢◌, arith}
-use Rattle.std.proofs.lemmas.Bool.{OnFalse_at, OnFalse_from}
+use Rattle.prl_base.proofs.Standard.{◌≢◌, arith, OnFalse_at, OnFalse_from}
 use Rattle.prl_plan.specs.declared.events.Action.TheVariants as actions
 use Rattle.prl_plan.specs.declared.events.Event.TheVariants as events
 use Rattle.prl_broken.specs.code.Walks.{IsForbidden}

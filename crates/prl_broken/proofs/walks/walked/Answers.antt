@@ -1,7 +1,4 @@
-use Rattle.std.proofs.Common.{◌≡◌, ◌+◌, ℕ, suc, arith, get_or, length, take, subst}
-use Rattle.std.proofs.lemmas.Bool.{OnFalse_at, OnTrue_at}
-use Rattle.std.proofs.lemmas.List.{length-take-le}
-use Rattle.std.proofs.lemmas.Option.{slice_get-get_or}
+use Rattle.prl_base.proofs.Standard.{◌≡◌, ◌+◌, ℕ, suc, arith, get_or, length, take, subst, OnFalse_at, OnTrue_at, length-take-le, slice_get-get_or}
 use Rattle.prl_plan.specs.declared.events.Event.TheVariants as events
 use Rattle.prl_broken.specs.code.Walks.{IsWalk}
 use Rattle.prl_broken.proofs.Walking.{list_forbidden, walks_on}

@@ -1,7 +1,4 @@
-use Rattle.std.proofs.Common.{◌≡◌, ◌+◌, ◌-◌, ◌*◌, ◌/◌, ◌%◌, ◌≤◌, ℕ, arith}
-use Rattle.std.specs.Prelude.{slice_index}
-use Rattle.std.proofs.Math.Nat.{mod-add-div'}
-use Rattle.std.proofs.lemmas.Nat.{mod_below}
+use Rattle.prl_base.proofs.Standard.{◌≡◌, ◌+◌, ◌-◌, ◌*◌, ◌/◌, ◌%◌, ◌≤◌, ℕ, arith, slice_index, mod-add-div', mod_below}
 use Rattle.prl_buffers.proofs.Rises.{counted}
 use Rattle.prl_buffers.proofs.counts.released_before.Goals as goal
 

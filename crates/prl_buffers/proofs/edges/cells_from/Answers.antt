@@ -1,5 +1,4 @@
-use Rattle.std.proofs.Common.{◌≡◌, ℕ, List, length, sum, take, ap, sym, ◌∙◌, subst, arith}
-use Rattle.std.proofs.lemmas.List.Sums.{sum_by-take-le}
+use Rattle.prl_base.proofs.Standard.{◌≡◌, ℕ, List, length, sum, take, ap, sym, ◌∙◌, subst, arith, sum_by-take-le}
 use Rattle.prl_plan.specs.Vocabulary.{EnumeratesUsed, ListsSums}
 use Rattle.prl_buffers.specs.code.Edges.{HasLeastCount}
 use Rattle.prl_buffers.proofs.EdgeNumbers.{numbers_small}

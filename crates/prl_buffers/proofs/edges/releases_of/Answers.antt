@@ -1,7 +1,5 @@
-use Rattle.std.proofs.Common.{rules, ◌≡◌, ◌+◌, ◌-◌, ◌*◌, ◌^◌, ◌++◌, ℕ, [], ◌∷◌, inl, inr, length, min, sum, take, sym, ◌∙◌, ap, arith}
-use Rattle.std.proofs.lemmas.Bool.{cases_lt}
-use Rattle.std.proofs.lemmas.List.{length_push, get_or_push, get_or_append_left}
-use Rattle.std.proofs.lemmas.List.Sums.{sum_by_more}
+use Rattle.prl_base.proofs.Standard.{rules, ◌≡◌, ◌+◌, ◌-◌, ◌*◌, ◌^◌, ◌++◌, ℕ, [], ◌∷◌, inl, inr, length, min, sum, take, sym, ◌∙◌, ap, arith, cases_lt, length_push, get_or_push, get_or_append_left}
+use Rattle.prl_base.proofs.Standard.{sum_by_more}
 use Rattle.prl_base.specs.declared.operators.Clock.{Clock}
 use Rattle.prl_plan.specs.Jobs.{task_at}
 use Rattle.prl_plan.specs.declared.tables.Window.{Window}

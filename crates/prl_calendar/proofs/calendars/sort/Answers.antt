@@ -1,6 +1,4 @@
-use Rattle.std.proofs.Common.{true, subst}
-use Rattle.std.specs.List.Sorted.{IsNonDecreasing}
-use Rattle.std.proofs.lemmas.List.Sorted.{IsNonDecreasingBy-from_sort, non_decreasing_from_is_sorted}
+use Rattle.prl_base.proofs.Standard.{true, subst, IsNonDecreasing, IsNonDecreasingBy-from_sort, non_decreasing_from_is_sorted}
 use Rattle.prl_calendar.proofs.calendars.sort.Goals as goal
 
 pub returns-then-is_sorted-clause-rising : goal.returns-then-is_sorted-clause-rising

@@ -1,6 +1,4 @@
-use Rattle.std.proofs.Common.{◌≡◌, ℕ, None, Some, List, arith, refl, slice_index_or, slice_get, subst, sym, ◌∙◌}
-use Rattle.std.specs.BTreeMap.{get}
-use Rattle.std.proofs.lemmas.Option.{slice_get-get_or}
+use Rattle.prl_base.proofs.Standard.{◌≡◌, ℕ, None, Some, List, arith, refl, slice_index_or, slice_get, subst, sym, ◌∙◌, get, slice_get-get_or}
 use Rattle.prl_base.specs.declared.operators.Clock.{Clock}
 use Rattle.prl_calendar.specs.Kinds.{IsLast, pair_order}
 use Rattle.prl_calendar.proofs.Chained.{chained_first, chained_next, chained_none, lasts_step}

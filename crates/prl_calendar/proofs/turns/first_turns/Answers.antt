@@ -1,7 +1,4 @@
-use Rattle.std.proofs.Common.{ℕ, ◌≡◌, ◌+◌, ◌∙◌, List, [], ◌∷◌, ap, arith, subst, map, take, slice_index, ◌++◌}
-use Rattle.std.specs.List.Sorted.{IsPermutation}
-use Rattle.std.proofs.lemmas.List.{map-append, take_all, take_more}
-use Rattle.std.proofs.lemmas.List.Sorted.{IsPermutation-push_more}
+use Rattle.prl_base.proofs.Standard.{ℕ, ◌≡◌, ◌+◌, ◌∙◌, List, [], ◌∷◌, ap, arith, subst, map, take, slice_index, ◌++◌, IsPermutation, map-append, take_all, take_more, IsPermutation-push_more}
 use Rattle.prl_calendar.specs.Turns.{first_turn}
 use Rattle.prl_calendar.proofs.Ordered.{first_turns_are}
 use Rattle.prl_calendar.proofs.turns.first_turns.Goals as goal

@@ -1,5 +1,4 @@
-use Rattle.std.proofs.Common.{map, take}
-use Rattle.std.specs.List.Sorted.{IsPermutation}
+use Rattle.prl_base.proofs.Standard.{map, take, IsPermutation}
 use Rattle.prl_calendar.specs.Turns.{first_turn}
 use Rattle.prl_calendar.proofs.turns.first_turns.Given as goal
 

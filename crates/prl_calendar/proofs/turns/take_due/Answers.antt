@@ -1,5 +1,4 @@
-use Rattle.std.proofs.Common.{arith}
-use Rattle.std.proofs.lemmas.Option.{MatchOption-at_some}
+use Rattle.prl_base.proofs.Standard.{arith, MatchOption-at_some}
 use Rattle.prl_calendar.specs.Turns.{HasTurned, last}
 use Rattle.prl_calendar.proofs.Turning.{turned_first, turned_later, turning_step, turns_fall}
 use Rattle.prl_calendar.proofs.turns.take_due.Goals as goal

@@ -1,6 +1,5 @@
-use Rattle.std.proofs.Common.{◌≤◌, ◌∷◌, ◌∙◌, ℕ, List, ap, subst}
-use Rattle.std.specs.List.{All, Contains}
-use Rattle.std.specs.List.Sorted.{IsNonDecreasingBy}
+use Rattle.prl_base.proofs.Standard.{◌≤◌, ◌∷◌, ◌∙◌, ℕ, List, ap, subst, Contains, IsNonDecreasingBy}
+use Rattle.std.specs.List.{All}
 use Rattle.prl_calendar.specs.Turns.{Turn, date_of}
 use Rattle.prl_calendar.proofs.Queued.{front_is}
 use Rattle.prl_calendar.proofs.turns.take_first.Goals as goal

@@ -1,5 +1,4 @@
-use Rattle.std.proofs.Common.{◌++◌, List}
-use Rattle.std.proofs.lemmas.Result.{err_from_is_err_and}
+use Rattle.prl_base.proofs.Standard.{◌++◌, List, err_from_is_err_and}
 use Rattle.prl_stages.specs.Stages.{front, graphed, named_bodies}
 use Rattle.prl_stages.specs.declared.stages.Stage.{Stage}
 use Rattle.prl_calls.specs.Stops.{given_of, AllHold, StopsIn}

@@ -1,5 +1,4 @@
-use Rattle.std.proofs.Common.{Ok, map, inl, inr}
-use Rattle.std.proofs.lemmas.Result.{err_from_is_err_and}
+use Rattle.prl_base.proofs.Standard.{Ok, map, inl, inr, err_from_is_err_and}
 use Rattle.prl_ast.specs.Trees.{program_tree}
 use Rattle.prl_body.specs.Vocabulary.{body_tree, text_trees}
 use Rattle.prl_bodytext.specs.Parsing.{IsParsed}

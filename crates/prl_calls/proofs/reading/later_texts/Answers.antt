@@ -1,5 +1,4 @@
-use Rattle.std.proofs.Common.{refl, ◌∙◌}
-use Rattle.std.proofs.lemmas.Result.{err_from_is_err_and}
+use Rattle.prl_base.proofs.Standard.{refl, ◌∙◌, err_from_is_err_and}
 use Rattle.prl_stages.specs.declared.faults.InputFile.TheVariants as parts
 use Rattle.prl_calls.proofs.Contents.{file_stop, kept, schedule_next, table_next, cores_next}
 use Rattle.prl_calls.proofs.reading.later_texts.Goals as goal

@@ -1,5 +1,4 @@
-use Rattle.std.proofs.Common.{Option, sym, subst}
-use Rattle.std.proofs.lemmas.Result.{err_from_is_err_and}
+use Rattle.prl_base.proofs.Standard.{Option, sym, subst, err_from_is_err_and}
 use Rattle.prl_stages.specs.Given.{Folder}
 use Rattle.prl_calls.specs.code.Texts.{AreFirst}
 use Rattle.prl_calls.proofs.Contents.{stop_after}

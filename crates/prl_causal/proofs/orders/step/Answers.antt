@@ -1,5 +1,4 @@
-use Rattle.std.proofs.Common.{◌<◌, ◌∷◌, [], ◌++◌, length, refl, ◌∙◌, ap, subst}
-use Rattle.std.proofs.lemmas.List.{length_push}
+use Rattle.prl_base.proofs.Standard.{◌<◌, ◌∷◌, [], ◌++◌, length, refl, ◌∙◌, ap, subst, length_push}
 use Rattle.prl_causal.specs.code.Parts.{marked_count}
 use Rattle.prl_causal.proofs.Lists.{mark_set, mark_counted, count_below}
 use Rattle.prl_causal.proofs.Sorting.{on_top, used_below, taken_off, placed_top, opened_used, way_back, fewer_to_open}

@@ -1,6 +1,4 @@
-use Rattle.std.proofs.Common.{◌<◌, ◌≤◌, length, arith, sym, ◌∙◌, refl}
-use Rattle.std.proofs.lemmas.Bool.{false≢true}
-use Rattle.std.proofs.lemmas.Option.{slice_get_read}
+use Rattle.prl_base.proofs.Standard.{◌<◌, ◌≤◌, length, arith, sym, ◌∙◌, refl, false≢true, slice_get_read}
 use Rattle.prl_causal.specs.code.Sources.{UsesBy}
 use Rattle.prl_causal.proofs.Searching.{search_begun, search_goes_on, search_ended, source_there, reached_within}
 use Rattle.prl_causal.proofs.searches.follow.Goals as goal

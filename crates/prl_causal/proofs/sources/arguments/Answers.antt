@@ -1,5 +1,4 @@
-use Rattle.std.proofs.Common.{◌≡◌, Some, length, refl, sym, ap, subst, ◌∙◌}
-use Rattle.std.proofs.lemmas.Option.{slice_get_read}
+use Rattle.prl_base.proofs.Standard.{◌≡◌, Some, length, refl, sym, ap, subst, ◌∙◌, slice_get_read}
 use Rattle.std.specs.List.{slice_get}
 use Rattle.prl_causal.proofs.sources.arguments.Goals as goal
 

@@ -1,5 +1,4 @@
-use Rattle.std.proofs.Common.{◌≡◌, ◌<◌, List, Some, slice_get, length, subst, ap, arith, refl}
-use Rattle.std.proofs.lemmas.Option.{slice_get_read}
+use Rattle.prl_base.proofs.Standard.{◌≡◌, ◌<◌, List, Some, slice_get, length, subst, ap, arith, refl, slice_get_read}
 use Rattle.prl_flow.specs.declared.programs.Flow.{Flow}
 use Rattle.prl_clock.specs.Constraints.{rate_constraints, definition_constraints}
 use Rattle.prl_clock.proofs.Fine.{stopped_within as stopped_front}

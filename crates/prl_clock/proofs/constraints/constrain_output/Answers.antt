@@ -1,5 +1,4 @@
-use Rattle.std.proofs.Common.{◌≡◌, ◌<◌, ◌≤◌, ◌∷◌, [], List, length, map, get_or, Some, slice_get, subst, ap, ◌∙◌, arith, refl}
-use Rattle.std.proofs.lemmas.Option.{slice_get-get_or, slice_get_read, slice_get_within}
+use Rattle.prl_base.proofs.Standard.{◌≡◌, ◌<◌, ◌≤◌, ◌∷◌, [], List, length, map, get_or, Some, slice_get, subst, ap, ◌∙◌, arith, refl, slice_get-get_or, slice_get_read, slice_get_within}
 use Rattle.prl_base.specs.declared.numbers.FlowNo.{FlowNo}
 use Rattle.prl_flow.specs.Programs.{IsApplication}
 use Rattle.prl_flow.specs.declared.programs.App.{App}

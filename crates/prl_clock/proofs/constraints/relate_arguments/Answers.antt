@@ -1,6 +1,4 @@
-use Rattle.std.proofs.Common.{◌<◌, ◌++◌, ◌∷◌, [], List, map, take, length, get_or, subst, arith}
-use Rattle.std.proofs.lemmas.List.{take_all}
-use Rattle.std.proofs.lemmas.Option.{slice_get-get_or}
+use Rattle.prl_base.proofs.Standard.{◌<◌, ◌++◌, ◌∷◌, [], List, map, take, length, get_or, subst, arith, take_all, slice_get-get_or}
 use Rattle.prl_flow.specs.declared.programs.Arg.{Arg}
 use Rattle.prl_clock.specs.Vocabulary.{argument_constraint, related, IsReached, IsStopped, Timing}
 use Rattle.prl_clock.proofs.Taking.{if_err_same, reached_next, stopped_next}

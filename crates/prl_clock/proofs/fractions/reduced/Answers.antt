@@ -1,6 +1,5 @@
-use Rattle.std.proofs.Common.{inl, inr, rules, w64, ◌∙◌, arith}
+use Rattle.prl_base.proofs.Standard.{inl, inr, rules, w64, ◌∙◌, arith, to_z-of_z}
 use mir.Val.{to_z, of_z, SFits}
-use Rattle.std.proofs.lemmas.Int.{to_z-of_z}
 use Rattle.prl_base.proofs.Lowest.{divisor_positive}
 use Rattle.prl_clock.proofs.Reducing.{reduced_past, reduced_form, reduced_small}
 use Rattle.prl_clock.proofs.fractions.reduced.Goals as goal

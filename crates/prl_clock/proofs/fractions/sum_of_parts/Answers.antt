@@ -1,8 +1,6 @@
-use Rattle.std.proofs.Common.{◌≡◌, ◌+◌, ◌*◌, ℕ, ℤ, pos, ◌+ℤ◌, ◌*ℤ◌, w64, ap, ◌∙◌, sym, subst, arith}
+use Rattle.prl_base.proofs.Standard.{◌≡◌, ◌+◌, ◌*◌, ℕ, ℤ, pos, ◌+ℤ◌, ◌*ℤ◌, w64, ap, ◌∙◌, sym, subst, arith, to_z-of_z, Result}
 use borrow.Author.Differences.{up, down}
 use mir.Val.{to_z, of_z, SFits}
-use Rattle.std.proofs.lemmas.Int.{to_z-of_z}
-use Rattle.std.specs.Prelude.{Result}
 use Rattle.prl_base.specs.Vocabulary.{Fraction, IsReduction}
 use Rattle.prl_base.specs.declared.ratios.Past.{Past}
 use Rattle.prl_clock.proofs.Reducing.{total, below_is, above_is, positive3}

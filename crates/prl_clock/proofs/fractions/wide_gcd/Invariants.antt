@@ -1,5 +1,4 @@
-use Rattle.std.proofs.Common.{ℕ}
-use Rattle.std.specs.Int.{IsGcd}
+use Rattle.prl_base.proofs.Standard.{ℕ, IsGcd}
 use Rattle.prl_clock.proofs.fractions.wide_gcd.Given as goal
 
 abbrev pub invariant-loop-y : goal.invariant-loop-y

@@ -1,6 +1,5 @@
-use Rattle.std.proofs.Common.{ℤ, rules, w64, ◌∙◌, sym, subst}
+use Rattle.prl_base.proofs.Standard.{ℤ, rules, w64, ◌∙◌, sym, subst, to_z-of_z}
 use mir.Val.{SFits}
-use Rattle.std.proofs.lemmas.Int.{to_z-of_z}
 use Rattle.prl_base.specs.Ratios.{IsSmallFraction}
 use Rattle.prl_clock.proofs.Rated.{whole_small}
 use Rattle.prl_clock.proofs.rates.whole.Goals as goal

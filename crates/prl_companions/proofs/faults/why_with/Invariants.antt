@@ -1,5 +1,4 @@
-use Rattle.std.proofs.Common.{◌≡◌, take}
-use Rattle.std.specs.List.{flat_map}
+use Rattle.prl_base.proofs.Standard.{◌≡◌, take, flat_map}
 use Rattle.prl_companions.specs.Faults.{piece_text}
 use Rattle.prl_companions.proofs.faults.why_with.Given as goal
 

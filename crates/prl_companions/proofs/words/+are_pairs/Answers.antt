@@ -1,6 +1,4 @@
-use Rattle.std.proofs.Common.{◌≡◌, ◌&&◌, ◌∙◌, ◌<◌, ◌≤◌, ◌-◌, ℕ, Bool, true, false, List, [], ◌∷◌, length, map, drop, take, get_or, refl, arith}
-use Rattle.std.proofs.lemmas.List.{take_rest}
-use Rattle.std.specs.String.{string_bytes}
+use Rattle.prl_base.proofs.Standard.{◌≡◌, ◌&&◌, ◌∙◌, ◌<◌, ◌≤◌, ◌-◌, ℕ, Bool, true, false, List, [], ◌∷◌, length, map, drop, take, get_or, refl, arith, take_rest, string_bytes}
 use Rattle.prl_companions.specs.Pairs.{are_pairs, is_pair}
 use Rattle.prl_companions.proofs.words.+are_pairs.Goals as goal
 

@@ -1,6 +1,4 @@
-use Rattle.std.proofs.Common.{◌∙◌, length, refl, sym}
-use Rattle.std.proofs.lemmas.Option.{slice_get_read}
-use Rattle.std.proofs.lemmas.Slice.Eq.{bytes_eq-Decides}
+use Rattle.prl_base.proofs.Standard.{◌∙◌, length, refl, sym, slice_get_read, bytes_eq-Decides}
 use Rattle.prl_counts.proofs.Named.{node_is}
 use Rattle.prl_counts.proofs.counts.of_node.Goals as goal
 

@@ -1,6 +1,4 @@
-use Rattle.std.proofs.Common.{◌+◌, ◌*◌, w64, to_z, arith}
-use Rattle.std.specs.Prelude.{slice_index}
-use Rattle.std.proofs.lemmas.Int.{to_z_pos}
+use Rattle.prl_base.proofs.Standard.{◌+◌, ◌*◌, w64, to_z, arith, slice_index, to_z_pos}
 use Rattle.prl_dates.proofs.Settles.{narrow_is, read_small}
 use Rattle.prl_dates.proofs.Indices.{index_below}
 use Rattle.prl_dates.proofs.LaneSteps.{few_jobs}

@@ -1,7 +1,4 @@
-use Rattle.std.proofs.Common.{◌+◌, ◌*◌, ◌≤◌, ◌^◌, w64, ℕ, List, sym, subst, ◌∙◌, arith}
-use Rattle.std.specs.Prelude.{ℤ}
-use Rattle.std.proofs.Math.Nat.{mul-le-mul_right}
-use Rattle.std.proofs.lemmas.Int.{to_z_pos}
+use Rattle.prl_base.proofs.Standard.{◌+◌, ◌*◌, ◌≤◌, ◌^◌, w64, ℕ, List, sym, subst, ◌∙◌, arith, ℤ, mul-le-mul_right, to_z_pos}
 use Rattle.prl_plan.proofs.RoundPeriods.{task_is}
 use Rattle.prl_dates.specs.declared.bests.First.TheVariants as firsts
 use Rattle.prl_dates.specs.Vocabulary.{DateFault, IsDateFault, AreWithin}

@@ -1,6 +1,4 @@
-use Rattle.std.proofs.Common.{◌≡◌, ◌+◌, ◌<◌, ◌≤◌, ℕ, List, length, sym, subst, ◌∙◌, arith}
-use Rattle.std.specs.Prelude.{slice_index}
-use Rattle.std.proofs.lemmas.List.{with_items_is}
+use Rattle.prl_base.proofs.Standard.{◌≡◌, ◌+◌, ◌<◌, ◌≤◌, ℕ, List, length, sym, subst, ◌∙◌, arith, slice_index, with_items_is}
 use Rattle.prl_plan.specs.Vocabulary.{AreEncodedDates, task_at, HaveRoom, AreShortWindows}
 use Rattle.prl_plan.specs.declared.tables.Window.{Window}
 use Rattle.prl_dates.specs.Vocabulary.{Lane, jobs_of, jobs_before, AreFinal, AreUpperDates, LeaveAll, AreWindows}

@@ -1,7 +1,5 @@
-use Rattle.std.proofs.Common.{◌≡◌, ◌+◌, ◌<◌, ℕ, List, length, get_or, Some, true, false, Vec, Global, sym, ap, subst, ◌∙◌, arith}
-use Rattle.std.specs.Prelude.{ℤ, pos, slice_get, slice_index_or}
-use Rattle.std.specs.Int.{int_max}
-use Rattle.std.proofs.lemmas.List.{get_or_default, with_items_is}
+use Rattle.prl_base.proofs.Standard.{◌≡◌, ◌+◌, ◌<◌, ℕ, List, length, get_or, Some, true, false, Vec, Global, sym, ap, subst, ◌∙◌, arith, ℤ, pos, slice_get, slice_index_or, int_max, get_or_default}
+use Rattle.prl_base.proofs.Standard.{with_items_is}
 use Rattle.prl_base.specs.declared.operators.Op.{Op}
 use Rattle.prl_plan.specs.Vocabulary.{IsWellFormed, preceding, PrecedingFits}
 use Rattle.prl_plan.specs.declared.graphs.Edge.{Edge}

@@ -1,5 +1,4 @@
-use Rattle.std.proofs.Common.{◌≡◌, List, length, Some, ap, subst, ◌∙◌, arith}
-use Rattle.std.specs.Prelude.{ℤ, pos, slice_get, slice_index_or}
+use Rattle.prl_base.proofs.Standard.{◌≡◌, List, length, Some, ap, subst, ◌∙◌, arith, ℤ, pos, slice_get, slice_index_or}
 use Rattle.prl_dates.specs.Vocabulary.{Link, IsLinkOf}
 use Rattle.prl_dates.proofs.LaneSteps.{joins_inside, lane_made}
 use Rattle.prl_dates.proofs.lanes.lane_of.Goals as goal

@@ -1,6 +1,4 @@
-use Rattle.std.proofs.Common.{◌≡◌, ◌+◌, ◌<◌, ◌^◌, w64, to_z, of_z, ℕ, sym, ap, subst, ◌∙◌, arith}
-use Rattle.std.specs.Prelude.{ℤ, pos, ◌*ℤ◌, ◌-ℤ◌, unsigned_abs}
-use Rattle.std.proofs.lemmas.Int.{to_z-of_z, to_z_pos}
+use Rattle.prl_base.proofs.Standard.{◌≡◌, ◌+◌, ◌<◌, ◌^◌, w64, to_z, of_z, ℕ, sym, ap, subst, ◌∙◌, arith, ℤ, pos, ◌*ℤ◌, ◌-ℤ◌, unsigned_abs, to_z-of_z, to_z_pos}
 use Rattle.prl_plan.specs.Vocabulary.{task_at, release_of, Fits64, place_in}
 use Rattle.prl_plan.specs.declared.graphs.Task.{Task}
 use Rattle.prl_plan.proofs.RoundPeriods.{task_is}

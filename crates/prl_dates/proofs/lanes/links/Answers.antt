@@ -1,6 +1,4 @@
-use Rattle.std.proofs.Common.{◌≡◌, ◌+◌, ◌<◌, ◌++◌, w64, to_z, of_z, ℕ, List, [], ◌∷◌, length, get_or, Some, inl, inr, refl, sym, ap, subst, ◌∙◌, arith}
-use Rattle.std.specs.Prelude.{ℤ, pos, slice_get}
-use Rattle.std.proofs.lemmas.Int.{to_z-of_z}
+use Rattle.prl_base.proofs.Standard.{◌≡◌, ◌+◌, ◌<◌, ◌++◌, w64, to_z, of_z, ℕ, List, [], ◌∷◌, length, get_or, Some, inl, inr, refl, sym, ap, subst, ◌∙◌, arith, ℤ, pos, slice_get, to_z-of_z}
 use Rattle.prl_plan.specs.Graphs.{IsWellFormed}
 use Rattle.prl_plan.specs.declared.graphs.TaskGraph.{TaskGraph}
 use Rattle.prl_dates.specs.Vocabulary.{Link, jobs_of, IsGreatestBefore, AreGreatest, IsLinkOf}

@@ -1,5 +1,4 @@
-use Rattle.std.proofs.Common.{◌≡◌, ℕ, Some, length, slice_index_or}
-use Rattle.std.specs.Prelude.{pos, slice_get}
+use Rattle.prl_base.proofs.Standard.{◌≡◌, ℕ, Some, length, slice_index_or, pos, slice_get}
 use Rattle.prl_dates.specs.Vocabulary.{Link, IsLinkOf}
 use Rattle.prl_dates.proofs.lanes.links.Given as goal
 

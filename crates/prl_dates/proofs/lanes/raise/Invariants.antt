@@ -1,6 +1,4 @@
-use Rattle.std.proofs.Common.{◌≡◌, ◌<◌, ◌≤◌, ℕ, slice_index_or}
-use Rattle.std.specs.Prelude.{pos}
-use Rattle.std.specs.Int.{int_max}
+use Rattle.prl_base.proofs.Standard.{◌≡◌, ◌<◌, ◌≤◌, ℕ, slice_index_or, pos, int_max}
 use Rattle.prl_dates.proofs.lanes.raise.Given as goal
 
 abbrev pub invariant-loop-n : goal.invariant-loop-n

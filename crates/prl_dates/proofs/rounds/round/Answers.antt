@@ -1,5 +1,4 @@
-use Rattle.std.proofs.Common.{◌≡◌, ◌+◌, ℕ, List, length, Some, Bool, false, sym, subst, arith}
-use Rattle.std.specs.Prelude.{slice_get, slice_index_or}
+use Rattle.prl_base.proofs.Standard.{◌≡◌, ◌+◌, ℕ, List, length, Some, Bool, false, sym, subst, arith, slice_get, slice_index_or}
 use Rattle.prl_plan.specs.Jobs.{task_at}
 use Rattle.prl_dates.specs.Vocabulary.{IsLane, AreRaised, AreRound}
 use Rattle.prl_dates.proofs.Readings.{item_stands}

@@ -1,6 +1,4 @@
-use Rattle.std.proofs.Common.{arith}
-use Rattle.std.specs.Prelude.{pos}
-use Rattle.std.proofs.lemmas.Int.{ints}
+use Rattle.prl_base.proofs.Standard.{arith, pos, ints}
 use Rattle.prl_dates.proofs.runs.end_of_run.Goals as goal
 
 pub returns-clause-same : goal.returns-clause-same

@@ -1,8 +1,5 @@
-use Rattle.std.proofs.Common.{◌≡◌, ◌+◌, ◌-◌, ◌<◌, ◌≤◌, ◌++◌, w64, to_z, of_z, ℕ, List, [], ◌∷◌, length, get_or, inl, inr, sym, ap, subst, ◌∙◌, arith}
-use Rattle.std.specs.Prelude.{ℤ, pos, ◌+ℤ◌, FitsSigned}
-use Rattle.std.proofs.lemmas.Bool.{cases_lt}
-use Rattle.std.proofs.lemmas.Int.{to_z-of_z}
-use Rattle.std.proofs.lemmas.List.{get_or_append_left, get_or_push, length_push}
+use Rattle.prl_base.proofs.Standard.{◌≡◌, ◌+◌, ◌-◌, ◌<◌, ◌≤◌, ◌++◌, w64, to_z, of_z, ℕ, List, [], ◌∷◌, length, get_or, inl, inr, sym, ap, subst, ◌∙◌, arith, ℤ, pos, ◌+ℤ◌, FitsSigned, cases_lt}
+use Rattle.prl_base.proofs.Standard.{to_z-of_z, get_or_append_left, get_or_push, length_push}
 use Rattle.prl_plan.specs.Vocabulary.{preceding, Fits64}
 use Rattle.prl_dates.proofs.TurnSteps.{first_fits, next_sum}
 use Rattle.prl_dates.proofs.runs.numbers_over.Goals as goal

@@ -1,5 +1,4 @@
-use Rattle.std.proofs.Common.{◌≡◌, ◌<◌, ℕ, length, slice_index_or}
-use Rattle.std.specs.Prelude.{pos}
+use Rattle.prl_base.proofs.Standard.{◌≡◌, ◌<◌, ℕ, length, slice_index_or, pos}
 use Rattle.prl_plan.specs.Precedence.{preceding}
 use Rattle.prl_dates.proofs.runs.numbers_over.Given as goal
 

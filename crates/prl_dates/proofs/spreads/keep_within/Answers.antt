@@ -1,5 +1,4 @@
-use Rattle.std.proofs.Common.{rules}
-use Rattle.std.proofs.lemmas.Fn.{filter_same}
+use Rattle.prl_base.proofs.Standard.{rules, filter_same}
 use Rattle.prl_dates.proofs.spreads.keep_within.Goals as goal
 
 pub returns : goal.returns

@@ -1,6 +1,4 @@
-use Rattle.std.proofs.Common.{◌≡◌, ◌+◌, ◌∙◌, ℕ, List, length, Some, sym, subst, arith}
-use Rattle.std.specs.Prelude.{◌==◌, slice_get, slice_index}
-use Rattle.std.proofs.lemmas.Bool.{eq-eqb, eqb-true, both_ways}
+use Rattle.prl_base.proofs.Standard.{◌≡◌, ◌+◌, ◌∙◌, ℕ, List, length, Some, sym, subst, arith, ◌==◌, slice_get, slice_index, eq-eqb, eqb-true, both_ways}
 use Rattle.prl_plan.specs.Jobs.{task_at}
 use Rattle.prl_dates.specs.Vocabulary.{IsLane, AreRaised, AreRaisedAcross}
 use Rattle.prl_dates.proofs.Readings.{item_stands}

@@ -1,5 +1,4 @@
-use Rattle.std.proofs.Common.{rules, ◌≡◌, ◌-◌, ◌*◌, ◌<◌, ◌^◌, ℕ, List, length, sym, ◌∙◌, ap, subst, arith}
-use Rattle.std.specs.Prelude.{sum}
+use Rattle.prl_base.proofs.Standard.{rules, ◌≡◌, ◌-◌, ◌*◌, ◌<◌, ◌^◌, ℕ, List, length, sym, ◌∙◌, ap, subst, arith, sum}
 use Rattle.prl_dates.specs.Vocabulary.{AreSettled, IsRising}
 use Rattle.prl_dates.proofs.RoundSteps.{next_settled}
 use Rattle.prl_dates.proofs.SpreadRounds.{ceiling_within, rising_more, rising_less}

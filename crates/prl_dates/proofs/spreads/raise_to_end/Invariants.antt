@@ -1,5 +1,4 @@
-use Rattle.std.proofs.Common.{◌≡◌, ◌-◌, ◌*◌, ◌^◌, length}
-use Rattle.std.specs.Prelude.{sum}
+use Rattle.prl_base.proofs.Standard.{◌≡◌, ◌-◌, ◌*◌, ◌^◌, length, sum}
 use Rattle.prl_plan.specs.Graphs.{jobs_in_hyperperiod}
 use Rattle.prl_dates.specs.Vocabulary.{IsRising, AreSettled}
 use Rattle.prl_dates.proofs.spreads.raise_to_end.Given as goal

@@ -1,5 +1,4 @@
-use Rattle.std.proofs.Common.{◌+◌, ◌<◌, ◌≤◌, ℕ, List, length, sym, ◌∙◌, ap, subst}
-use Rattle.std.specs.Prelude.{slice_index}
+use Rattle.prl_base.proofs.Standard.{◌+◌, ◌<◌, ◌≤◌, ℕ, List, length, sym, ◌∙◌, ap, subst, slice_index}
 use Rattle.prl_plan.specs.Vocabulary.{jobs_in_hyperperiod, task_at, IsSpread}
 use Rattle.prl_plan.specs.declared.graphs.TaskGraph.{TaskGraph}
 use Rattle.prl_plan.specs.declared.tables.Window.{Window}

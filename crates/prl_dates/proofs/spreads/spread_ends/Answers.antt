@@ -1,5 +1,4 @@
-use Rattle.std.proofs.Common.{◌≡◌, ℕ, List, length, sym, ◌∙◌, ap, subst, arith}
-use Rattle.std.proofs.lemmas.List.{with_items_is}
+use Rattle.prl_base.proofs.Standard.{◌≡◌, ℕ, List, length, sym, ◌∙◌, ap, subst, arith, with_items_is}
 use Rattle.prl_plan.specs.Graphs.{jobs_in_hyperperiod}
 use Rattle.prl_plan.specs.declared.graphs.TaskGraph.{TaskGraph}
 use Rattle.prl_dates.specs.Vocabulary.{Lane, AreLanes, AreEachLane, AreEndsAcross, HasCeiling, IsLeastAbove, AreSpreadEnds}

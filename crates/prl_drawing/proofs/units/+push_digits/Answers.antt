@@ -1,5 +1,4 @@
-use Rattle.std.proofs.Common.{◌≡◌, ◌++◌, ◌-◌, ◌/◌, ◌%◌, ◌∙◌, OnOk, ℕ, List, ap, append_assoc, arith, subst}
-use Rattle.std.specs.Prelude.{decimal}
+use Rattle.prl_base.proofs.Standard.{◌≡◌, ◌++◌, ◌-◌, ◌/◌, ◌%◌, ◌∙◌, OnOk, ℕ, List, ap, append_assoc, arith, subst, decimal}
 use Rattle.prl_drawing.specs.Times.{digits_text}
 use Rattle.prl_drawing.proofs.Digits.{no_digit, no_part, one_digit}
 use Rattle.prl_drawing.proofs.units.+push_digits.Goals as goal

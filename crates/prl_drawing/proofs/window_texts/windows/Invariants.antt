@@ -1,5 +1,4 @@
-use Rattle.std.proofs.Common.{◌≡◌, take}
-use Rattle.std.specs.List.{flat_map}
+use Rattle.prl_base.proofs.Standard.{◌≡◌, take, flat_map}
 use Rattle.prl_drawing.specs.Windows.{window_text}
 use Rattle.prl_drawing.proofs.window_texts.windows.Given as goal
 

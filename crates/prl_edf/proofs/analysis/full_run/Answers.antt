@@ -1,5 +1,4 @@
-use Rattle.std.proofs.Common.{ℕ, List, Global, map, vec_items, sym, subst}
-use Rattle.std.proofs.lemmas.Result.{IfOk-weaker}
+use Rattle.prl_base.proofs.Standard.{ℕ, List, Global, map, vec_items, sym, subst, IfOk-weaker}
 use Rattle.std.specs.declared.vec.Vec.{Vec}
 use Rattle.prl_plan.specs.Vocabulary.{constants_of, RunConstants}
 use Rattle.prl_edf.specs.Vocabulary.{ComesTo, units_of, wcets_of, AreFullLists}

@@ -1,5 +1,4 @@
-use Rattle.std.proofs.Common.{◌≡◌, length, map, vec_items, refl, ap, arith}
-use Rattle.std.proofs.lemmas.List.{length-map}
+use Rattle.prl_base.proofs.Standard.{◌≡◌, length, map, vec_items, refl, ap, arith, length-map}
 use Rattle.prl_plan.specs.Vocabulary.{constants_of, task_at}
 use Rattle.prl_plan.specs.declared.graphs.TaskGraph.{TaskGraph}
 use Rattle.prl_edf.specs.UnitLists.{wcets_of}

@@ -1,5 +1,4 @@
-use Rattle.std.proofs.Common.{◌≡◌, ◌+◌, ◌-◌, ◌≤◌, ℕ, suc, inl, inr, ap, sym, ◌∙◌, arith}
-use Rattle.std.proofs.lemmas.Bool.{cases_lt}
+use Rattle.prl_base.proofs.Standard.{◌≡◌, ◌+◌, ◌-◌, ◌≤◌, ℕ, suc, inl, inr, ap, sym, ◌∙◌, arith, cases_lt}
 use Rattle.prl_plan.specs.Vocabulary.{constants_of, RunConstants}
 use Rattle.prl_edf.specs.Vocabulary.{demand, wcets_of}
 use Rattle.prl_edf.proofs.Starts.{nothing_past, demand_falls, one_earlier}

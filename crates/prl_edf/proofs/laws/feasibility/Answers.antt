@@ -1,5 +1,4 @@
-use Rattle.std.proofs.Common.{inl, inr, arith}
-use Rattle.std.proofs.lemmas.Bool.{cases_lt}
+use Rattle.prl_base.proofs.Standard.{inl, inr, arith, cases_lt}
 use Rattle.prl_edf.specs.TimedRuns.{units_before}
 use Rattle.prl_edf.proofs.Feasible.{missed_overloads}
 use Rattle.prl_edf.proofs.Overloaded.{met_fits}

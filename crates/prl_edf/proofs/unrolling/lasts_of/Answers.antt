@@ -1,6 +1,5 @@
-use Rattle.std.proofs.Common.{◌≡◌, ◌+◌, ◌-◌, ◌<◌, ℕ, List, [], ◌∷◌, ◌++◌, Bool, Option, Some, None, reverse, length, get_or, drop, sym, ap, ◌∙◌, arith}
+use Rattle.prl_base.proofs.Standard.{◌≡◌, ◌+◌, ◌-◌, ◌<◌, ℕ, List, [], ◌∷◌, ◌++◌, Bool, Option, Some, None, reverse, length, get_or, drop, sym, ap, ◌∙◌, arith, slice_get-get_or}
 use Rattle.std.proofs.lemmas.List.{length-set}
-use Rattle.std.proofs.lemmas.Option.{slice_get-get_or}
 use Rattle.prl_edf.specs.Vocabulary.{Piece, next_job, is_other, lasts_in}
 use Rattle.prl_edf.proofs.Skips.{any_default, piece_at, one_piece_back, seen_with}
 use Rattle.prl_edf.proofs.unrolling.lasts_of.Goals as goal

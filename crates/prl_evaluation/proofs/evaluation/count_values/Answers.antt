@@ -1,6 +1,4 @@
-use Rattle.std.proofs.Common.{◌≡◌, ◌≤◌, ◌∙◌, ap, arith}
-use Rattle.std.proofs.lemmas.List.{get_or_default}
-use Rattle.std.proofs.lemmas.List.Sums.{sum_by_more}
+use Rattle.prl_base.proofs.Standard.{◌≡◌, ◌≤◌, ◌∙◌, ap, arith, get_or_default, sum_by_more}
 use Rattle.prl_base.specs.Clocks.{IsClock}
 use Rattle.prl_flow.specs.Vocabulary.{dates_before, clock_of}
 use Rattle.prl_flow.proofs.ClockDates.{dates_before_le}

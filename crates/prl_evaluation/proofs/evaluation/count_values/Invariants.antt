@@ -1,5 +1,4 @@
-use Rattle.std.proofs.Common.{◌≡◌, ◌≤◌, ◌*◌, take}
-use Rattle.std.specs.Prelude.{sum_by}
+use Rattle.prl_base.proofs.Standard.{◌≡◌, ◌≤◌, ◌*◌, take, sum_by}
 use Rattle.prl_flow.specs.Counts.{dates_before}
 use Rattle.prl_evaluation.proofs.evaluation.count_values.Given as goal
 

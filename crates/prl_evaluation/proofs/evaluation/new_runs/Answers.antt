@@ -1,6 +1,4 @@
-use Rattle.std.proofs.Common.{◌≡◌, ◌∙◌, ap, arith, length, refl, slice_get, Some}
-use Rattle.std.proofs.lemmas.List.{length_push}
-use Rattle.std.proofs.lemmas.Option.{slice_get_read}
+use Rattle.prl_base.proofs.Standard.{◌≡◌, ◌∙◌, ap, arith, length, refl, slice_get, Some, length_push, slice_get_read}
 use Rattle.prl_evaluation.proofs.Begun.{new_pushed}
 use Rattle.prl_evaluation.proofs.evaluation.new_runs.Goals as goal
 

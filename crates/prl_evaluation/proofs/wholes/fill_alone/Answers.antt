@@ -1,5 +1,4 @@
-use Rattle.std.proofs.Common.{◌∙◌, ap, subst, sym, arith}
-use Rattle.std.proofs.lemmas.Option.{slice_get_within}
+use Rattle.prl_base.proofs.Standard.{◌∙◌, ap, subst, sym, arith, slice_get_within}
 use Rattle.prl_flow.specs.declared.programs.Def.{Def}
 use Rattle.prl_solutions.specs.Tables.{table_of, value_of}
 use Rattle.prl_evaluation.specs.code.Fronts.{IsPlain, IsThere}

@@ -1,5 +1,4 @@
-use Rattle.std.proofs.Common.{slice_index_or, sym, ◌∙◌, arith}
-use Rattle.std.proofs.lemmas.Option.{slice_get-get_or}
+use Rattle.prl_base.proofs.Standard.{slice_index_or, sym, ◌∙◌, arith, slice_get-get_or}
 use Rattle.prl_base.specs.declared.numbers.FlowNo.{FlowNo}
 use Rattle.prl_evaluation.proofs.Groups.{filling_can_grow, filling_grown, filling_next, filling_skip}
 use Rattle.prl_evaluation.proofs.wholes.fill_instance.Goals as goal

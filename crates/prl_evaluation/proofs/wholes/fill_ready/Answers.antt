@@ -1,6 +1,4 @@
-use Rattle.std.proofs.Common.{◌≡◌, ◌∙◌, List, length, slice_get, slice_index_or, Some, refl, ap, arith}
-use Rattle.std.proofs.lemmas.List.{get_or_default}
-use Rattle.std.proofs.lemmas.Option.{slice_get_read}
+use Rattle.prl_base.proofs.Standard.{◌≡◌, ◌∙◌, List, length, slice_get, slice_index_or, Some, refl, ap, arith, get_or_default, slice_get_read}
 use Rattle.prl_flow.specs.Vocabulary.{dates_before, clock_of}
 use Rattle.prl_flow.specs.declared.programs.Flow.{Flow}
 use Rattle.prl_evaluation.proofs.Groups.{applied_app, group_outs}

@@ -1,8 +1,6 @@
-use Rattle.std.proofs.Common.{◌≡◌, ◌∙◌, ◌++◌, ◌∷◌, ◌<◌, ◌^◌, [], List, true, false, ap, arith, cond, not, slice_index_or, subst, sym, take, length}
+use Rattle.prl_base.proofs.Standard.{◌≡◌, ◌∙◌, ◌++◌, ◌∷◌, ◌<◌, ◌^◌, [], List, true, false, ap, arith, cond, not, slice_index_or, subst, sym, take, length, append-nil, take_all, filter_more}
+use Rattle.prl_base.proofs.Standard.{slice_get-get_or}
 use Rattle.std.specs.List.{filter}
-use Rattle.std.proofs.lemmas.List.{append-nil, take_all}
-use Rattle.std.proofs.lemmas.List.Elements.{filter_more}
-use Rattle.std.proofs.lemmas.Option.{slice_get-get_or}
 use Rattle.prl_base.specs.declared.numbers.FlowNo.{FlowNo}
 use Rattle.prl_evaluation.specs.code.Dates.{AreAt, IsRest}
 use Rattle.prl_evaluation.proofs.Groups.{is_left, rest_at_first, rest_few, rest_in_order}

@@ -1,5 +1,4 @@
-use Rattle.std.proofs.Common.{ℕ, ◌∙◌, subst, arith, inl, inr}
-use Rattle.std.proofs.lemmas.Bool.{cases_eq}
+use Rattle.prl_base.proofs.Standard.{ℕ, ◌∙◌, subst, arith, inl, inr, cases_eq}
 use Rattle.prl_plan.specs.Rules.{KeepsGated}
 use Rattle.prl_rule.specs.Vocabulary.{run_of, reached}
 use Rattle.prl_exec.specs.Standing.{act_of}

@@ -1,5 +1,4 @@
-use Rattle.std.proofs.Common.{arith}
-use Rattle.std.proofs.lemmas.Option.{slice_get_within}
+use Rattle.prl_base.proofs.Standard.{arith, slice_get_within}
 use Rattle.prl_board.specs.declared.seats.Place.TheVariants as places
 use Rattle.prl_exec.proofs.Rounds.{left_over, one_more_over}
 use Rattle.prl_exec.proofs.alone.is_over.Goals as goal

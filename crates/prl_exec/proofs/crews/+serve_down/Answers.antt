@@ -1,7 +1,5 @@
-use Rattle.std.proofs.Common.{◌≡◌, ◌+◌, ℕ, [], ◌∷◌, Some, length, length-append, ap, ◌∙◌, subst, arith, inl, inr}
-use Rattle.std.specs.Prelude.{slice_get}
+use Rattle.prl_base.proofs.Standard.{◌≡◌, ◌+◌, ℕ, [], ◌∷◌, Some, length, length-append, ap, ◌∙◌, subst, arith, inl, inr, slice_get, cases_eq}
 use Rattle.std.specs.Vec.{vec_items}
-use Rattle.std.proofs.lemmas.Bool.{cases_eq}
 use Rattle.prl_exec.specs.code.Hands.{HasOwn}
 use Rattle.prl_exec.proofs.Holding.{get_front, get_last}
 use Rattle.prl_exec.proofs.crews.«+serve_down».Goals as goal

@@ -1,8 +1,5 @@
-use Rattle.std.proofs.Common.{◌≡◌, ◌+◌, ◌%◌, ℕ, arith, subst, sym, ◌∙◌, List, Option, Some}
-use Rattle.std.specs.Prelude.{◌==◌, slice_set}
+use Rattle.prl_base.proofs.Standard.{◌≡◌, ◌+◌, ◌%◌, ℕ, arith, subst, sym, ◌∙◌, List, Option, Some, ◌==◌, slice_set, nat_tests, slice_get_within}
 use Rattle.std.specs.Vec.{vec_items}
-use Rattle.std.proofs.lemmas.Bool.Decides.{nat_tests}
-use Rattle.std.proofs.lemmas.Option.{slice_get_within}
 use Rattle.prl_seats.specs.JobSeats.{JobSeatView}
 use Rattle.prl_board.proofs.Lists.{read_there}
 use Rattle.prl_exec.proofs.Dealt.{IsDealt, more_dealt}

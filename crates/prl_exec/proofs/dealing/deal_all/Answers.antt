@@ -1,8 +1,6 @@
-use Rattle.std.proofs.Common.{◌≡◌, ◌+◌, ◌%◌, ◌≤◌, [], ◌∷◌, Option, length, length-append, arith, subst, sym, ap, ◌∙◌, inl, inr, ⊎_elim}
-use Rattle.std.specs.Prelude.{slice_get}
+use Rattle.prl_base.proofs.Standard.{◌≡◌, ◌+◌, ◌%◌, ◌≤◌, [], ◌∷◌, Option, length, length-append, arith, subst, sym, ap, ◌∙◌, inl, inr, ⊎_elim, slice_get, Vec}
 use Rattle.std.specs.Vec.{vec_items}
 use Rattle.prl_rule.specs.Known.{run_of}
-use Rattle.std.specs.Prelude.{Vec}
 use Rattle.std.specs.declared.alloc.Global.{Global}
 use Rattle.prl_seats.specs.JobSeats.{JobSeatView}
 use Rattle.prl_exec.specs.code.Hands.{AreHeld, HasOwn}

@@ -1,5 +1,4 @@
-use Rattle.std.proofs.Common.{◌≡◌, [], ◌∷◌, List, Option, Some, None, length, length-append, arith, sym, ap, ◌∙◌, ⊎_elim}
-use Rattle.std.specs.Prelude.{slice_get}
+use Rattle.prl_base.proofs.Standard.{◌≡◌, [], ◌∷◌, List, Option, Some, None, length, length-append, arith, sym, ap, ◌∙◌, ⊎_elim, slice_get}
 use Rattle.std.specs.Vec.{vec_items}
 use Rattle.prl_seats.specs.JobSeats.{JobSeatView}
 use Rattle.prl_exec.proofs.Dealt.{get_more}

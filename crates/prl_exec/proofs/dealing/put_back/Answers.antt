@@ -1,8 +1,6 @@
-use Rattle.std.proofs.Common.{◌≡◌, ◌+◌, arith, subst, sym, ap, ◌∙◌, Option, Some, ⊎_elim}
-use Rattle.std.specs.Prelude.{slice_set}
-use Rattle.prl_seats.specs.JobSeats.{JobSeatView}
+use Rattle.prl_base.proofs.Standard.{◌≡◌, ◌+◌, arith, subst, sym, ap, ◌∙◌, Option, Some, ⊎_elim, slice_set, slice_get_within}
 use Rattle.std.specs.Vec.{vec_items}
-use Rattle.std.proofs.lemmas.Option.{slice_get_within}
+use Rattle.prl_seats.specs.JobSeats.{JobSeatView}
 use Rattle.prl_board.proofs.Lists.{read_there}
 use Rattle.prl_exec.proofs.Dealt.{ArePut, more_put}
 use Rattle.prl_exec.proofs.dealing.put_back.Goals as goal

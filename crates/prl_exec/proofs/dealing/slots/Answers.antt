@@ -1,7 +1,5 @@
-use Rattle.std.proofs.Common.{◌≡◌, ◌+◌, [], ◌∷◌, List, Some, length, length-append, length-set, arith, sym, ap, ◌∙◌, inl, inr, ⊎_elim}
-use Rattle.std.specs.Prelude.{slice_get}
+use Rattle.prl_base.proofs.Standard.{◌≡◌, ◌+◌, [], ◌∷◌, List, Some, length, length-append, length-set, arith, sym, ap, ◌∙◌, inl, inr, ⊎_elim, slice_get, cases_eq}
 use Rattle.std.specs.Vec.{vec_items}
-use Rattle.std.proofs.lemmas.Bool.{cases_eq}
 use Rattle.prl_seats.specs.JobSeats.{JobSeatView}
 use Rattle.prl_board.proofs.Lists.{read_there, set_at, set_else, set_here}
 use Rattle.prl_exec.proofs.Holding.{get_front, get_last}

@@ -1,5 +1,4 @@
-use Rattle.std.proofs.Common.{Option, subst}
-use Rattle.std.specs.Prelude.{IfNone, IfSome}
+use Rattle.prl_base.proofs.Standard.{Option, subst, IfNone, IfSome}
 use Rattle.prl_exec.specs.Vocabulary.{Missed, IsOver, IsOverrunIn}
 use Rattle.prl_rule.specs.Known.{run_of}
 use Rattle.prl_exec.proofs.Rounds.{all_ended}

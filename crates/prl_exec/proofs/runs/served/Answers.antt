@@ -1,5 +1,4 @@
-use Rattle.std.proofs.Common.{◌-◌, ◌%◌, ◌<◌, ℕ, arith, inl, inr}
-use Rattle.std.proofs.lemmas.Bool.{cases_eq}
+use Rattle.prl_base.proofs.Standard.{◌-◌, ◌%◌, ◌<◌, ℕ, arith, inl, inr, cases_eq}
 use denote.Param.Send.{sendable}
 use denote.Ref.{NamedLft}
 use Rattle.prl_seats.specs.contracts.board.Board as Board

@@ -1,5 +1,4 @@
-use Rattle.std.proofs.Common.{arith, ◌≡◌, Some}
-use Rattle.std.specs.Prelude.{slice_get}
+use Rattle.prl_base.proofs.Standard.{arith, ◌≡◌, Some, slice_get}
 use Rattle.std.specs.Vec.{vec_items}
 use Rattle.prl_board.proofs.Lists.{read_there}
 use Rattle.prl_exec.proofs.Holding.{polled_held, polled_kept}

@@ -1,5 +1,4 @@
-use Rattle.std.proofs.Common.{◌≡◌, ◌∙◌, ℕ, List, Ok, ap, sym, subst, arith, length}
-use Rattle.std.proofs.lemmas.List.{length-map}
+use Rattle.prl_base.proofs.Standard.{◌≡◌, ◌∙◌, ℕ, List, Ok, ap, sym, subst, arith, length, length-map}
 use Rattle.prl_ast.specs.Trees.{program_tree}
 use Rattle.prl_base.specs.declared.operators.Clock.{Clock}
 use Rattle.prl_behaviours.specs.Behaviours.{state_in}

@@ -1,9 +1,8 @@
-use Rattle.std.proofs.Common.{ℕ, Ok, ◌≡◌, subst}
+use Rattle.prl_base.proofs.Standard.{ℕ, Ok, ◌≡◌, subst, err_from_is_err_and}
 use Rattle.prl_sensors.specs.SensorRows.{sensors_of}
 use Rattle.prl_stages.proofs.Inputs.{enough_rows, typed_rows}
 use Rattle.prl_stages.specs.Vocabulary.{text_of, inputs_of, needs_of}
 use Rattle.prl_stages.specs.declared.faults.InputFile.TheVariants as parts
-use Rattle.std.proofs.lemmas.Result.{err_from_is_err_and}
 use Rattle.prl_executions.proofs.TooMany.{too_many_values}
 use Rattle.prl_executions.proofs.flows.values.Goals as goal
 

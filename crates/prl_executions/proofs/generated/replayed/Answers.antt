@@ -1,5 +1,4 @@
-use Rattle.std.proofs.Common.{◌∙◌, sym, subst}
-use Rattle.std.specs.Prelude.{All}
+use Rattle.prl_base.proofs.Standard.{◌∙◌, sym, subst, All}
 use Rattle.prl_plan.specs.Vocabulary.{alone, constants_of, opening}
 use Rattle.prl_track.specs.Machine.{IsOfPlan}
 use Rattle.prl_calls.specs.Stops.{given_of}

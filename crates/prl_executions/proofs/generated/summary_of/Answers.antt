@@ -1,7 +1,5 @@
-use Rattle.std.proofs.Common.{◌∙◌, ap, length, rules}
+use Rattle.prl_base.proofs.Standard.{◌∙◌, ap, length, rules, to_z-of_z, w128}
 use mir.Val.{SFits}
-use Rattle.std.proofs.lemmas.Int.{to_z-of_z}
-use Rattle.std.specs.Int.{w128}
 use Rattle.prl_stages.specs.Ran.{summary_line}
 use Rattle.prl_rule.specs.declared.views.Gate.TheVariants as gates
 use Rattle.prl_calls.specs.Stops.{given_of}

@@ -1,8 +1,5 @@
-use Rattle.std.proofs.Common.{◌++◌, ◌∙◌, ℕ, List, length, ap, rules}
+use Rattle.prl_base.proofs.Standard.{◌++◌, ◌∙◌, ℕ, List, length, ap, rules, to_z-of_z, signed_decimal, w128}
 use mir.Val.{SFits}
-use Rattle.std.proofs.lemmas.Int.{to_z-of_z}
-use Rattle.std.specs.Fmt.{signed_decimal}
-use Rattle.std.specs.Int.{w128}
 use Rattle.prl_plan.specs.declared.graphs.TaskGraph.{TaskGraph}
 use Rattle.prl_stages.specs.Ran.{summary_line}
 use Rattle.prl_executions.proofs.Pieces.{summary_pieces}

@@ -1,5 +1,4 @@
-use Rattle.std.proofs.Common.{◌++◌, List, [], ◌∷◌}
-use Rattle.std.proofs.lemmas.Result.{err_from_is_err_and}
+use Rattle.prl_base.proofs.Standard.{◌++◌, List, [], ◌∷◌, err_from_is_err_and}
 use Rattle.prl_arguments.specs.declared.arguments.Mode.TheVariants as modes
 use Rattle.prl_stages.specs.Stages.{front, ran, stages_after}
 use Rattle.prl_stages.specs.declared.stages.Stage.{Stage}

@@ -1,5 +1,4 @@
-use Rattle.std.proofs.Common.{◌≡◌, ◌≢◌, List, Result, Ok, Err, MatchResult, IfErr, sym, ◌∙◌, subst}
-use Rattle.std.specs.Prelude.{All}
+use Rattle.prl_base.proofs.Standard.{◌≡◌, ◌≢◌, List, Result, Ok, Err, MatchResult, IfErr, sym, ◌∙◌, subst, All}
 use Rattle.prl_core.specs.Cores.{opened_on}
 use Rattle.prl_plan.specs.Vocabulary.{Placement, constants_on, IsComplete, IsLegal, opening, after_events}
 use Rattle.prl_plan.specs.declared.events.Event.{Event}

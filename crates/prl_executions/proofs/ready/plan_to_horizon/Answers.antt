@@ -1,5 +1,4 @@
-use Rattle.std.proofs.Common.{[], ◌∷◌, inl}
-use Rattle.std.proofs.lemmas.Result.{err_from_is_err_and}
+use Rattle.prl_base.proofs.Standard.{[], ◌∷◌, inl, err_from_is_err_and}
 use Rattle.prl_stages.specs.Stages.{planned}
 use Rattle.prl_stages.specs.declared.stages.Stage.TheVariants as stages
 use Rattle.prl_calls.specs.Stops.{given_of}

@@ -1,5 +1,4 @@
-use Rattle.std.proofs.Common.{refl}
-use Rattle.std.proofs.lemmas.Result.{err_from_is_err_and}
+use Rattle.prl_base.proofs.Standard.{refl, err_from_is_err_and}
 use Rattle.prl_calls.specs.Stops.{given_of}
 use Rattle.prl_executions.proofs.Preparing.{horizon_there}
 use Rattle.prl_executions.proofs.running.ended_text.Goals as goal

@@ -1,5 +1,4 @@
-use Rattle.std.proofs.Common.{◌++◌, ◌∷◌, []}
-use Rattle.std.proofs.lemmas.Result.{err_from_is_err_and}
+use Rattle.prl_base.proofs.Standard.{◌++◌, ◌∷◌, [], err_from_is_err_and}
 use Rattle.prl_stages.specs.Stages.{front, ran}
 use Rattle.prl_stages.specs.declared.stages.Stage.TheVariants as stages
 use Rattle.prl_calls.specs.Stops.{given_of}

@@ -1,5 +1,4 @@
-use Rattle.std.proofs.Common.{ℕ, ◌≡◌, ◌<◌, ◌≤◌, ◌∙◌, ap, arith, length, map, subst, sym}
-use Rattle.std.specs.List.{range_with_len}
+use Rattle.prl_base.proofs.Standard.{ℕ, ◌≡◌, ◌<◌, ◌≤◌, ◌∙◌, ap, arith, length, map, subst, sym, range_with_len}
 use Rattle.prl_ast.specs.Trees.{NodeTree, node_tree, program_tree}
 use Rattle.prl_ast.specs.declared.declarations.Program.{Program}
 use Rattle.prl_flow.specs.Vocabulary.{IsFlat, IsSolution}

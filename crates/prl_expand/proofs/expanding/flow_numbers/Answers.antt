@@ -1,5 +1,4 @@
-use Rattle.std.proofs.Common.{◌≡◌, ◌+◌, [], ◌∷◌, ◌++◌, ◌∙◌, ap, arith, sym}
-use Rattle.std.proofs.lemmas.List.FromFn.{map-range_with_len_more}
+use Rattle.prl_base.proofs.Standard.{◌≡◌, ◌+◌, [], ◌∷◌, ◌++◌, ◌∙◌, ap, arith, sym, map-range_with_len_more}
 use Rattle.prl_expand.specs.Flats.{flow_no}
 use Rattle.prl_expand.proofs.expanding.flow_numbers.Goals as goal
 

@@ -1,5 +1,4 @@
-use Rattle.std.proofs.Common.{◌≡◌, map}
-use Rattle.std.specs.List.{range_with_len}
+use Rattle.prl_base.proofs.Standard.{◌≡◌, map, range_with_len}
 use Rattle.prl_expand.specs.Flats.{flow_no}
 use Rattle.prl_expand.proofs.expanding.flow_numbers.Given as goal
 

@@ -1,5 +1,4 @@
-use Rattle.std.proofs.Common.{[], ◌∷◌, ◌++◌, ◌∙◌, ap, map, sym}
-use Rattle.std.proofs.lemmas.List.{map-append}
+use Rattle.prl_base.proofs.Standard.{[], ◌∷◌, ◌++◌, ◌∙◌, ap, map, sym, map-append}
 use Rattle.prl_flow.specs.declared.programs.Def.TheVariants as definitions
 use Rattle.prl_expand.specs.code.Variables.{def_of}
 use Rattle.prl_expand.proofs.Whole.{sensors_more}

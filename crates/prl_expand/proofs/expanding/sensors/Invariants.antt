@@ -1,5 +1,4 @@
-use Rattle.std.proofs.Common.{◌≡◌, map}
-use Rattle.std.specs.List.{range_with_len}
+use Rattle.prl_base.proofs.Standard.{◌≡◌, map, range_with_len}
 use Rattle.prl_expand.specs.Vocabulary.{sensors_from, def_of}
 use Rattle.prl_expand.proofs.expanding.sensors.Given as goal
 

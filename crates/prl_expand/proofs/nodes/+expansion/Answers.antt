@@ -1,5 +1,4 @@
-use Rattle.std.proofs.Common.{ℕ, ◌≡◌, ◌<◌, ◌+◌, ◌-◌, ◌++◌, [], ◌∙◌, Some, ap, arith, length, map, refl, slice_get, subst, sym}
-use Rattle.std.proofs.lemmas.Option.{slice_get_read}
+use Rattle.prl_base.proofs.Standard.{ℕ, ◌≡◌, ◌<◌, ◌+◌, ◌-◌, ◌++◌, [], ◌∙◌, Some, ap, arith, length, map, refl, slice_get, subst, sym, slice_get_read}
 use Rattle.prl_ast.specs.Trees.{apply, equation_tree, group, node_tree, program_tree, root_of, tree_of}
 use Rattle.prl_ast.specs.declared.declarations.Import.{Import}
 use Rattle.prl_ast.specs.declared.declarations.Program.{Program}

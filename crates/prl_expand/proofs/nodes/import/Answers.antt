@@ -1,5 +1,4 @@
-use Rattle.std.proofs.Common.{◌≤◌, ◌+◌, ◌∙◌, ap, length, map}
-use Rattle.std.specs.List.{range_with_len}
+use Rattle.prl_base.proofs.Standard.{◌≤◌, ◌+◌, ◌∙◌, ap, length, map, range_with_len}
 use Rattle.prl_expand.specs.Vocabulary.{Next, types_of, arg_of, flow_of}
 use Rattle.prl_expand.proofs.Adding.{import_adds, output_flows_of, output_types_of}
 use Rattle.prl_expand.proofs.Expressions.{next_of}

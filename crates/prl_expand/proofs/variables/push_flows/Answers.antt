@@ -1,5 +1,4 @@
-use Rattle.std.proofs.Common.{ap, drop, map}
-use Rattle.std.proofs.lemmas.List.{drop_all}
+use Rattle.prl_base.proofs.Standard.{ap, drop, map, drop_all}
 use Rattle.prl_expand.specs.code.Variables.{def_of, param_of}
 use Rattle.prl_expand.proofs.TermLists.{defs_end, terms_end}
 use Rattle.prl_expand.proofs.variables.push_flows.Goals as goal

@@ -1,5 +1,4 @@
-use Rattle.std.proofs.Common.{◌≡◌, map}
-use Rattle.std.specs.List.{range_with_len}
+use Rattle.prl_base.proofs.Standard.{◌≡◌, map, range_with_len}
 use Rattle.prl_ast.specs.Trees.{program_tree}
 use Rattle.prl_expand.specs.Vocabulary.{have_types, types_of, flow_of}
 use Rattle.prl_expand.proofs.variables.variables.Given as goal

@@ -1,5 +1,4 @@
-use Rattle.std.proofs.Common.{subst}
-use Rattle.std.specs.Option.{option_copied}
+use Rattle.prl_base.proofs.Standard.{subst, option_copied}
 use Rattle.prl_stages.specs.PlansAlone.{IsNoPlan, program_alone}
 use Rattle.prl_stages.specs.declared.stages.Stop.{Stop}
 use Rattle.prl_explain.proofs.Plans.{no_plan_is}

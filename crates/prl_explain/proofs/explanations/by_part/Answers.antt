@@ -1,8 +1,5 @@
-use Rattle.std.proofs.Common.{◌∙◌, ℕ, List, Option, ap, map, subst}
+use Rattle.prl_base.proofs.Standard.{◌∙◌, ℕ, List, Option, ap, map, subst, IfOk, option_map, string_bytes}
 use denote.Ref.{Bor}
-use Rattle.std.specs.Prelude.{IfOk}
-use Rattle.std.specs.Option.{option_map}
-use Rattle.std.specs.String.{string_bytes}
 use Rattle.prl_companions.specs.Pairs.{value_of}
 use Rattle.prl_explain.specs.Explanations.{IsByNamed}
 use Rattle.prl_explain.specs.Texts.{option_of}

@@ -1,12 +1,7 @@
-use Rattle.std.proofs.Common.{◌≡◌, ◌∙◌, ℕ, List, Option, map, drop, Result, Ok, Err, ap, sym, subst}
-use Rattle.std.specs.Prelude.{IfOk, IfErr, vec_items}
-use Rattle.std.specs.String.{string_bytes}
-use Rattle.std.proofs.lemmas.List.{drop-map}
+use Rattle.prl_base.proofs.Standard.{◌≡◌, ◌∙◌, ℕ, List, Option, map, drop, Result, Ok, Err, ap, sym, subst, IfOk, IfErr, vec_items, string_bytes, drop-map, OnFalse, OnFalse_at, OnFalse_from}
 use Rattle.prl_io.specs.Views.{SinkView}
 use Rattle.prl_companions.specs.declared.endings.Stop.{Stop}
 use Rattle.prl_companions.specs.Endings.{Ends}
-use Rattle.std.specs.Bool.{OnFalse}
-use Rattle.std.proofs.lemmas.Bool.{OnFalse_at, OnFalse_from}
 use Rattle.prl_explain.specs.Explanations.{IsExplanation, IsStop, asks_help}
 use Rattle.prl_wrong.specs.Dashes.{before_dashes, from_dashes}
 use Rattle.prl_explain.proofs.explanations.explain.Goals as goal

@@ -1,5 +1,4 @@
-use Rattle.std.proofs.Common.{◌≡◌, ◌++◌, take}
-use Rattle.std.specs.List.{flat_map}
+use Rattle.prl_base.proofs.Standard.{◌≡◌, ◌++◌, take, flat_map}
 use Rattle.prl_schedules.specs.ScheduleTexts.{names_of}
 use Rattle.prl_explain.specs.Placings.{name_text}
 use Rattle.prl_explain.proofs.placings.push_names.Given as goal

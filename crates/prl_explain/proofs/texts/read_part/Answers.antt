@@ -1,5 +1,4 @@
-use Rattle.std.proofs.Common.{map}
-use Rattle.std.specs.String.{string_bytes}
+use Rattle.prl_base.proofs.Standard.{map, string_bytes}
 use Rattle.prl_explain.proofs.Readings.{named_is}
 use Rattle.prl_explain.proofs.texts.read_part.Goals as goal
 

@@ -1,6 +1,4 @@
-use Rattle.std.proofs.Common.{map}
-use Rattle.std.proofs.lemmas.Result.{err_from_is_err_and}
-use Rattle.std.specs.String.{string_bytes}
+use Rattle.prl_base.proofs.Standard.{map, err_from_is_err_and, string_bytes}
 use Rattle.prl_explain.proofs.Stops.{stop_from}
 use Rattle.prl_explain.proofs.texts.read_plans.Goals as goal
 

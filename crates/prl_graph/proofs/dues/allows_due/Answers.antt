@@ -1,5 +1,4 @@
-use Rattle.std.proofs.Common.{sym, ◌∙◌}
-use Rattle.std.proofs.lemmas.Bool.{false≢true}
+use Rattle.prl_base.proofs.Standard.{sym, ◌∙◌, false≢true}
 use Rattle.prl_graph.specs.Dues.{copy}
 use Rattle.prl_graph.proofs.DueFacts.{nowhere_allowed, output_marked}
 use Rattle.prl_graph.proofs.dues.allows_due.Goals as goal

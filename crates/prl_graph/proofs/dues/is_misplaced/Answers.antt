@@ -1,5 +1,4 @@
-use Rattle.std.proofs.Common.{Bool, true, false, ◌≡◌, refl, sym}
-use Rattle.std.specs.Prelude.{not}
+use Rattle.prl_base.proofs.Standard.{Bool, true, false, ◌≡◌, refl, sym, not}
 use Rattle.prl_graph.proofs.DueFacts.{misplaced_is, undue_placed}
 use Rattle.prl_graph.proofs.Lists.{item_of}
 use Rattle.prl_graph.proofs.dues.is_misplaced.Goals as goal

@@ -1,5 +1,4 @@
-use Rattle.std.proofs.Common.{subst, List}
-use Rattle.std.proofs.lemmas.Result.{err_from_is_err_and}
+use Rattle.prl_base.proofs.Standard.{subst, List, err_from_is_err_and}
 use Rattle.prl_base.specs.declared.operators.Clock.{Clock}
 use Rattle.prl_graph.specs.Vocabulary.{IsHyperperiod}
 use Rattle.prl_graph.proofs.TaskFacts.{small_periods}

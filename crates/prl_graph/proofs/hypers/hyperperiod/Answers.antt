@@ -1,5 +1,4 @@
-use Rattle.std.proofs.Common.{arith}
-use Rattle.std.proofs.lemmas.Option.{slice_get-get_or}
+use Rattle.prl_base.proofs.Standard.{arith, slice_get-get_or}
 use Rattle.prl_base.specs.declared.operators.Clock.{Clock}
 use Rattle.prl_graph.proofs.Multiples.{hyper_all, hyper_more, hyper_none, past_hyper}
 use Rattle.prl_graph.proofs.hypers.hyperperiod.Goals as goal

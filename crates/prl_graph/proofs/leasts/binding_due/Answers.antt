@@ -1,5 +1,4 @@
-use Rattle.std.proofs.Common.{sym, ◌∙◌}
-use Rattle.std.proofs.lemmas.Bool.{false≢true}
+use Rattle.prl_base.proofs.Standard.{sym, ◌∙◌, false≢true}
 use Rattle.prl_graph.proofs.DueFacts.{binding_is, marked_output, no_due, output_marked}
 use Rattle.prl_graph.proofs.Lists.{item_of}
 use Rattle.prl_graph.proofs.leasts.binding_due.Goals as goal

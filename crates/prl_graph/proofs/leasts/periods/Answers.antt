@@ -1,6 +1,4 @@
-use Rattle.std.proofs.Common.{◌≡◌, ◌∙◌, Some, List, ap, slice_get, length, refl, arith, sym}
-use Rattle.std.proofs.lemmas.List.{length_push}
-use Rattle.std.proofs.lemmas.Option.{slice_get_read}
+use Rattle.prl_base.proofs.Standard.{◌≡◌, ◌∙◌, Some, List, ap, slice_get, length, refl, arith, sym, length_push, slice_get_read}
 use Rattle.prl_flow.specs.declared.programs.App.{App}
 use Rattle.prl_graph.proofs.LeastDues.{has_clock, none_bound, one_period}
 use Rattle.prl_graph.proofs.leasts.periods.Goals as goal

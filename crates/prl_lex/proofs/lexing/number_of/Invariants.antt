@@ -1,5 +1,4 @@
-use Rattle.std.proofs.Common.{◌≡◌, ◌<◌, ◌^◌, drop}
-use Rattle.std.specs.Str.Parse.{digits_value, digits_value_after}
+use Rattle.prl_base.proofs.Standard.{◌≡◌, ◌<◌, ◌^◌, drop, digits_value, digits_value_after}
 use Rattle.prl_lex.proofs.lexing.number_of.Given as goal
 
 -- what is left continues the number so far

@@ -1,6 +1,4 @@
-use Rattle.std.proofs.Common.{◌≡◌, ◌+◌, List, drop, subst, ◌++◌, ◌∷◌, [], sym, ap, ◌∙◌, length, length-drop, arith}
-use Rattle.std.proofs.lemmas.List.{take_rest}
-use Rattle.std.proofs.lemmas.Result.{err_from_is_err_and}
+use Rattle.prl_base.proofs.Standard.{◌≡◌, ◌+◌, List, drop, subst, ◌++◌, ◌∷◌, [], sym, ap, ◌∙◌, length, length-drop, arith, take_rest, err_from_is_err_and}
 use Rattle.prl_lex.specs.Vocabulary.{tokens_from, tokens_of, Token, kind_of}
 use Rattle.prl_lex.proofs.Laws.{digits_of_number}
 use Rattle.prl_lex.proofs.Steps.{with_front, gap_step, bad_step, token_step, fault_step, all_read}

@@ -1,5 +1,4 @@
-use Rattle.std.proofs.Common.{sym, ap, ◌∙◌, arith}
-use Rattle.std.proofs.lemmas.List.{take_rest}
+use Rattle.prl_base.proofs.Standard.{sym, ap, ◌∙◌, arith, take_rest}
 use Rattle.prl_lex.specs.Tokens.{begins}
 use Rattle.prl_lex.proofs.Closing.{closing_more}
 use Rattle.prl_lex.proofs.pieces.closing_len.Goals as goal

@@ -1,5 +1,4 @@
-use Rattle.std.proofs.Common.{◌≡◌, ◌+◌, drop}
-use Rattle.std.specs.Option.{option_map}
+use Rattle.prl_base.proofs.Standard.{◌≡◌, ◌+◌, drop, option_map}
 use Rattle.prl_lex.specs.Tokens.{closing_len}
 use Rattle.prl_lex.proofs.pieces.closing_len.Given as goal
 

@@ -1,5 +1,4 @@
-use Rattle.std.proofs.Common.{◌≡◌, ◌+◌, drop}
-use Rattle.std.specs.List.{prefix_len}
+use Rattle.prl_base.proofs.Standard.{◌≡◌, ◌+◌, drop, prefix_len}
 use Rattle.prl_base.specs.Names.{is_word_byte}
 use Rattle.prl_lex.proofs.pieces.word_len.Given as goal
 

@@ -1,6 +1,5 @@
-use Rattle.std.proofs.Common.{◌≡◌, ◌++◌, drop, map}
+use Rattle.prl_base.proofs.Standard.{◌≡◌, ◌++◌, drop, map, flat_map}
 use Rattle.prl_ast.specs.Trees.{EquationTree, equation_tree}
-use Rattle.std.specs.List.{flat_map}
 use Rattle.prl_names.specs.Mentions.{all_placed}
 use Rattle.prl_names.proofs.absences.lefts.Given as goal
 

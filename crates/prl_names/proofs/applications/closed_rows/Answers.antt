@@ -1,5 +1,4 @@
-use Rattle.std.proofs.Common.{◌<◌, length, sym, ◌∙◌, add-one}
-use Rattle.std.proofs.lemmas.List.{length-map}
+use Rattle.prl_base.proofs.Standard.{◌<◌, length, sym, ◌∙◌, add-one, length-map}
 use Rattle.prl_ast.specs.Trees.{program_tree, node_tree}
 use Rattle.prl_names.specs.Marks.{led_through, row_of}
 use Rattle.prl_names.proofs.Rowing.{rows_square, all_led}

@@ -1,5 +1,4 @@
-use Rattle.std.proofs.Common.{sym}
-use Rattle.std.proofs.lemmas.List.{length-map}
+use Rattle.prl_base.proofs.Standard.{sym, length-map}
 use Rattle.prl_ast.specs.Trees.{program_tree}
 use Rattle.prl_names.proofs.Marking.{callee_below}
 use Rattle.prl_names.proofs.applications.mark_callee.Goals as goal

@@ -1,5 +1,4 @@
-use Rattle.std.proofs.Common.{◌≡◌, false, replicate, length, sym, ◌∙◌, ap}
-use Rattle.std.proofs.lemmas.List.{length-map}
+use Rattle.prl_base.proofs.Standard.{◌≡◌, false, replicate, length, sym, ◌∙◌, ap, length-map}
 use Rattle.prl_ast.specs.Trees.{program_tree, node_tree}
 use Rattle.prl_names.specs.Vocabulary.{applied_equations, Adds}
 use Rattle.prl_names.proofs.Rowing.{first_row, kept_row}

@@ -1,8 +1,7 @@
-use Rattle.std.proofs.Common.{◌≡◌, ◌++◌, drop, map, filter}
+use Rattle.prl_base.proofs.Standard.{◌≡◌, ◌++◌, drop, map, filter, flat_map}
 use Rattle.std.specs.Option.{is_some}
 use Rattle.prl_ast.specs.Trees.{EquationTree, program_tree, equation_tree}
 use Rattle.prl_ast.specs.declared.declarations.Placed.{Placed}
-use Rattle.std.specs.List.{flat_map}
 use Rattle.prl_names.specs.Vocabulary.{all_placed, param_at}
 use Rattle.prl_names.proofs.repeats.definitions.Given as goal
 

@@ -1,6 +1,4 @@
-use Rattle.std.proofs.Common.{◌≡◌, subst, Option, IfOk}
-use Rattle.std.specs.Option.{option_map}
-use Rattle.std.proofs.lemmas.Simd.{map-map}
+use Rattle.prl_base.proofs.Standard.{◌≡◌, subst, Option, IfOk, option_map, map-map}
 use Rattle.prl_ast.specs.Trees.{node_tree, program_tree}
 use Rattle.prl_ast.specs.declared.declarations.Placed.{Placed}
 use Rattle.prl_names.specs.Mentions.{placed_of}

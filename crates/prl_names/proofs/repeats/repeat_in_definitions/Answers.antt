@@ -1,5 +1,4 @@
-use Rattle.std.proofs.Common.{◌≡◌, ◌∙◌, ap}
-use Rattle.std.specs.Option.{option_map}
+use Rattle.prl_base.proofs.Standard.{◌≡◌, ◌∙◌, ap, option_map}
 use Rattle.prl_ast.specs.Trees.{program_tree, node_tree}
 use Rattle.prl_names.specs.Vocabulary.{all_placed, placed_of, first_of, repeat_in, definition_space}
 use Rattle.prl_names.proofs.Repeating.{defined_step, definitions_at, node_at}

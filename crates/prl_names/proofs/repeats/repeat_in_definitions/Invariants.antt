@@ -1,5 +1,4 @@
-use Rattle.std.proofs.Common.{◌≡◌, drop, map}
-use Rattle.std.specs.Option.{option_map}
+use Rattle.prl_base.proofs.Standard.{◌≡◌, drop, map, option_map}
 use Rattle.prl_ast.specs.Trees.{node_tree}
 use Rattle.prl_names.specs.Vocabulary.{placed_of, earliest_repeat, definition_space}
 use Rattle.prl_names.proofs.repeats.repeat_in_definitions.Given as goal

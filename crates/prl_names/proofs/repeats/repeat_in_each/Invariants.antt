@@ -1,5 +1,4 @@
-use Rattle.std.proofs.Common.{◌≡◌, drop, map}
-use Rattle.std.specs.Option.{option_map}
+use Rattle.prl_base.proofs.Standard.{◌≡◌, drop, map, option_map}
 use Rattle.prl_names.specs.Vocabulary.{placed_of, earliest_repeat}
 use Rattle.prl_names.proofs.repeats.repeat_in_each.Given as goal
 

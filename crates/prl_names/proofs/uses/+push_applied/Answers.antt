@@ -1,5 +1,4 @@
-use Rattle.std.proofs.Common.{ap, ◌∙◌, append_assoc}
-use Rattle.std.proofs.lemmas.List.{map-append}
+use Rattle.prl_base.proofs.Standard.{ap, ◌∙◌, append_assoc, map-append}
 use Rattle.prl_ast.specs.Trees.{root_of}
 use Rattle.prl_names.proofs.Rows.{root_of_Apply, root_of_Group}
 use Rattle.prl_names.proofs.uses.+push_applied.Goals as goal

@@ -1,5 +1,4 @@
-use Rattle.std.proofs.Common.{◌≡◌, ◌++◌, drop, map}
-use Rattle.std.specs.List.{flat_map}
+use Rattle.prl_base.proofs.Standard.{◌≡◌, ◌++◌, drop, map, flat_map}
 use Rattle.prl_ast.specs.Trees.{EquationTree, equation_tree}
 use Rattle.prl_names.specs.Vocabulary.{names_in, applied_names}
 use Rattle.prl_names.proofs.uses.push_node.Given as goal

@@ -1,6 +1,4 @@
-use Rattle.std.proofs.Common.{◌≡◌, ◌<◌, ◌≤◌, length}
-use Rattle.std.specs.Prelude.{All}
-use Rattle.std.specs.List.{range_with_len}
+use Rattle.prl_base.proofs.Standard.{◌≡◌, ◌<◌, ◌≤◌, length, All, range_with_len}
 use Rattle.prl_picture.proofs.chosen.all_rows.Given as goal
 
 -- the rows so far are of the tasks that were passed

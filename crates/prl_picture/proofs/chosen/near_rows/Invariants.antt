@@ -1,6 +1,4 @@
-use Rattle.std.proofs.Common.{◌≡◌, ◌<◌, ◌≤◌, ◌++◌, ◌-◌, length}
-use Rattle.std.specs.Prelude.{All}
-use Rattle.std.specs.List.{flat_map, range_with_len}
+use Rattle.prl_base.proofs.Standard.{◌≡◌, ◌<◌, ◌≤◌, ◌++◌, ◌-◌, length, All, flat_map, range_with_len}
 use Rattle.prl_picture.specs.Chosen.{near_one, near_rows}
 use Rattle.prl_picture.proofs.chosen.near_rows.Given as goal
 

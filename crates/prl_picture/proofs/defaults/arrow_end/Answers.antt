@@ -1,5 +1,4 @@
-use Rattle.std.proofs.Common.{◌≡◌, ◌≤◌, ◌∙◌, ℕ, inl, inr, true, ap, subst, arith, rules}
-use Rattle.std.proofs.lemmas.Bool.{cases_lt}
+use Rattle.prl_base.proofs.Standard.{◌≡◌, ◌≤◌, ◌∙◌, ℕ, inl, inr, true, ap, subst, arith, rules, cases_lt}
 use Rattle.prl_plan.specs.Vocabulary.{job_count, task_at, edge_at, ComesFrom}
 use Rattle.prl_plan.specs.declared.graphs.Edge.{Edge}
 use Rattle.prl_views.specs.Acts.{is_in}

@@ -1,5 +1,4 @@
-use Rattle.std.proofs.Common.{◌≡◌, ◌<◌, ◌⊎◌, ℕ, inl, inr, length, subst, sym, arith, rules}
-use Rattle.std.proofs.lemmas.Bool.{cases_lt}
+use Rattle.prl_base.proofs.Standard.{◌≡◌, ◌<◌, ◌⊎◌, ℕ, inl, inr, length, subst, sym, arith, rules, cases_lt}
 use Rattle.prl_picture.specs.Ranges.{EndsFirst, HasArrow}
 use Rattle.prl_picture.proofs.defaults.arrows_end.Goals as goal
 

@@ -1,5 +1,4 @@
-use Rattle.std.proofs.Common.{◌≡◌, ◌≤◌, ◌⊎◌, ◌∙◌, ℕ, inl, inr, min, ap, subst, sym, arith, rules}
-use Rattle.std.proofs.lemmas.Bool.{OnFalse_from}
+use Rattle.prl_base.proofs.Standard.{◌≡◌, ◌≤◌, ◌⊎◌, ◌∙◌, ℕ, inl, inr, min, ap, subst, sym, arith, rules, OnFalse_from}
 use Rattle.prl_plan.specs.declared.graphs.TaskGraph.{TaskGraph}
 use Rattle.prl_picture.specs.Ranges.{EndsFirst, HasArrow, IsForArrow, ShowsArrows, hyperperiod_end, reach}
 use Rattle.prl_picture.specs.declared.ranges.TheConstants.{MAX_UNTIL}

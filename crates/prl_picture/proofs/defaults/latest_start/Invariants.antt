@@ -1,5 +1,4 @@
-use Rattle.std.proofs.Common.{◌≡◌, ◌<◌, ◌≤◌, ◌^◌, ◌⊎◌, ℕ, length}
-use Rattle.std.specs.Prelude.{slice_index}
+use Rattle.prl_base.proofs.Standard.{◌≡◌, ◌<◌, ◌≤◌, ◌^◌, ◌⊎◌, ℕ, length, slice_index}
 use Rattle.prl_plan.specs.Jobs.{task_at}
 use Rattle.prl_picture.proofs.defaults.latest_start.Given as goal
 

@@ -1,6 +1,4 @@
-use Rattle.std.proofs.Common.{ℕ, List, map, subst, sym}
-use Rattle.std.specs.String.{string_bytes}
-use Rattle.std.proofs.lemmas.Result.{IfOk-weaker}
+use Rattle.prl_base.proofs.Standard.{ℕ, List, map, subst, sym, string_bytes, IfOk-weaker}
 use Rattle.prl_plantext.specs.ReadTexts.{IsTextOf}
 use Rattle.prl_companions.specs.Faults.{Folder}
 use Rattle.prl_picture.specs.Pictures.{IsDrawn}

@@ -1,5 +1,4 @@
-use Rattle.std.proofs.Common.{◌<◌, get_or, inl, inr, arith}
-use Rattle.std.proofs.lemmas.Bool.{cases_lt}
+use Rattle.prl_base.proofs.Standard.{◌<◌, get_or, inl, inr, arith, cases_lt}
 use Rattle.prl_plan.specs.Runs.{opening, after_events}
 use Rattle.prl_plan.proofs.Sound.{sound_opening}
 use Rattle.prl_plan.proofs.Legal.{IsGated_sound}

@@ -1,5 +1,4 @@
-use Rattle.std.proofs.Common.{◌≡◌, ◌+◌, ◌<◌, ℕ}
-use Rattle.std.specs.Prelude.{slice_get}
+use Rattle.prl_base.proofs.Standard.{◌≡◌, ◌+◌, ◌<◌, ℕ, slice_get}
 use Rattle.prl_plan.proofs.repeats.comes_within.Given as goal
 
 abbrev pub invariant-loop-i : goal.invariant-loop-i

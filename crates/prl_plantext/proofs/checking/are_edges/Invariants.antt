@@ -1,5 +1,4 @@
-use Rattle.std.proofs.Common.{◌≡◌, drop}
-use Rattle.std.specs.List.{list_all}
+use Rattle.prl_base.proofs.Standard.{◌≡◌, drop, list_all}
 use Rattle.prl_plantext.specs.code.Checks.{is_edge}
 use Rattle.prl_plantext.proofs.checking.are_edges.Given as goal
 

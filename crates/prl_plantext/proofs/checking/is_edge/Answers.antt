@@ -1,5 +1,4 @@
-use Rattle.std.proofs.Common.{rules, ◌≡◌, Some, None, slice_get, ap, sym, ◌∙◌}
-use Rattle.std.proofs.lemmas.Option.{slice_get_past, slice_get_read}
+use Rattle.prl_base.proofs.Standard.{rules, ◌≡◌, Some, None, slice_get, ap, sym, ◌∙◌, slice_get_past, slice_get_read}
 use Rattle.prl_plantext.specs.code.Checks.{is_task, leads_into}
 use Rattle.prl_plantext.proofs.Lists.{passes_at, start_is_small}
 use Rattle.prl_plantext.proofs.checking.is_edge.Goals as goal

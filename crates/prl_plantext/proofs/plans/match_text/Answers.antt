@@ -1,6 +1,4 @@
-use Rattle.std.proofs.Common.{rules, ◌≡◌, true, false, sym, ◌∙◌}
-use Rattle.std.specs.Str.{bytes_eq}
-use Rattle.std.proofs.lemmas.Bool.{false≢true}
+use Rattle.prl_base.proofs.Standard.{rules, ◌≡◌, true, false, sym, ◌∙◌, bytes_eq, false≢true}
 use Rattle.prl_plantext.proofs.Checked.{bytes_tell}
 use Rattle.prl_plantext.proofs.plans.match_text.Goals as goal
 

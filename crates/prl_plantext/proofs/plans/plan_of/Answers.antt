@@ -1,5 +1,4 @@
-use Rattle.std.proofs.Common.{rules, ◌≡◌, true, false, sym, ◌∙◌}
-use Rattle.std.proofs.lemmas.Bool.{false≢true}
+use Rattle.prl_base.proofs.Standard.{rules, ◌≡◌, true, false, sym, ◌∙◌, false≢true}
 use Rattle.prl_plantext.proofs.OneText.{outcome_of_text, well_formed_of_text}
 use Rattle.prl_plantext.proofs.plans.plan_of.Goals as goal
 

@@ -1,5 +1,4 @@
-use Rattle.std.proofs.Common.{◌≡◌, ◌++◌, take, decimal}
-use Rattle.std.specs.List.{flat_map}
+use Rattle.prl_base.proofs.Standard.{◌≡◌, ◌++◌, take, decimal, flat_map}
 use Rattle.prl_plantext.specs.PlanTexts.{after_blank}
 use Rattle.prl_plantext.proofs.printing.push_numbers.Given as goal
 

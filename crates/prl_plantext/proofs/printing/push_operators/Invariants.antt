@@ -1,5 +1,4 @@
-use Rattle.std.proofs.Common.{◌≡◌, ◌++◌, take}
-use Rattle.std.specs.List.{flat_map}
+use Rattle.prl_base.proofs.Standard.{◌≡◌, ◌++◌, take, flat_map}
 use Rattle.prl_plantext.specs.PlanTexts.{after_blank, operator_words}
 use Rattle.prl_plantext.proofs.printing.push_operators.Given as goal
 

@@ -1,5 +1,4 @@
-use Rattle.std.proofs.Common.{rules, ◌≡◌, ◌++◌, ◌∙◌, codes, decimal}
-use Rattle.std.specs.List.{flat_map}
+use Rattle.prl_base.proofs.Standard.{rules, ◌≡◌, ◌++◌, ◌∙◌, codes, decimal, flat_map}
 use Rattle.prl_plantext.specs.PlanTexts.{after_blank, window_text}
 use Rattle.prl_plantext.proofs.Lines.{more, dates_line}
 use Rattle.prl_plantext.proofs.printing.push_task_dates.Goals as goal

@@ -1,5 +1,4 @@
-use Rattle.std.proofs.Common.{rules, ◌≡◌, ◌++◌, ◌∙◌, codes, decimal, length}
-use Rattle.std.specs.List.{flat_map}
+use Rattle.prl_base.proofs.Standard.{rules, ◌≡◌, ◌++◌, ◌∙◌, codes, decimal, length, flat_map}
 use Rattle.prl_base.specs.Texts.{value_text}
 use Rattle.prl_plantext.specs.PlanTexts.{after_blank}
 use Rattle.prl_plantext.proofs.Lines.{more, more_both, word_line}

@@ -1,5 +1,4 @@
-use Rattle.std.proofs.Common.{◌<◌, ℕ, List, length, ap, sym, ◌∙◌, arith}
-use Rattle.std.proofs.lemmas.Bool.Decides.{nat_tests}
+use Rattle.prl_base.proofs.Standard.{◌<◌, ℕ, List, length, ap, sym, ◌∙◌, arith, nat_tests}
 use Rattle.prl_plantext.specs.code.Graphs.{before, lines_in, with_line, with_lines}
 use Rattle.prl_plantext.proofs.Parts.{lines_step, shorter_after}
 use Rattle.prl_plantext.proofs.reading.graph_of.Goals as goal

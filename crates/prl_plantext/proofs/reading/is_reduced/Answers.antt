@@ -1,6 +1,4 @@
-use Rattle.std.proofs.Common.{◌==◌, ℕ, ap, subst}
-use Rattle.std.specs.Int.{IsGcd}
-use Rattle.std.proofs.lemmas.Bool.{eqb-true}
+use Rattle.prl_base.proofs.Standard.{◌==◌, ℕ, ap, subst, IsGcd, eqb-true}
 use Rattle.prl_plantext.proofs.Divisors.{same_divisor}
 use Rattle.prl_plantext.proofs.reading.is_reduced.Goals as goal
 

@@ -1,6 +1,4 @@
-use Rattle.std.proofs.Common.{rules, ◌≡◌, ◌<◌, ◌++◌, ℕ, false, List, [], ◌∷◌, Some, length, codes, ap, sym, ◌∙◌, arith}
-use Rattle.std.specs.Str.{bytes_eq}
-use Rattle.std.proofs.lemmas.Bool.Decides.{nat_tests}
+use Rattle.prl_base.proofs.Standard.{rules, ◌≡◌, ◌<◌, ◌++◌, ℕ, false, List, [], ◌∷◌, Some, length, codes, ap, sym, ◌∙◌, arith, bytes_eq, nat_tests}
 use Rattle.prl_plantext.specs.code.Graphs.{first_of, operator_in, operators_in, rest_of}
 use Rattle.prl_plantext.proofs.Operators.{nothing_is_none, with_one_more, with_none_more}
 use Rattle.prl_plantext.proofs.reading.operators_in.Goals as goal

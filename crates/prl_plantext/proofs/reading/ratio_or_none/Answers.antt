@@ -1,5 +1,4 @@
-use Rattle.std.proofs.Common.{rules, ◌≤◌, w64, arith}
-use Rattle.std.proofs.lemmas.Int.{to_z_pos}
+use Rattle.prl_base.proofs.Standard.{rules, ◌≤◌, w64, arith, to_z_pos}
 use Rattle.prl_base.specs.declared.ratios.TheConstants.{MAX_PART}
 use Rattle.prl_plantext.proofs.reading.ratio_or_none.Goals as goal
 

@@ -1,6 +1,4 @@
-use Rattle.std.proofs.Common.{◌≡◌, ℕ, List, map, subst}
-use Rattle.std.specs.String.{string_bytes}
-use Rattle.std.proofs.lemmas.Result.{IfOk-weaker}
+use Rattle.prl_base.proofs.Standard.{◌≡◌, ℕ, List, map, subst, string_bytes, IfOk-weaker}
 use Rattle.prl_plan.specs.Plans.{PlanView}
 use Rattle.prl_plot.specs.declared.forms.Form.{Form}
 use Rattle.prl_steps.specs.Flows.{FlowView}

@@ -1,5 +1,4 @@
-use Rattle.std.proofs.Common.{◌≡◌, take}
-use Rattle.std.specs.List.{flat_map}
+use Rattle.prl_base.proofs.Standard.{◌≡◌, take, flat_map}
 use Rattle.prl_plot.specs.Inputs.{input_of}
 use Rattle.prl_plot.proofs.inputs.inputs_among.Given as goal
 

@@ -1,7 +1,4 @@
-use Rattle.std.proofs.Common.{◌≡◌, ◌∙◌, map, drop, ap, sym}
-use Rattle.std.specs.Prelude.{vec_items}
-use Rattle.std.specs.String.{string_bytes}
-use Rattle.std.proofs.lemmas.List.{drop-map}
+use Rattle.prl_base.proofs.Standard.{◌≡◌, ◌∙◌, map, drop, ap, sym, vec_items, string_bytes, drop-map}
 use Rattle.prl_companions.proofs.Outcomes.{answers}
 use Rattle.prl_plot.specs.Answers.{IsPlotted}
 use Rattle.prl_plot.proofs.plots.plot.Goals as goal

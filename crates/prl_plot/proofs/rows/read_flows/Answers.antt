@@ -1,6 +1,5 @@
-use Rattle.std.proofs.Common.{◌∙◌, sym}
+use Rattle.prl_base.proofs.Standard.{◌∙◌, sym, err_from_is_err_and}
 use Rattle.csv.specs.Records.{fields_of}
-use Rattle.std.proofs.lemmas.Result.{err_from_is_err_and}
 use Rattle.prl_plot.proofs.RowsRead.{one_more, no_more, all_read}
 use Rattle.prl_plot.proofs.rows.read_flows.Goals as goal
 

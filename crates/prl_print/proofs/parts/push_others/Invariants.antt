@@ -1,5 +1,4 @@
-use Rattle.std.proofs.Common.{◌≡◌, ◌++◌, take, map}
-use Rattle.std.specs.List.{flat_map}
+use Rattle.prl_base.proofs.Standard.{◌≡◌, ◌++◌, take, map, flat_map}
 use Rattle.prl_print.proofs.parts.push_others.Given as goal
 
 abbrev pub invariant-loop-part : goal.invariant-loop-part

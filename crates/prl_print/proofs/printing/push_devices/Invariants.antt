@@ -1,5 +1,4 @@
-use Rattle.std.proofs.Common.{◌≡◌, ◌++◌, take}
-use Rattle.std.specs.List.{flat_map}
+use Rattle.prl_base.proofs.Standard.{◌≡◌, ◌++◌, take, flat_map}
 use Rattle.prl_print.specs.Printing.{printed_device}
 use Rattle.prl_print.proofs.printing.push_devices.Given as goal
 

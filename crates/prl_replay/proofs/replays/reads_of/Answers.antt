@@ -1,6 +1,4 @@
-use Rattle.std.proofs.Common.{◌+◌, ◌<◌, List, length, get_or, take, refl, subst, ◌∙◌, ap, arith, vec_items}
-use Rattle.std.proofs.lemmas.Option.{slice_get-get_or}
-use Rattle.std.proofs.lemmas.List.{take_more, take_all}
+use Rattle.prl_base.proofs.Standard.{◌+◌, ◌<◌, List, length, get_or, take, refl, subst, ◌∙◌, ap, arith, vec_items, slice_get-get_or, take_more, take_all}
 use Rattle.prl_plan.specs.Rules.{IsLegal, IsComplete, IsFirstUnfinished, FirstBroken}
 use Rattle.prl_plan.specs.declared.events.Event.{Event}
 use Rattle.prl_plan.specs.declared.events.Event.TheVariants as events

@@ -1,5 +1,4 @@
-use Rattle.std.proofs.Common.{◌≡◌, List, take, vec_items}
-use Rattle.std.specs.Prelude.{filter}
+use Rattle.prl_base.proofs.Standard.{◌≡◌, List, take, vec_items, filter}
 use Rattle.prl_plan.specs.Rules.{IsLegal}
 use Rattle.prl_track.specs.declared.seen.Seen.{Seen}
 use Rattle.prl_core.specs.Cores.{constants}

@@ -1,5 +1,4 @@
-use Rattle.std.proofs.Common.{◌≡◌, List, length, sym, ap, subst, ◌∙◌}
-use Rattle.std.specs.Prelude.{All}
+use Rattle.prl_base.proofs.Standard.{◌≡◌, List, length, sym, ap, subst, ◌∙◌, All}
 use Rattle.prl_flow.specs.Actuators.{AreUpTo}
 use Rattle.prl_flow.specs.declared.programs.OutFlow.{OutFlow}
 use Rattle.prl_plan.specs.Horizons.{constants_on}

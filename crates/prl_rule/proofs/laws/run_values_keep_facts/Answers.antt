@@ -1,5 +1,4 @@
-use Rattle.std.proofs.Common.{arith}
-use Rattle.std.proofs.lemmas.Option.{slice_get-get_or}
+use Rattle.prl_base.proofs.Standard.{arith, slice_get-get_or}
 use Rattle.prl_plan.specs.Vocabulary.{IsTask, no_task, task_at}
 use Rattle.prl_rule.specs.Known.{job_values_of}
 use Rattle.prl_rule.proofs.RunFacts.{run_values_facts}

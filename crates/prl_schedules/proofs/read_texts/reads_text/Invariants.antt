@@ -1,5 +1,4 @@
-use Rattle.std.proofs.Common.{◌≡◌, take}
-use Rattle.std.specs.List.{flat_map}
+use Rattle.prl_base.proofs.Standard.{◌≡◌, take, flat_map}
 use Rattle.prl_schedules.specs.Vocabulary.{task_names, read_line}
 use Rattle.prl_schedules.proofs.read_texts.reads_text.Given as goal
 

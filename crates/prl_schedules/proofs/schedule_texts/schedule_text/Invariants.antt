@@ -1,5 +1,4 @@
-use Rattle.std.proofs.Common.{◌≡◌, take}
-use Rattle.std.specs.List.{flat_map}
+use Rattle.prl_base.proofs.Standard.{◌≡◌, take, flat_map}
 use Rattle.prl_schedules.specs.ScheduleTexts.{task_names, event_line}
 use Rattle.prl_schedules.proofs.schedule_texts.schedule_text.Given as goal
 

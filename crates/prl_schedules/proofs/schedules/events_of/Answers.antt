@@ -1,6 +1,4 @@
-use Rattle.std.proofs.Common.{rules, arith, ◌≡◌, ◌≢◌, ℕ, ◌+◌, ap, sym, ◌∙◌, subst, vec_items, ◌++◌, [], ◌∷◌, length, List, Ok, Err}
-use Rattle.std.specs.Prelude.{All}
-use Rattle.std.proofs.lemmas.List.Elements.{All-push}
+use Rattle.prl_base.proofs.Standard.{rules, arith, ◌≡◌, ◌≢◌, ℕ, ◌+◌, ap, sym, ◌∙◌, subst, vec_items, ◌++◌, [], ◌∷◌, length, List, Ok, Err, All, All-push}
 use borrow.Author.Tests.{eqb-false}
 use Rattle.prl_base.specs.Vocabulary.{lines_of, ◌>>=◌}
 use Rattle.prl_base.proofs.LineCuts.{option_map_none, length_cut}

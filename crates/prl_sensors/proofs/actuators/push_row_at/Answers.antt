@@ -1,8 +1,4 @@
-use Rattle.std.proofs.Common.{◌≡◌, ◌-◌, ◌/◌, ◌++◌, OnOk, ℕ, suc, List, length, slice_get, None, Some, refl, subst, sym, arith}
-use Rattle.std.specs.List.{flat_map}
-use Rattle.std.proofs.lemmas.Bool.{leb-true}
-use Rattle.std.proofs.lemmas.List.{append-nil}
-use Rattle.std.proofs.lemmas.Option.{slice_get_past, slice_get_read}
+use Rattle.prl_base.proofs.Standard.{◌≡◌, ◌-◌, ◌/◌, ◌++◌, OnOk, ℕ, suc, List, length, slice_get, None, Some, refl, subst, sym, arith, flat_map, leb-true, append-nil, slice_get_past, slice_get_read}
 use Rattle.prl_base.specs.Clocks.{IsClock, IsDate}
 use Rattle.prl_flow.specs.Actuators.{row_at, row_text}
 use Rattle.prl_flow.specs.declared.programs.OutFlow.{OutFlow}

@@ -1,7 +1,4 @@
-use Rattle.std.proofs.Common.{◌≡◌, ◌++◌, ℕ, List, length, slice_get, slice_index_or, take, refl, sym, ◌∙◌, ap, subst}
-use Rattle.std.specs.List.{flat_map}
-use Rattle.std.proofs.lemmas.List.{take_all}
-use Rattle.std.proofs.lemmas.Option.{slice_get_read}
+use Rattle.prl_base.proofs.Standard.{◌≡◌, ◌++◌, ℕ, List, length, slice_get, slice_index_or, take, refl, sym, ◌∙◌, ap, subst, flat_map, take_all, slice_get_read}
 use Rattle.prl_base.specs.Clocks.{IsClock}
 use Rattle.prl_flow.specs.Actuators.{row_at, row_text}
 use Rattle.prl_flow.specs.declared.programs.OutFlow.{OutFlow}

@@ -1,5 +1,4 @@
-use Rattle.std.proofs.Common.{◌≡◌, ◌++◌, slice_get, take}
-use Rattle.std.specs.List.{flat_map}
+use Rattle.prl_base.proofs.Standard.{◌≡◌, ◌++◌, slice_get, take, flat_map}
 use Rattle.prl_flow.specs.Actuators.{row_text}
 use Rattle.prl_sensors.proofs.DueRows.{row_of}
 use Rattle.prl_sensors.proofs.actuators.push_rows_at.Given as goal

@@ -1,6 +1,4 @@
-use Rattle.std.proofs.Common.{◌≡◌, ◌≤◌, All, take, sym, subst, arith, max}
-use Rattle.std.proofs.lemmas.List.{take_all}
-use Rattle.std.proofs.lemmas.List.Elements.{All-more, All-weaker}
+use Rattle.prl_base.proofs.Standard.{◌≡◌, ◌≤◌, All, take, sym, subst, arith, max, take_all, All-more, All-weaker}
 use Rattle.prl_sensors.specs.Ends.{EndsBefore}
 use Rattle.prl_sensors.proofs.RowDates.{EndsBefore_more}
 use Rattle.prl_sensors.proofs.ends.end_of.Goals as goal

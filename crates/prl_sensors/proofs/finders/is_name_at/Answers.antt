@@ -1,7 +1,4 @@
-use Rattle.std.proofs.Common.{◌≡◌, suc, length, refl, sym, ap, ◌∙◌, Some, None, slice_get, arith}
-use Rattle.std.proofs.lemmas.Bool.{leb-true}
-use Rattle.std.proofs.lemmas.Option.{slice_get_past, slice_get_read}
-use Rattle.std.proofs.lemmas.Slice.Eq.{bytes_eq-Decides}
+use Rattle.prl_base.proofs.Standard.{◌≡◌, suc, length, refl, sym, ap, ◌∙◌, Some, None, slice_get, arith, leb-true, slice_get_past, slice_get_read, bytes_eq-Decides}
 use Rattle.prl_sensors.proofs.Firsts.{some_is}
 use Rattle.prl_sensors.proofs.finders.is_name_at.Goals as goal
 

@@ -1,5 +1,4 @@
-use Rattle.std.proofs.Common.{◌≡◌, ◌+◌, drop}
-use Rattle.std.specs.List.{position_or_len}
+use Rattle.prl_base.proofs.Standard.{◌≡◌, ◌+◌, drop, position_or_len}
 use Rattle.prl_sensors.specs.code.Plain.{is_mark}
 use Rattle.prl_sensors.proofs.plain.plain_len.Given as goal
 

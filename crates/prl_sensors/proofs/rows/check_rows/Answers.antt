@@ -1,5 +1,4 @@
-use Rattle.std.proofs.Common.{◌≡◌, ◌<◌, ◌≤◌, ℕ, ◌+◌, List, [], length, map, drop, get_or, vec_items, Vec, Global, refl, subst, ◌∙◌, arith, add-one, drop-cons}
-use Rattle.std.proofs.lemmas.Bool.{le-ltb}
+use Rattle.prl_base.proofs.Standard.{◌≡◌, ◌<◌, ◌≤◌, ℕ, ◌+◌, List, [], length, map, drop, get_or, vec_items, Vec, Global, refl, subst, ◌∙◌, arith, add-one, drop-cons, le-ltb}
 use Rattle.prl_base.specs.declared.values.Value.{Value}
 use Rattle.prl_sensors.specs.SensorRows.{short_of}
 use Rattle.prl_sensors.proofs.rows.check_rows.Goals as goal

@@ -1,6 +1,5 @@
-use Rattle.std.proofs.Common.{◌≡◌, ℕ, List, ◌∙◌, Ok, Err, sym, subst, map, vec_items}
+use Rattle.prl_base.proofs.Standard.{◌≡◌, ℕ, List, ◌∙◌, Ok, Err, sym, subst, map, vec_items, err_from_is_err_and}
 use Rattle.csv.specs.Records.{fields_of}
-use Rattle.std.proofs.lemmas.Result.{err_from_is_err_and}
 use Rattle.prl_base.specs.declared.values.Ty.{Ty}
 use Rattle.prl_sensors.specs.SensorRows.{Inputs, with_record}
 use Rattle.prl_sensors.proofs.RowsRead.{one_more, no_more, all_read}

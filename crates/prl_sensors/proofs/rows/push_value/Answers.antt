@@ -1,5 +1,4 @@
-use Rattle.std.proofs.Common.{ap, sym, ◌∙◌, map, vec_items, set, ◌++◌, ◌∷◌, [], Global}
-use Rattle.std.proofs.lemmas.List.{map-set, get_or-map}
+use Rattle.prl_base.proofs.Standard.{ap, sym, ◌∙◌, map, vec_items, set, ◌++◌, ◌∷◌, [], Global, map-set, get_or-map}
 use Rattle.prl_base.specs.declared.values.Value.{Value}
 use Rattle.prl_sensors.proofs.rows.push_value.Goals as goal
 

@@ -1,5 +1,4 @@
-use Rattle.std.proofs.Common.{◌≡◌, ◌+◌, drop}
-use Rattle.std.specs.List.{position_or_len}
+use Rattle.prl_base.proofs.Standard.{◌≡◌, ◌+◌, drop, position_or_len}
 use Rattle.prl_sentences.specs.Kinds.{is_gap}
 use Rattle.prl_sentences.proofs.kinds.word_of.Given as goal
 

@@ -1,5 +1,4 @@
-use Rattle.std.proofs.Common.{◌≡◌, ◌++◌, take}
-use Rattle.std.specs.List.{flat_map}
+use Rattle.prl_base.proofs.Standard.{◌≡◌, ◌++◌, take, flat_map}
 use Rattle.prl_sentences.specs.Sentences.{piece_text}
 use Rattle.prl_sentences.proofs.sentences.push_pieces.Given as goal
 

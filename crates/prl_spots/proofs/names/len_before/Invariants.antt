@@ -1,5 +1,4 @@
-use Rattle.std.proofs.Common.{◌≡◌, ◌+◌, drop}
-use Rattle.std.specs.List.{position_or_len}
+use Rattle.prl_base.proofs.Standard.{◌≡◌, ◌+◌, drop, position_or_len}
 use Rattle.prl_spots.specs.Names.{is_byte}
 use Rattle.prl_spots.proofs.names.len_before.Given as goal
 

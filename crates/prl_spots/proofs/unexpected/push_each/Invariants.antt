@@ -1,5 +1,4 @@
-use Rattle.std.proofs.Common.{◌≡◌, ◌++◌, take}
-use Rattle.std.specs.List.{flat_map}
+use Rattle.prl_base.proofs.Standard.{◌≡◌, ◌++◌, take, flat_map}
 use Rattle.prl_spots.specs.Unexpected.{trial_text}
 use Rattle.prl_spots.proofs.unexpected.push_each.Given as goal
 

@@ -1,7 +1,5 @@
-use Rattle.std.proofs.Common.{◌≡◌, ◌/◌, ◌<◌, ◌^◌, ℕ, ℤ, pos, w64, sym, ap, ◌∙◌, subst, arith}
+use Rattle.prl_base.proofs.Standard.{◌≡◌, ◌/◌, ◌<◌, ◌^◌, ℕ, ℤ, pos, w64, sym, ap, ◌∙◌, subst, arith, div-le_self, to_z_pos}
 use mir.Val.{to_z}
-use Rattle.std.proofs.Math.Nat.{div-le_self}
-use Rattle.std.proofs.lemmas.Int.{to_z_pos}
 use Rattle.prl_base.specs.Ratios.{Fraction, IsSmallFraction}
 use Rattle.prl_syntax.proofs.Ratios.{divisor_is, positive_divisor, reduced_fits}
 use Rattle.prl_syntax.proofs.values.reduced.Goals as goal

@@ -1,5 +1,4 @@
-use Rattle.std.proofs.Common.{◌<◌, Some, length, sym, ◌∙◌, ap, arith}
-use Rattle.std.proofs.lemmas.Option.{slice_get-get_or}
+use Rattle.prl_base.proofs.Standard.{◌<◌, Some, length, sym, ◌∙◌, ap, arith, slice_get-get_or}
 use Rattle.prl_rule.specs.Known.{run_of}
 use Rattle.prl_table.proofs.Driven.{acts_now, skipped}
 use Rattle.prl_table.proofs.driving.act_at.Goals as goal

@@ -1,5 +1,4 @@
-use Rattle.std.proofs.Common.{◌≡◌, ℕ, [], ◌∷◌, List, Option, Some, length, length-append, sym, ◌∙◌, ap, subst, arith}
-use Rattle.std.specs.Prelude.{slice_get}
+use Rattle.prl_base.proofs.Standard.{◌≡◌, ℕ, [], ◌∷◌, List, Option, Some, length, length-append, sym, ◌∙◌, ap, subst, arith, slice_get}
 use Rattle.prl_plan.specs.Horizons.{constants_of}
 use Rattle.prl_tables.specs.Tables.{last_unit}
 use Rattle.prl_tables.proofs.Listed.{pushed}

@@ -1,5 +1,4 @@
-use Rattle.std.proofs.Common.{rules}
-use Rattle.std.proofs.lemmas.List.Sorted.{IsNonDecreasingBy-from_sort_by_key}
+use Rattle.prl_base.proofs.Standard.{rules, IsNonDecreasingBy-from_sort_by_key}
 use Rattle.prl_table.proofs.making.sort.Goals as goal
 
 pub returns-clause-sorted : goal.returns-clause-sorted

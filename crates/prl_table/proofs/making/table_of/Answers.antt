@@ -1,5 +1,4 @@
-use Rattle.std.proofs.Common.{List, sym, subst}
-use Rattle.std.specs.List.Sorted.{IsPermutation}
+use Rattle.prl_base.proofs.Standard.{List, sym, subst, IsPermutation}
 use Rattle.prl_edf.specs.Pieces.{run_of}
 use Rattle.prl_tables.specs.Tables.{IsGood}
 use Rattle.prl_tables.specs.declared.tables.Entry.{Entry}

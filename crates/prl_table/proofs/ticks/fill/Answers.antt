@@ -1,7 +1,4 @@
-use Rattle.std.proofs.Common.{◌≡◌, ◌<◌, ℕ, Bool, cond, Option, Some, length, length-set, set, inl, inr, sym, ◌∙◌, ap, arith}
-use Rattle.std.specs.Prelude.{slice_get}
-use Rattle.std.proofs.lemmas.Bool.{cases_eq}
-use Rattle.std.proofs.lemmas.Option.{slice_get_within}
+use Rattle.prl_base.proofs.Standard.{◌≡◌, ◌<◌, ℕ, Bool, cond, Option, Some, length, length-set, set, inl, inr, sym, ◌∙◌, ap, arith, slice_get, cases_eq, slice_get_within}
 use Rattle.prl_base.specs.declared.numbers.TaskNo.{TaskNo}
 use Rattle.prl_track.proofs.Places.{slice_get_set_same, slice_get_set_other}
 use Rattle.prl_table.specs.MakeFaults.{job_in}

@@ -1,7 +1,6 @@
-use Rattle.std.specs.Prelude.{OnOk}
+use Rattle.prl_base.proofs.Standard.{OnOk, subst}
 use Rattle.prl_plan.specs.declared.graphs.TaskGraph.{TaskGraph}
 use Rattle.prl_tables.specs.Checks.{AreApart}
-use Rattle.std.proofs.Common.{subst}
 use Rattle.prl_tables.proofs.clashes.check_clashes.Goals as goal
 
 pub returns-clause-apart : goal.returns-clause-apart

@@ -1,6 +1,4 @@
-use Rattle.std.proofs.Common.{Bool, true, false, get_or, sym, ap, subst, arith}
-use Rattle.std.specs.Bool.{OnFalse, OnTrue}
-use Rattle.std.proofs.lemmas.Option.{slice_get-get_or}
+use Rattle.prl_base.proofs.Standard.{Bool, true, false, get_or, sym, ap, subst, arith, OnFalse, OnTrue, slice_get-get_or}
 use Rattle.prl_tables.specs.Vocabulary.{Spot, Entry, spot_of, Meets}
 use Rattle.prl_tables.proofs.Spotted.{meet_at, meets_at, spot_fits}
 use Rattle.prl_tables.proofs.clashes.meets_entry.Goals as goal

@@ -1,6 +1,4 @@
-use Rattle.std.proofs.Common.{◌≡◌, ◌+◌, suc, Bool, true, false, get_or, arith, inl, inr}
-use Rattle.std.specs.Bool.{OnFalse, OnTrue}
-use Rattle.std.proofs.lemmas.Bool.Decides.{leb_tells}
+use Rattle.prl_base.proofs.Standard.{◌≡◌, ◌+◌, suc, Bool, true, false, get_or, arith, inl, inr, OnFalse, OnTrue, leb_tells}
 use Rattle.prl_tables.specs.code.Spots.{no_spot}
 use Rattle.prl_tables.proofs.Spotted.{by_before, by_first, by_high, by_next, by_none, long, room}
 use Rattle.prl_tables.proofs.clashes.meets_some.Goals as goal

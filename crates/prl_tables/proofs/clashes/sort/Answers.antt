@@ -1,5 +1,4 @@
-use Rattle.std.proofs.Common.{rules}
-use Rattle.std.proofs.lemmas.List.Sorted.{IsNonDecreasingBy-from_sort_by_key}
+use Rattle.prl_base.proofs.Standard.{rules, IsNonDecreasingBy-from_sort_by_key}
 use Rattle.prl_tables.proofs.Spotted.{spots_permuted}
 use Rattle.prl_tables.proofs.clashes.sort.Goals as goal
 

@@ -1,5 +1,4 @@
-use Rattle.std.proofs.Common.{◌≡◌, ◌+◌, length, sym, subst, arith}
-use Rattle.std.proofs.lemmas.Option.{slice_get-get_or}
+use Rattle.prl_base.proofs.Standard.{◌≡◌, ◌+◌, length, sym, subst, arith, slice_get-get_or}
 use Rattle.prl_tables.specs.declared.tables.Entry.{Entry}
 use Rattle.prl_tables.proofs.Spotted.{are_spots, one_more_spot, HaveSpots}
 use Rattle.prl_tables.proofs.clashes.spots_of.Goals as goal

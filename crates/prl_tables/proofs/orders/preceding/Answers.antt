@@ -1,5 +1,4 @@
-use Rattle.std.proofs.Common.{◌≡◌, ℕ, sym, ◌∙◌, ap, subst, arith}
-use Rattle.std.specs.Prelude.{pos}
+use Rattle.prl_base.proofs.Standard.{◌≡◌, ℕ, sym, ◌∙◌, ap, subst, arith, pos}
 use Rattle.prl_plan.specs.Vocabulary.{edge_at, IsSmallOperand, preceding}
 use Rattle.prl_plan.specs.declared.walks.Operand.{Operand}
 use Rattle.prl_plan.specs.declared.walks.Operand.TheVariants as operands

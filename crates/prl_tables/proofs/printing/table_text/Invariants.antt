@@ -1,6 +1,5 @@
-use Rattle.std.proofs.Common.{◌≡◌, ◌++◌, codes, take}
+use Rattle.prl_base.proofs.Standard.{◌≡◌, ◌++◌, codes, take, flat_map}
 use Rattle.std.specs.Fmt.{decimal}
-use Rattle.std.specs.List.{flat_map}
 use Rattle.prl_tables.specs.TableTexts.{entry_text}
 use Rattle.prl_tables.proofs.printing.table_text.Given as goal
 

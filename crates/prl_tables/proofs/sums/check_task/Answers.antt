@@ -1,5 +1,4 @@
-use Rattle.std.proofs.Common.{◌≡◌, ◌<◌, length, refl, subst, arith, inl, inr}
-use Rattle.std.proofs.lemmas.Bool.{cases_lt}
+use Rattle.prl_base.proofs.Standard.{◌≡◌, ◌<◌, length, refl, subst, arith, inl, inr, cases_lt}
 use Rattle.prl_tables.specs.Tables.{IsWhole}
 use Rattle.prl_tables.proofs.Summed.{whole, not_whole}
 use Rattle.prl_tables.proofs.sums.check_task.Goals as goal

@@ -1,6 +1,5 @@
-use Rattle.std.proofs.Common.{◌<◌, Some, length, option_map, sym, ◌∙◌, ap, subst, arith, vec_items}
-use Rattle.std.proofs.lemmas.List.{length-map}
-use Rattle.std.proofs.lemmas.Option.{slice_get-get_or, slice_get-map}
+use Rattle.prl_base.proofs.Standard.{◌<◌, Some, length, sym, ◌∙◌, ap, subst, arith, vec_items, length-map, slice_get-get_or, slice_get-map}
+use Rattle.std.proofs.Common.{option_map}
 use Rattle.prl_plan.specs.declared.graphs.TaskGraph.{TaskGraph}
 use Rattle.prl_tables.specs.code.Sums.{AreTaskSums}
 use Rattle.prl_tables.proofs.sums.check_units.Goals as goal

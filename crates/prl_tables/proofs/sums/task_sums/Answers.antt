@@ -1,7 +1,4 @@
-use Rattle.std.proofs.Common.{◌≡◌, ◌+◌, ◌-◌, ◌<◌, ℕ, List, [], ◌∷◌, length, get_or, drop, replicate, sym, ◌∙◌, ap, subst, arith}
-use Rattle.std.proofs.lemmas.List.{drop_more, length-replicate}
-use Rattle.std.proofs.lemmas.Option.{slice_get-get_or}
-use Rattle.std.proofs.Math.Seq.{drop-length}
+use Rattle.prl_base.proofs.Standard.{◌≡◌, ◌+◌, ◌-◌, ◌<◌, ℕ, List, [], ◌∷◌, length, get_or, drop, replicate, sym, ◌∙◌, ap, subst, arith, drop_more, length-replicate, slice_get-get_or, drop-length}
 use Rattle.prl_tables.specs.Vocabulary.{Entry, ArePieces, IsPiece, HasSums}
 use Rattle.prl_plan.specs.Plans.{PlanView}
 use Rattle.prl_tables.proofs.Summed.{none_added}

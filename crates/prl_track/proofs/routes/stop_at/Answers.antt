@@ -1,6 +1,4 @@
-use Rattle.std.proofs.Common.{◌≡◌, ◌+◌, List, length, get_or, Some, arith, refl, sym, ◌∙◌, ap}
-use Rattle.std.specs.Prelude.{slice_get}
-use Rattle.std.proofs.lemmas.Option.{slice_get-get_or}
+use Rattle.prl_base.proofs.Standard.{◌≡◌, ◌+◌, List, length, get_or, Some, arith, refl, sym, ◌∙◌, ap, slice_get, slice_get-get_or}
 use Rattle.prl_track.specs.Vocabulary.{Access, Cursor, route_of}
 use Rattle.prl_track.specs.declared.routes.Access.TheVariants as accesses
 use Rattle.prl_track.proofs.RouteLaws.{route_is_of_task, action_here, cursor_passes, end_here}

@@ -1,5 +1,4 @@
-use Rattle.std.proofs.Common.{◌≡◌, ◌≤◌, ℕ, [], ◌∷◌, length, arith, sym, ◌∙◌, ap, subst}
-use Rattle.std.specs.Prelude.{MatchOption}
+use Rattle.prl_base.proofs.Standard.{◌≡◌, ◌≤◌, ℕ, [], ◌∷◌, length, arith, sym, ◌∙◌, ap, subst, MatchOption}
 use Rattle.std.proofs.lemmas.List.{length-append}
 use Rattle.prl_plan.specs.Horizons.{constants_on}
 use Rattle.prl_track.specs.code.Firsts.{IsFirstAt}

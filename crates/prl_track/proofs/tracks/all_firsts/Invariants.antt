@@ -1,5 +1,4 @@
-use Rattle.std.proofs.Common.{◌≡◌, ◌≤◌, ℕ, length, Option, Some, slice_get}
-use Rattle.std.specs.Prelude.{MatchOption}
+use Rattle.prl_base.proofs.Standard.{◌≡◌, ◌≤◌, ℕ, length, Option, Some, slice_get, MatchOption}
 use Rattle.prl_plan.specs.Horizons.{constants_on}
 use Rattle.prl_track.specs.Vocabulary.{First, IsFirstAt}
 use Rattle.prl_track.proofs.tracks.all_firsts.Given as goal

@@ -1,5 +1,4 @@
-use Rattle.std.proofs.Common.{◌≡◌, ◌+◌, ◌∙◌, ℕ, Some, ap, arith, sym}
-use Rattle.std.proofs.lemmas.List.FromFn.{map-range_with_len_more}
+use Rattle.prl_base.proofs.Standard.{◌≡◌, ◌+◌, ◌∙◌, ℕ, Some, ap, arith, sym, map-range_with_len_more}
 use Rattle.prl_ast.specs.Trees.{program_tree}
 use Rattle.prl_names.specs.declared.lookups.Callee.{Callee}
 use Rattle.prl_types.specs.declared.signatures.Signature.{Signature}

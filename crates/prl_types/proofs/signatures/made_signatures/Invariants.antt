@@ -1,5 +1,4 @@
-use Rattle.std.proofs.Common.{◌≡◌, map}
-use Rattle.std.specs.List.{range_with_len}
+use Rattle.prl_base.proofs.Standard.{◌≡◌, map, range_with_len}
 use Rattle.prl_ast.specs.Trees.{program_tree}
 use Rattle.prl_types.specs.code.Signatures.{callee_at, signature_of}
 use Rattle.prl_types.proofs.signatures.made_signatures.Given as goal

@@ -1,6 +1,4 @@
-use Rattle.std.proofs.Common.{◌≡◌, map, take}
-use Rattle.std.specs.Prelude.{All}
-use Rattle.std.specs.List.{flat_map}
+use Rattle.prl_base.proofs.Standard.{◌≡◌, map, take, All, flat_map}
 use Rattle.prl_views.specs.declared.parts.Part.{Part}
 use Rattle.prl_views.specs.Parts.{IsWithin, seen_one}
 use Rattle.prl_views.proofs.parts.parts_of.Given as goal

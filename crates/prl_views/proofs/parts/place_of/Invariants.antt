@@ -1,5 +1,4 @@
-use Rattle.std.proofs.Common.{◌≡◌, ◌+◌, ◌==◌, drop}
-use Rattle.std.specs.List.{position_or_len}
+use Rattle.prl_base.proofs.Standard.{◌≡◌, ◌+◌, ◌==◌, drop, position_or_len}
 use Rattle.prl_views.proofs.parts.place_of.Given as goal
 
 -- what was passed and the rest make the list

@@ -1,5 +1,4 @@
-use Rattle.std.proofs.Common.{◌+◌, ◌==◌, ◌∙◌, ℕ, List, ap}
-use Rattle.std.specs.List.{position_or_len}
+use Rattle.prl_base.proofs.Standard.{◌+◌, ◌==◌, ◌∙◌, ℕ, List, ap, position_or_len}
 use Rattle.prl_views.specs.Parts.{used_of}
 use Rattle.prl_views.proofs.parts.processor_row.Goals as goal
 

@@ -1,5 +1,4 @@
-use Rattle.std.proofs.Common.{◌≡◌, ◌≤◌, ◌++◌, ◌-◌, length}
-use Rattle.std.specs.List.{flat_map, range_with_len}
+use Rattle.prl_base.proofs.Standard.{◌≡◌, ◌≤◌, ◌++◌, ◌-◌, length, flat_map, range_with_len}
 use Rattle.prl_views.specs.declared.parts.TheConstants.{MOST_PROCESSORS}
 use Rattle.prl_views.specs.Parts.{used_of, used_one}
 use Rattle.prl_views.proofs.parts.used_of.Given as goal

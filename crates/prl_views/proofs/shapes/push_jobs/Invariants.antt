@@ -1,5 +1,4 @@
-use Rattle.std.proofs.Common.{◌≡◌, ◌++◌, ◌-◌, map}
-use Rattle.std.specs.List.{range_with_len}
+use Rattle.prl_base.proofs.Standard.{◌≡◌, ◌++◌, ◌-◌, map, range_with_len}
 use Rattle.prl_views.specs.Shapes.{shape_of, shapes_of_row}
 use Rattle.prl_views.proofs.shapes.push_jobs.Given as goal
 

@@ -1,5 +1,4 @@
-use Rattle.std.proofs.Common.{◌≡◌, ◌++◌, ◌-◌, length}
-use Rattle.std.specs.List.{flat_map, range_with_len}
+use Rattle.prl_base.proofs.Standard.{◌≡◌, ◌++◌, ◌-◌, length, flat_map, range_with_len}
 use Rattle.prl_views.specs.Shapes.{shapes_of, shapes_of_row}
 use Rattle.prl_views.proofs.shapes.shapes_of.Given as goal
 

@@ -1,5 +1,4 @@
-use Rattle.std.proofs.Common.{◌≡◌, take}
-use Rattle.std.specs.List.{flat_map}
+use Rattle.prl_base.proofs.Standard.{◌≡◌, take, flat_map}
 use Rattle.prl_views.specs.Shown.{piece_text}
 use Rattle.prl_views.proofs.shown.run_pieces.Given as goal
 

@@ -1,6 +1,4 @@
-use Rattle.std.proofs.Common.{List, subst, sym}
-use Rattle.std.specs.Prelude.{slice_index_or}
-use Rattle.std.proofs.lemmas.Option.{slice_get-get_or}
+use Rattle.prl_base.proofs.Standard.{List, subst, sym, slice_index_or, slice_get-get_or}
 use Rattle.prl_tables.specs.Tables.{ArePieces}
 use Rattle.prl_tables.specs.declared.tables.Entry.{Entry}
 use Rattle.prl_views.proofs.tables.pieces_of.Goals as goal

@@ -1,5 +1,4 @@
-use Rattle.std.proofs.Common.{◌≡◌, ◌++◌, take}
-use Rattle.std.specs.List.{flat_map}
+use Rattle.prl_base.proofs.Standard.{◌≡◌, ◌++◌, take, flat_map}
 use Rattle.prl_ways.specs.ChainTexts.{more_text}
 use Rattle.prl_ways.proofs.chain_texts.push_more.Given as goal
 

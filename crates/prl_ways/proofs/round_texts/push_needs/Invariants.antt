@@ -1,5 +1,4 @@
-use Rattle.std.proofs.Common.{◌≡◌, ◌++◌, take}
-use Rattle.std.specs.List.{flat_map}
+use Rattle.prl_base.proofs.Standard.{◌≡◌, ◌++◌, take, flat_map}
 use Rattle.prl_ways.specs.RoundTexts.{need_text}
 use Rattle.prl_ways.proofs.round_texts.push_needs.Given as goal
 

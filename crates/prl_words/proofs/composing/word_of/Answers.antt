@@ -1,6 +1,4 @@
-use Rattle.std.proofs.Common.{◌≡◌, ◌*◌, ◌/◌, ◌<◌, ◌≤◌, ◌^◌, ℕ, List, [], drop, length, sym, ap, subst, ◌∙◌, arith, length-drop}
-use Rattle.std.proofs.Math.Nat.{mul-le-mul_left, mul-le-mul_right}
-use Rattle.std.proofs.lemmas.List.{take_rest}
+use Rattle.prl_base.proofs.Standard.{◌≡◌, ◌*◌, ◌/◌, ◌<◌, ◌≤◌, ◌^◌, ℕ, List, [], drop, length, sym, ap, subst, ◌∙◌, arith, length-drop, mul-le-mul_left, mul-le-mul_right, take_rest}
 use Rattle.prl_base.specs.declared.operators.Op.{Op}
 use Rattle.prl_plan.specs.Vocabulary.{walk, word_at, IsWordOf}
 use Rattle.prl_plan.specs.declared.words.Word.{Word}

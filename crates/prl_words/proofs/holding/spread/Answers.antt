@@ -1,8 +1,4 @@
-use Rattle.std.proofs.Common.{◌≡◌, ◌+◌, ◌/◌, ◌<◌, ℕ, Some, length, sym, ◌∙◌, ap, arith, inl, inr}
-use Rattle.std.specs.Prelude.{slice_get}
-use Rattle.std.proofs.lemmas.Bool.{cases_lt}
-use Rattle.std.proofs.lemmas.List.{length_push}
-use Rattle.std.proofs.lemmas.Option.{slice_get-get_or}
+use Rattle.prl_base.proofs.Standard.{◌≡◌, ◌+◌, ◌/◌, ◌<◌, ℕ, Some, length, sym, ◌∙◌, ap, arith, inl, inr, slice_get, cases_lt, length_push, slice_get-get_or}
 use Rattle.prl_words.proofs.Held.{quotient_below}
 use Rattle.prl_words.proofs.Pushed.{get_left, get_last}
 use Rattle.prl_words.proofs.holding.spread.Goals as goal

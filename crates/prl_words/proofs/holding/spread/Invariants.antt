@@ -1,5 +1,4 @@
-use Rattle.std.proofs.Common.{◌≡◌, ◌/◌, ◌<◌, ℕ, length}
-use Rattle.std.specs.Prelude.{slice_get}
+use Rattle.prl_base.proofs.Standard.{◌≡◌, ◌/◌, ◌<◌, ℕ, length, slice_get}
 use Rattle.prl_words.proofs.holding.spread.Given as goal
 
 abbrev pub invariant-loop-n : goal.invariant-loop-n

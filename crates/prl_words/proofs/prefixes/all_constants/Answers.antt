@@ -1,6 +1,4 @@
-use Rattle.std.proofs.Common.{◌≡◌, ◌+◌, ◌<◌, ◌≤◌, List, Some, length, take, get_or, ap, ◌∙◌, arith}
-use Rattle.std.specs.Prelude.{slice_get, sum_by}
-use Rattle.std.proofs.lemmas.List.Sums.{sum_by_more}
+use Rattle.prl_base.proofs.Standard.{◌≡◌, ◌+◌, ◌<◌, ◌≤◌, List, Some, length, take, get_or, ap, ◌∙◌, arith, slice_get, sum_by, sum_by_more}
 use Rattle.prl_plan.specs.FirstReaders.{first_reader}
 use Rattle.prl_plan.specs.declared.graphs.Edge.{Edge}
 use Rattle.prl_words.proofs.Constants.{edge_bound, edge_few, edge_jobs, edge_read}

@@ -1,5 +1,4 @@
-use Rattle.std.proofs.Common.{◌≡◌, ◌≤◌, ◌*◌, take}
-use Rattle.std.specs.Prelude.{sum_by}
+use Rattle.prl_base.proofs.Standard.{◌≡◌, ◌≤◌, ◌*◌, take, sum_by}
 use Rattle.prl_plan.specs.FirstReaders.{first_reader}
 use Rattle.prl_plan.specs.declared.graphs.Edge.{Edge}
 use Rattle.prl_words.proofs.prefixes.all_constants.Given as goal

@@ -1,7 +1,4 @@
-use Rattle.std.proofs.Common.{◌≡◌, ◌+◌, ◌-◌, ℕ, List, length, ◌∙◌, ap, arith, inl, inr}
-use Rattle.std.specs.Prelude.{slice_index}
-use Rattle.std.proofs.lemmas.Bool.{cases_lt}
-use Rattle.std.proofs.lemmas.List.{length_push}
+use Rattle.prl_base.proofs.Standard.{◌≡◌, ◌+◌, ◌-◌, ℕ, List, length, ◌∙◌, ap, arith, inl, inr, slice_index, cases_lt, length_push}
 use Rattle.prl_plan.specs.Words.{number_at}
 use Rattle.prl_words.proofs.Pushed.{index_left, index_last}
 use Rattle.prl_words.proofs.shortening.gaps.Goals as goal

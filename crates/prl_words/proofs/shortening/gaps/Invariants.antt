@@ -1,5 +1,4 @@
-use Rattle.std.proofs.Common.{◌≡◌, ◌+◌, ◌<◌, ℕ, length}
-use Rattle.std.specs.Prelude.{slice_index}
+use Rattle.prl_base.proofs.Standard.{◌≡◌, ◌+◌, ◌<◌, ℕ, length, slice_index}
 use Rattle.prl_plan.specs.Words.{number_at}
 use Rattle.prl_words.proofs.shortening.gaps.Given as goal
 

@@ -1,6 +1,4 @@
-use Rattle.std.proofs.Common.{◌++◌, [], ◌∷◌, replicate, ◌∙◌, ap, append_assoc}
-use Rattle.std.specs.Prelude.{List}
-use Rattle.std.proofs.lemmas.List.{replicate_more}
+use Rattle.prl_base.proofs.Standard.{◌++◌, [], ◌∷◌, replicate, ◌∙◌, ap, append_assoc, List, replicate_more}
 use Rattle.prl_base.specs.declared.values.Value.{Value}
 use Rattle.prl_words.proofs.steps.followed_by.Goals as goal
 

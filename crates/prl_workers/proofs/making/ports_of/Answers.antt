@@ -1,5 +1,4 @@
-use Rattle.std.proofs.Common.{◌≡◌, ◌<◌, ◌++◌, ℕ, length, [], ◌∷◌, List, take, cond, sym, ap, ◌∙◌, arith}
-use Rattle.std.proofs.lemmas.List.{take_more, length-take-le}
+use Rattle.prl_base.proofs.Standard.{◌≡◌, ◌<◌, ◌++◌, ℕ, length, [], ◌∷◌, List, take, cond, sym, ap, ◌∙◌, arith, take_more, length-take-le}
 use Rattle.prl_plan.specs.declared.graphs.Edge.{Edge}
 use Rattle.prl_plan.proofs.UsedLaws.{test_same, test_differs}
 use Rattle.prl_values.specs.Fitting.{port_types}

@@ -1,5 +1,4 @@
-use Rattle.std.proofs.Common.{◌≡◌, ℕ, List, sym, ap, subst, ◌∙◌}
-use Rattle.std.specs.Option.{option_copied}
+use Rattle.prl_base.proofs.Standard.{◌≡◌, ℕ, List, sym, ap, subst, ◌∙◌, option_copied}
 use Rattle.prl_base.specs.Names.{IsName}
 use Rattle.prl_body.specs.Bodies.{body_named}
 use Rattle.prl_plan.specs.Vocabulary.{IsTask, task_at}

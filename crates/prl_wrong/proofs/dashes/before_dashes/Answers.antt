@@ -1,6 +1,4 @@
-use Rattle.std.proofs.Common.{◌∙◌, ℕ, ap, map, sym, take}
-use Rattle.std.proofs.lemmas.List.{take-map}
-use Rattle.std.specs.String.{string_bytes}
+use Rattle.prl_base.proofs.Standard.{◌∙◌, ℕ, ap, map, sym, take, take-map, string_bytes}
 use Rattle.prl_wrong.proofs.dashes.before_dashes.Goals as goal
 
 pub returns : goal.returns

@@ -1,5 +1,4 @@
-use Rattle.std.proofs.Common.{◌≡◌, ◌++◌, List, length, take, drop, vec_items, sym, ap, ◌∙◌, subst, rules}
-use Rattle.std.proofs.Math.Seq.{take-append_seam}
+use Rattle.prl_base.proofs.Standard.{◌≡◌, ◌++◌, List, length, take, drop, vec_items, sym, ap, ◌∙◌, subst, rules, take-append_seam}
 use Rattle.std.specs.List.{All}
 use Rattle.prl_seats.specs.JobSeats.{IsSeatOf, JobSeatView}
 use Rattle.prl_board.specs.Lones.{AreSeatsOf}

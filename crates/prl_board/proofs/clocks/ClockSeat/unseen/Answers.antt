@@ -1,5 +1,4 @@
-use Rattle.std.proofs.Common.{arith, ◌≡◌, ℕ, get_or, length, List, refl, ap, ◌∙◌}
-use Rattle.std.proofs.lemmas.Option.{get_or_from_slice_get, slice_get_read}
+use Rattle.prl_base.proofs.Standard.{arith, ◌≡◌, ℕ, get_or, length, List, refl, ap, ◌∙◌, get_or_from_slice_get, slice_get_read}
 use Rattle.prl_rule.specs.declared.views.View.{View}
 use Rattle.prl_board.specs.ClockSeats.{ClockSeatView}
 use Rattle.prl_board.proofs.Unseen.{none_due, none_left}

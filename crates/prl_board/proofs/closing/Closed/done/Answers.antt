@@ -1,6 +1,4 @@
-use Rattle.std.proofs.Common.{arith, ◌≡◌, ◌+◌, ◌<◌, get_or, length, sym, ap, subst, ◌∙◌, vec_items, Some}
-use Rattle.std.specs.Mem.Slots.{slots_items}
-use Rattle.std.specs.Prelude.{slice_get}
+use Rattle.prl_base.proofs.Standard.{arith, ◌≡◌, ◌+◌, ◌<◌, get_or, length, sym, ap, subst, ◌∙◌, vec_items, Some, slots_items, slice_get}
 use Rattle.prl_board.specs.Closings.{ClosedView}
 use Rattle.prl_board.proofs.ClosedBoards.{word_there}
 use Rattle.prl_board.proofs.closing.Closed.done.Goals as goal

@@ -1,5 +1,4 @@
-use Rattle.std.proofs.Common.{◌≡◌, ◌<◌, length, sym, ap, subst, ◌∙◌, vec_items, Some}
-use Rattle.std.specs.Prelude.{slice_get}
+use Rattle.prl_base.proofs.Standard.{◌≡◌, ◌<◌, length, sym, ap, subst, ◌∙◌, vec_items, Some, slice_get}
 use Rattle.prl_base.specs.declared.numbers.TaskNo.{TaskNo}
 use Rattle.prl_rule.specs.declared.views.View.{View}
 use Rattle.prl_board.specs.Vocabulary.{ClosedView, IsMachineOf, IsNodeTask}

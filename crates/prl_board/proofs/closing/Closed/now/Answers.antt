@@ -1,5 +1,4 @@
-use Rattle.std.proofs.Common.{arith, get_or, sym, ap, ◌∙◌}
-use Rattle.std.specs.Mem.Slots.{slots_items}
+use Rattle.prl_base.proofs.Standard.{arith, get_or, sym, ap, ◌∙◌, slots_items}
 use Rattle.prl_board.specs.Closings.{ClosedView}
 use Rattle.prl_board.proofs.ClosedBoards.{word_there}
 use Rattle.prl_board.proofs.closing.Closed.now.Goals as goal

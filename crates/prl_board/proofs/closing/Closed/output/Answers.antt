@@ -1,5 +1,4 @@
-use Rattle.std.proofs.Common.{arith, ◌≡◌, ◌+◌, ◌≤◌, ℕ, sym, ap, subst, ◌∙◌, vec_items, Some}
-use Rattle.std.specs.Prelude.{slice_get}
+use Rattle.prl_base.proofs.Standard.{arith, ◌≡◌, ◌+◌, ◌≤◌, ℕ, sym, ap, subst, ◌∙◌, vec_items, Some, slice_get}
 use Rattle.prl_base.specs.declared.numbers.TaskNo.{TaskNo}
 use Rattle.prl_rule.specs.Known.{run_of}
 use Rattle.prl_rule.specs.declared.views.View.{View}

@@ -1,5 +1,4 @@
-use Rattle.std.proofs.Common.{arith, ◌≡◌, ◌+◌, ℕ, length, get_or, sym, ap, ◌∙◌, vec_items}
-use Rattle.std.specs.Mem.Slots.{slots_items}
+use Rattle.prl_base.proofs.Standard.{arith, ◌≡◌, ◌+◌, ℕ, length, get_or, sym, ap, ◌∙◌, vec_items, slots_items}
 use Rattle.prl_rule.specs.Vocabulary.{slot_word, run_of}
 use Rattle.prl_board.specs.Closings.{ClosedView, slot_of}
 use Rattle.prl_board.proofs.ClosedBoards.{left_of, word_there}

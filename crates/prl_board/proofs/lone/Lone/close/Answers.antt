@@ -1,6 +1,4 @@
-use Rattle.std.proofs.Common.{◌≡◌, ℕ, List, get_or, sym, ap, subst, ◌∙◌, vec_items, Some}
-use Rattle.std.specs.Mem.Slots.{slots_items}
-use Rattle.std.specs.Prelude.{slice_get}
+use Rattle.prl_base.proofs.Standard.{◌≡◌, ℕ, List, get_or, sym, ap, subst, ◌∙◌, vec_items, Some, slots_items, slice_get}
 use lib.ListN.{get_elem?}
 use Rattle.prl_rule.specs.declared.views.KeptHalf.{KeptHalf}
 use Rattle.prl_board.specs.Vocabulary.{ClosedView, KeepsTag, LoneView, IsSettled}

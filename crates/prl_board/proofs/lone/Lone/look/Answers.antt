@@ -1,5 +1,4 @@
-use Rattle.std.proofs.Common.{◌∙◌, length, ap, subst, arith}
-use Rattle.std.specs.Prelude.{slice_get}
+use Rattle.prl_base.proofs.Standard.{◌∙◌, length, ap, subst, arith, slice_get}
 use Rattle.prl_rule.specs.Told.{LookTold}
 use Rattle.prl_board.specs.Lones.{LoneView}
 use Rattle.prl_board.proofs.Called.{clock_call, kept_after_clock, lent_of, lone_after, look_is_exact, may_lend}

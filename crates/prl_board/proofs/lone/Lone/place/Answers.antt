@@ -1,5 +1,4 @@
-use Rattle.std.proofs.Common.{◌≡◌, ◌<◌, length, sym, ap, subst, ◌∙◌, vec_items, Some}
-use Rattle.std.specs.Prelude.{slice_get}
+use Rattle.prl_base.proofs.Standard.{◌≡◌, ◌<◌, length, sym, ap, subst, ◌∙◌, vec_items, Some, slice_get}
 use Rattle.prl_seats.specs.JobSeats.{JobSeatView}
 use Rattle.prl_board.specs.Vocabulary.{LoneView, place_of}
 use Rattle.prl_board.proofs.Lists.{read_there}

@@ -1,5 +1,4 @@
-use Rattle.std.proofs.Common.{arith, ℕ, length, sym, ap, subst, ◌∙◌}
-use Rattle.std.specs.Prelude.{slice_get}
+use Rattle.prl_base.proofs.Standard.{arith, ℕ, length, sym, ap, subst, ◌∙◌, slice_get}
 use mathlib.Core.Logic.{dite}
 use native.Mathlib.Decide.{ℕ_discrete}
 use Rattle.prl_board.specs.Vocabulary.{LoneView, IsSettled}

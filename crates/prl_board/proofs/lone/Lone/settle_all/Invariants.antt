@@ -1,5 +1,4 @@
-use Rattle.std.proofs.Common.{◌≡◌, ◌<◌, ℕ, Some}
-use Rattle.std.specs.Prelude.{slice_get}
+use Rattle.prl_base.proofs.Standard.{◌≡◌, ◌<◌, ℕ, Some, slice_get}
 use Rattle.prl_seats.specs.JobSeats.{JobSeatView}
 use Rattle.prl_board.specs.Vocabulary.{IsLoneOf, StandAs, IsSettled, KeepHalves}
 use Rattle.prl_board.proofs.lone.Lone.settle_all.Given as goal

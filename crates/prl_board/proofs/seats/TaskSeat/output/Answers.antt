@@ -1,5 +1,4 @@
-use Rattle.std.proofs.Common.{arith, ◌≡◌, ◌+◌, ◌≤◌, ℕ, List, length, take, sym, ap, subst, ◌∙◌, Some}
-use Rattle.std.proofs.lemmas.List.{length-take-le}
+use Rattle.prl_base.proofs.Standard.{arith, ◌≡◌, ◌+◌, ◌≤◌, ℕ, List, length, take, sym, ap, subst, ◌∙◌, Some, length-take-le}
 use Rattle.prl_base.specs.declared.values.Value.{Value}
 use Rattle.prl_plan.specs.declared.graphs.Kind.TheVariants as kinds
 use Rattle.prl_rule.specs.Known.{job_values_of, run_of}

@@ -1,6 +1,5 @@
-use Rattle.std.proofs.Common.{◌≡◌, length, ap, sym, ◌∙◌, arith}
+use Rattle.prl_base.proofs.Standard.{◌≡◌, length, ap, sym, ◌∙◌, arith, with_items_is}
 use Rattle.std.proofs.Math.ListN.{length-map}
-use Rattle.std.proofs.lemmas.List.{with_items_is}
 use Rattle.prl_body.specs.Vocabulary.{input_types, output_types, register_types, value_expressions, expression_of, MachineState}
 use Rattle.prl_body.proofs.Sound.{types_step, length_HaveTypes}
 use Rattle.prl_body.proofs.machines.Machine.step.Goals as goal

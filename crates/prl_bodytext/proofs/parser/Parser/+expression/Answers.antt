@@ -1,5 +1,4 @@
-use Rattle.std.proofs.Common.{map, sym, ap, ◌∙◌, arith}
-use Rattle.std.proofs.lemmas.List.{map_push}
+use Rattle.prl_base.proofs.Standard.{map, sym, ap, ◌∙◌, arith, map_push}
 use Rattle.prl_grammar.proofs.Loops.{step_goes_on}
 use Rattle.prl_grammar.proofs.Nesting.{nested_step}
 use Rattle.prl_bodytext.specs.declared.levels.Level.TheVariants as levels

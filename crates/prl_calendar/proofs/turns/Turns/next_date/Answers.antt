@@ -1,6 +1,4 @@
-use Rattle.std.proofs.Common.{◌≤◌, arith}
-use Rattle.std.specs.BinaryHeap.{heap_items}
-use Rattle.std.proofs.lemmas.List.Elements.{All-append, All-weaker}
+use Rattle.prl_base.proofs.Standard.{◌≤◌, arith, heap_items, All-append, All-weaker}
 use Rattle.prl_calendar.specs.Turns.{Turn, date_of}
 use Rattle.prl_calendar.proofs.Queued.{contains_after, contains_before}
 use Rattle.prl_calendar.proofs.turns.Turns.next_date.Goals as goal

@@ -1,5 +1,4 @@
-use Rattle.std.specs.BinaryHeap.{heap_items}
-use Rattle.std.proofs.lemmas.List.Sorted.{IsNonDecreasingBy-push}
+use Rattle.prl_base.proofs.Standard.{heap_items, IsNonDecreasingBy-push}
 use Rattle.prl_calendar.specs.Turns.{Turn, date_of}
 use Rattle.prl_calendar.proofs.Queued.{heap_pushed, queue_pushed}
 use Rattle.prl_calendar.proofs.turns.Turns.push.Goals as goal

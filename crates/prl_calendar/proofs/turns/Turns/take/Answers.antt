@@ -1,8 +1,5 @@
-use Rattle.std.proofs.Common.{◌≤◌, ◌<◌, sym, subst}
-use Rattle.std.specs.BinaryHeap.{heap_items}
+use Rattle.prl_base.proofs.Standard.{◌≤◌, ◌<◌, sym, subst, heap_items, All-append, IfSome_then}
 use Rattle.std.specs.List.{All}
-use Rattle.std.proofs.lemmas.List.Elements.{All-append}
-use Rattle.std.proofs.lemmas.Option.{IfSome_then}
 use Rattle.prl_calendar.specs.Turns.{Turn, date_of}
 use Rattle.prl_calendar.proofs.Queued.{all_right, heap_popped, none_then}
 use Rattle.prl_calendar.proofs.turns.Turns.take.Goals as goal

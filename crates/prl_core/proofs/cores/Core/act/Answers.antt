@@ -1,5 +1,4 @@
-use Rattle.std.proofs.Common.{sym, ◌∙◌, ap, subst}
-use Rattle.std.proofs.lemmas.Result.{err_from_is_err_and}
+use Rattle.prl_base.proofs.Standard.{sym, ◌∙◌, ap, subst, err_from_is_err_and}
 use Rattle.prl_plan.specs.declared.events.Event.TheVariants as events
 use Rattle.prl_plan.specs.Vocabulary.{KeepsLegal, FirstBroken, first_unfinished, next_action, after_event}
 use Rattle.prl_track.specs.Tracks.{TrackView}

@@ -1,5 +1,4 @@
-use Rattle.std.proofs.Common.{◌<◌, length, refl, sym, subst}
-use Rattle.std.specs.Prelude.{MatchOption}
+use Rattle.prl_base.proofs.Standard.{◌<◌, length, refl, sym, subst, MatchOption}
 use Rattle.prl_workers.specs.Workers.{HasMachine, HasNoMachine}
 use Rattle.prl_core.specs.Cores.{CoreView, IsMachineOf, IsNoNode}
 use Rattle.prl_core.proofs.Given.{work_at, match_mono, machine_told, no_machine_told}

@@ -1,5 +1,4 @@
-use Rattle.std.proofs.Common.{sym}
-use Rattle.std.proofs.lemmas.List.{length-take-le}
+use Rattle.prl_base.proofs.Standard.{sym, length-take-le}
 use Rattle.prl_core.proofs.Given.{driven_column, driven_outputs, driven_room}
 use Rattle.prl_core.proofs.cores.Core.output.Goals as goal
 

@@ -1,5 +1,4 @@
-use Rattle.std.proofs.Common.{◌-◌, ◌<◌, ◌≤◌, length, sum, take}
-use Rattle.std.specs.Prelude.{slice_index_or}
+use Rattle.prl_base.proofs.Standard.{◌-◌, ◌<◌, ◌≤◌, length, sum, take, slice_index_or}
 use Rattle.prl_plan.specs.Cells.{no_used}
 use Rattle.prl_plan.proofs.cell_lists.Cells.gaps_to.Given as goal
 

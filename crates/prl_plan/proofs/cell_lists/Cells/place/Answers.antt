@@ -1,5 +1,4 @@
-use Rattle.std.proofs.Common.{◌≡◌, ◌+◌, ◌-◌, ◌*◌, ◌/◌, ◌%◌, ◌<◌, ◌≤◌, ℕ, Some, length, sum, take, sym, ◌∙◌, ap, arith}
-use Rattle.std.specs.Prelude.{slice_index_or}
+use Rattle.prl_base.proofs.Standard.{◌≡◌, ◌+◌, ◌-◌, ◌*◌, ◌/◌, ◌%◌, ◌<◌, ◌≤◌, ℕ, Some, length, sum, take, sym, ◌∙◌, ap, arith, slice_index_or}
 use Rattle.prl_plan.specs.Vocabulary.{Used, no_used, place_of}
 use Rattle.prl_plan.proofs.PlaceLaws.{none_without_gaps, place_before, enumerated, Known, known, some_total, rest_below, is_at, is_not}
 use Rattle.prl_plan.proofs.cell_lists.Cells.place.Goals as goal

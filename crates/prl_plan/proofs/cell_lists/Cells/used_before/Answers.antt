@@ -1,5 +1,4 @@
-use Rattle.std.proofs.Common.{◌≡◌, ◌+◌, ◌-◌, ◌*◌, ◌/◌, ◌%◌, ◌<◌, ◌≤◌, ℕ, length, sum, take, refl, sym, ap, subst, arith}
-use Rattle.std.specs.Prelude.{slice_index_or}
+use Rattle.prl_base.proofs.Standard.{◌≡◌, ◌+◌, ◌-◌, ◌*◌, ◌/◌, ◌%◌, ◌<◌, ◌≤◌, ℕ, length, sum, take, refl, sym, ap, subst, arith, slice_index_or}
 use Rattle.prl_plan.specs.Vocabulary.{no_used, Used, CountsUsed}
 use Rattle.prl_plan.proofs.PlaceLaws.{Known, known, some_total, rest_below, number, counts_at}
 use Rattle.prl_plan.proofs.cell_lists.Cells.used_before.Goals as goal

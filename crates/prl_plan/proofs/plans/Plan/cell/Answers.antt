@@ -1,6 +1,4 @@
-use Rattle.std.proofs.Common.{◌≡◌, ◌+◌, ◌<◌, ◌≤◌, ℕ, Option, Some, None, length, sum, sym, ◌∙◌, arith}
-use Rattle.std.specs.Prelude.{slice_index}
-use Rattle.std.proofs.lemmas.Nat.{mod_below}
+use Rattle.prl_base.proofs.Standard.{◌≡◌, ◌+◌, ◌<◌, ◌≤◌, ℕ, Option, Some, None, length, sum, sym, ◌∙◌, arith, slice_index, mod_below}
 use Rattle.prl_plan.specs.Vocabulary.{IsUsed, PlanView, IsPlan, edge_at, place_on}
 use Rattle.prl_plan.proofs.PlanParts.{used_place, place_used}
 use Rattle.prl_plan.proofs.plans.Plan.cell.Goals as goal

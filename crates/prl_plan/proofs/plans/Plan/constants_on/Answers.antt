@@ -1,6 +1,4 @@
-use Rattle.std.proofs.Common.{arith, ◌≡◌, ◌<◌, ℕ, List, Some, length, sym, ◌∙◌, ap, subst}
-use Rattle.std.specs.Prelude.{slice_get}
-use Rattle.std.proofs.lemmas.Option.{slice_get-get_or, same_Some}
+use Rattle.prl_base.proofs.Standard.{arith, ◌≡◌, ◌<◌, ℕ, List, Some, length, sym, ◌∙◌, ap, subst, slice_get, slice_get-get_or, same_Some}
 use Rattle.prl_plan.specs.Vocabulary.{Word, plan_of, IsFirstReader, PlanView, IsPlan, edge_at, no_edge}
 use Rattle.prl_plan.proofs.WordNumbers.{first_after_prefix}
 use Rattle.prl_plan.proofs.plans.Plan.constants_on.Goals as goal

@@ -1,5 +1,4 @@
-use Rattle.std.proofs.Common.{rules, ◌≡◌, ◌+◌, ◌-◌, ◌<◌, ◌≤◌, ◌^◌, ◌⊎◌, ℕ, length, inl, inr, sym, ◌∙◌, ap, subst, arith}
-use Rattle.std.proofs.lemmas.Bool.{cases_lt}
+use Rattle.prl_base.proofs.Standard.{rules, ◌≡◌, ◌+◌, ◌-◌, ◌<◌, ◌≤◌, ◌^◌, ◌⊎◌, ℕ, length, inl, inr, sym, ◌∙◌, ap, subst, arith, cases_lt}
 use Rattle.prl_plan.specs.Vocabulary.{task_at, job_count, IsHorizonJob, PlanView, IsPlan, deadline_at}
 use Rattle.prl_plan.proofs.Counts.{IsHorizonJob_count, job_count_horizon}
 use Rattle.prl_plan.proofs.PlanFacts.{task_fact, room_at, apart_at}

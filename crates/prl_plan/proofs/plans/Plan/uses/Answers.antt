@@ -1,5 +1,4 @@
-use Rattle.std.proofs.Common.{◌≡◌, ◌<◌, ◌↔◌, ℕ, Option, Some, None, Bool, true, false, length, sym, ◌∙◌}
-use Rattle.std.specs.Prelude.{is_some, IsTrue}
+use Rattle.prl_base.proofs.Standard.{◌≡◌, ◌<◌, ◌↔◌, ℕ, Option, Some, None, Bool, true, false, length, sym, ◌∙◌, is_some, IsTrue}
 use Rattle.prl_plan.specs.Vocabulary.{IsUsed, PlanView, IsPlan, edge_at, place_on}
 use Rattle.prl_plan.proofs.PlanParts.{used_place, place_used}
 use Rattle.prl_plan.proofs.plans.Plan.uses.Goals as goal

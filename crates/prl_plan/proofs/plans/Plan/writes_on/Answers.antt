@@ -1,5 +1,4 @@
-use Rattle.std.proofs.Common.{◌≡◌, ◌*◌, ◌<◌, ◌≤◌, ℕ, [], length, sym, subst, arith}
-use Rattle.std.specs.Prelude.{if◌then◌else◌, slice_index_or, is_some}
+use Rattle.prl_base.proofs.Standard.{◌≡◌, ◌*◌, ◌<◌, ◌≤◌, ℕ, [], length, sym, subst, arith, if◌then◌else◌, slice_index_or, is_some}
 use Rattle.prl_plan.specs.Vocabulary.{no_used, place_of, plan_of, CountsUsed, sum_below, PlanView, IsPlan, place_on, both_writes}
 use Rattle.prl_plan.proofs.PlanParts.{used_ordered}
 use Rattle.prl_plan.proofs.SumLaws.{two_if, sum_same, writes_counted, length_writes}

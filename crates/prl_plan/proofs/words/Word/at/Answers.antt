@@ -1,7 +1,6 @@
-use Rattle.std.proofs.Common.{◌≡◌, ◌-◌, ◌<◌, ◌≤◌, ℕ, length, sym, ◌∙◌, ap, arith}
+use Rattle.prl_base.proofs.Standard.{◌≡◌, ◌-◌, ◌<◌, ◌≤◌, ℕ, length, sym, ◌∙◌, ap, arith, pos, List, slice_index_or}
 use Rattle.prl_base.specs.declared.values.Value.{Value}
 use Rattle.prl_base.specs.declared.values.Value.TheVariants as values
-use Rattle.std.specs.Prelude.{pos, List, slice_index_or}
 use Rattle.prl_plan.specs.declared.walks.Operand.TheVariants as operands
 use Rattle.prl_plan.specs.Words.{number_at}
 use Rattle.prl_plan.proofs.WordNumbers.{in_prefix, after_prefix}

@@ -1,5 +1,4 @@
-use Rattle.std.proofs.Common.{◌≡◌, ◌<◌, ℕ, List, length, Option, Some, None, arith, sym, ◌∙◌, ap, subst}
-use Rattle.std.specs.Option.{option_map}
+use Rattle.prl_base.proofs.Standard.{◌≡◌, ◌<◌, ℕ, List, length, Option, Some, None, arith, sym, ◌∙◌, ap, subst, option_map}
 use Rattle.prl_names.specs.Lookups.{index_of}
 use Rattle.prl_schedules.specs.Vocabulary.{task_no, task_of, names_of}
 use Rattle.prl_schedules.proofs.Numbering.{task_is_index, index_below}

@@ -1,5 +1,4 @@
-use Rattle.std.proofs.Common.{ap, subst, ◌∙◌}
-use Rattle.std.specs.Mem.Slots.{slots_items}
+use Rattle.prl_base.proofs.Standard.{ap, subst, ◌∙◌, slots_items}
 use Rattle.prl_rule.specs.Known.{known}
 use Rattle.prl_rule.specs.declared.views.Constants.{Constants}
 use Rattle.prl_seats.specs.Boards.{BoardView, IsClosing}

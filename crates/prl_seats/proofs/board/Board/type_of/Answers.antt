@@ -1,5 +1,4 @@
-use Rattle.std.proofs.Common.{◌≡◌, List, get_or, ap, subst, ◌∙◌}
-use Rattle.std.proofs.lemmas.List.{get_or_default}
+use Rattle.prl_base.proofs.Standard.{◌≡◌, List, get_or, ap, subst, ◌∙◌, get_or_default}
 use Rattle.prl_plan.specs.declared.events.Action.TheVariants as actions
 use Rattle.prl_plan.specs.Plans.{IsActionOf, PlanView, no_edge}
 use Rattle.prl_plan.specs.declared.graphs.Edge.{Edge}

@@ -1,5 +1,4 @@
-use Rattle.std.proofs.Common.{sym, ◌∙◌}
-use Rattle.std.proofs.lemmas.Option.{slice_get_within}
+use Rattle.prl_base.proofs.Standard.{sym, ◌∙◌, slice_get_within}
 use Rattle.prl_sensors.proofs.finders.Finder.find.Goals as goal
 
 pub returns-in-Some-clause-within : goal.returns-in-Some-clause-within

@@ -1,6 +1,4 @@
-use Rattle.std.proofs.Common.{◌≡◌, List, map, Ok, refl, sym, ap, ◌∙◌, subst, arith}
-use Rattle.std.proofs.lemmas.List.{map_push}
-use Rattle.std.proofs.lemmas.Result.{err_from_is_err_and}
+use Rattle.prl_base.proofs.Standard.{◌≡◌, List, map, Ok, refl, sym, ap, ◌∙◌, subst, arith, map_push, err_from_is_err_and}
 use Rattle.prl_ast.specs.Trees.{tree_of}
 use Rattle.prl_ast.specs.declared.expressions.PlacedOp.{PlacedOp}
 use Rattle.prl_grammar.specs.Vocabulary.{read_nested, Lexeme, Read}

@@ -1,5 +1,4 @@
-use Rattle.std.proofs.Common.{arith, ◌≡◌, ◌+◌, ℕ, vec_len, subst, Some}
-use Rattle.std.proofs.lemmas.Option.{slice_get_read}
+use Rattle.prl_base.proofs.Standard.{arith, ◌≡◌, ◌+◌, ℕ, vec_len, subst, Some, slice_get_read}
 use Rattle.std.specs.List.{slice_get}
 use Rattle.prl_ast.specs.Trees.{program_tree}
 use Rattle.prl_types.specs.Vocabulary.{count_of, HasParameter}

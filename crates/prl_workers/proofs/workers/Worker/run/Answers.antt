@@ -1,6 +1,4 @@
-use Rattle.std.proofs.Common.{length, refl, sym, ◌∙◌, ap, subst}
-use Rattle.std.specs.Vec.{with_item}
-use Rattle.std.proofs.lemmas.Option.{slice_get_read}
+use Rattle.prl_base.proofs.Standard.{length, refl, sym, ◌∙◌, ap, subst, with_item, slice_get_read}
 use Rattle.prl_workers.specs.Vocabulary.{Work, outs_of, CanRun, RunsTo}
 use Rattle.prl_workers.specs.declared.workers.Work.TheVariants as works
 use Rattle.prl_workers.proofs.workers.Worker.run.Goals as goal
