@@ -1,12 +1,9 @@
 //! Whether a text is the one that is wanted.
 
-/// Whether the text is the first piece, then the others in their order, with any text before each of them, and nothing
+/// Whether the text is the first piece, then the later ones in their order, with any text before each of them, and nothing
 /// behind the last.
-pub fn is_made_of(text: &str, pieces: &[String]) -> bool {
-    let Some((first, later)) = pieces.split_first() else {
-        return text.is_empty();
-    };
-    let Some(rest) = text.strip_prefix(first.as_str()) else {
+pub fn is_made_of(text: &str, first: &str, later: &[String]) -> bool {
+    let Some(rest) = text.strip_prefix(first) else {
         return false;
     };
     let Some((last, middle)) = later.split_last() else {

@@ -3,42 +3,22 @@
 
 use crate::shapes::Filling;
 use anyhow::{Result, bail};
+use std::alloc::AllocError;
 use std::fmt::Write;
 
-/// What stands between `{` and `}` where it is no plain text.
-#[derive(Clone, Copy)]
-enum Mark<'a> {
-    /// A hole of this name.
-    Hole(&'a str),
-    /// A character.
-    Char(char),
-    /// The text so many times, each time with its number for each `#` and the next one for each `$`.
-    Repeat {
-        count: u64,
-        is_downward: bool,
-        text: &'a str,
-    },
-}
-
 /// Adds the line with this end. One that is a repetition alone is that many lines.
-pub fn add_lines(out: &mut String, line: &str, end: &str, fillings: &[Filling]) -> Result<()> {
-    match lone_repeat(line)? {
-        Some((count, is_downward, text)) => {
-            for number in 0..count {
-                add_numbered(out, text, at(count, is_downward, number))?;
-                out.push_str(end)?;
-            }
-        }
+pub fn add_lines(out: &mut String, line: &str, end: &str, fillings: &[Filling<'_>]) -> Result<()> {
+    match lone_repeat(line) {
+        Some(inside) => add_repeat(out, inside, end),
         None => {
             add_text(out, line, fillings)?;
-            out.push_str(end)?;
+            Ok(out.push_str(end)?)
         }
     }
-    Ok(())
 }
 
 /// Adds the text.
-pub fn add_text(out: &mut String, text: &str, fillings: &[Filling]) -> Result<()> {
+pub fn add_text(out: &mut String, text: &str, fillings: &[Filling<'_>]) -> Result<()> {
     let mut parts = text.split('{');
     if let Some(first) = parts.next() {
         out.push_str(first)?;
@@ -50,116 +30,90 @@ pub fn add_text(out: &mut String, text: &str, fillings: &[Filling]) -> Result<()
 }
 
 /// Adds what follows a `{` up to the next.
-fn add_part(out: &mut String, part: &str, fillings: &[Filling]) -> Result<()> {
-    match mark_of(part)? {
-        None => {
-            out.push('{')?;
-            out.push_str(part)?;
-        }
-        Some((mark, rest)) => {
-            add_mark(out, mark, fillings)?;
-            out.push_str(rest)?;
-        }
-    }
-    Ok(())
-}
-
-fn add_mark(out: &mut String, mark: Mark<'_>, fillings: &[Filling]) -> Result<()> {
-    match mark {
-        Mark::Hole(name) => match filling(fillings, name) {
-            Some(text) => out.push_str(text)?,
-            None => write!(out, "{{={name}}}")?,
-        },
-        Mark::Char(c) => out.push(c)?,
-        Mark::Repeat {
-            count,
-            is_downward,
-            text,
-        } => {
-            for number in 0..count {
-                add_numbered(out, text, at(count, is_downward, number))?;
-            }
-        }
-    }
-    Ok(())
-}
-
-/// The number that stands at a place of so many.
-fn at(count: u64, is_downward: bool, place: u64) -> u64 {
-    if is_downward {
-        count.saturating_sub(place).saturating_sub(1)
-    } else {
-        place
-    }
-}
-
-/// Adds the text with the number for each `#`, and the next one for each `$`.
-fn add_numbered(out: &mut String, text: &str, number: u64) -> Result<()> {
-    for letter in text.chars() {
-        match letter {
-            '#' => write!(out, "{number}")?,
-            '$' => write!(out, "{}", number.saturating_add(1))?,
-            other => out.push(other)?,
-        }
-    }
-    Ok(())
-}
-
-/// The newest text for holes of this name.
-fn filling<'a>(fillings: &'a [Filling], name: &str) -> Option<&'a str> {
-    for filling in fillings.iter().rev() {
-        if filling.name.as_str() == name {
-            return Some(filling.text.as_str());
-        }
-    }
-    None
-}
-
-/// The mark that follows a `{`, and what stands behind it; none where the `{` is plain text.
-fn mark_of(part: &str) -> Result<Option<(Mark<'_>, &str)>> {
+fn add_part(out: &mut String, part: &str, fillings: &[Filling<'_>]) -> Result<()> {
     if !part.starts_with(['=', '*', '-', '%']) {
-        return Ok(None);
+        return Ok(write!(out, "{{{part}")?);
     }
     let Some((inside, rest)) = part.split_once('}') else {
         bail!("no end of a hole or repetition");
     };
+    add_mark(out, inside, fillings)?;
+    Ok(out.push_str(rest)?)
+}
+
+/// Adds what a hole, a character's number or a repetition between `{` and `}` stands for.
+fn add_mark(out: &mut String, inside: &str, fillings: &[Filling<'_>]) -> Result<()> {
     if let Some(name) = inside.strip_prefix('=') {
-        return Ok(Some((Mark::Hole(name), rest)));
+        return Ok(add_hole(out, name, fillings)?);
     }
-    if let Some(digits) = inside.strip_prefix('%') {
-        let Some(c) = char::from_u32(u32::from_str_radix(digits, 16)?) else {
-            bail!("no character");
+    match inside.strip_prefix('%') {
+        Some(digits) => add_char(out, digits),
+        None => add_repeat(out, inside, ""),
+    }
+}
+
+/// Adds the newest text for holes of this name; the hole as it stands where there is none.
+fn add_hole(out: &mut String, name: &str, fillings: &[Filling<'_>]) -> Result<(), AllocError> {
+    for filling in fillings.iter().rev() {
+        if filling.name == name {
+            return out.push_str(filling.text.as_str());
+        }
+    }
+    write!(out, "{{={name}}}")
+}
+
+/// Adds the character of a hexadecimal number.
+fn add_char(out: &mut String, digits: &str) -> Result<()> {
+    match char::from_u32(u32::from_str_radix(digits, 16)?) {
+        Some(c) => Ok(out.push(c)?),
+        None => bail!("no character"),
+    }
+}
+
+/// Adds the text of `*N TEXT` or `-N TEXT` so many times, with this end each time.
+fn add_repeat(out: &mut String, inside: &str, end: &str) -> Result<()> {
+    let (count, text) = repeat(inside)?;
+    for place in 0..count {
+        let number = if inside.starts_with('-') {
+            count.saturating_sub(place).saturating_sub(1)
+        } else {
+            place
         };
-        return Ok(Some((Mark::Char(c), rest)));
+        add_numbered(out, text, end, number)?;
     }
-    let (count, is_downward, text) = repeat(inside)?;
-    let mark = Mark::Repeat {
-        count,
-        is_downward,
-        text,
-    };
-    Ok(Some((mark, rest)))
+    Ok(())
 }
 
-/// The repetition that is all of the line.
-fn lone_repeat(line: &str) -> Result<Option<(u64, bool, &str)>> {
-    let Some(inside) = line
-        .strip_prefix('{')
-        .and_then(|rest| rest.strip_suffix('}'))
-    else {
-        return Ok(None);
-    };
+/// Adds the text with the number for each `#`, and the next one for each `$`, and then its end.
+fn add_numbered(out: &mut String, text: &str, end: &str, number: u64) -> Result<(), AllocError> {
+    for letter in text.chars() {
+        add_letter(out, letter, number)?;
+    }
+    out.push_str(end)
+}
+
+fn add_letter(out: &mut String, letter: char, number: u64) -> Result<(), AllocError> {
+    match letter {
+        '#' => write!(out, "{number}"),
+        '$' => write!(out, "{}", number.saturating_add(1)),
+        other => out.push(other),
+    }
+}
+
+/// The inside of the repetition that is all of the line.
+fn lone_repeat(line: &str) -> Option<&str> {
+    let inside = line.strip_prefix('{')?.strip_suffix('}')?;
     if inside.contains('}') || !inside.starts_with(['*', '-']) {
-        return Ok(None);
+        None
+    } else {
+        Some(inside)
     }
-    Ok(Some(repeat(inside)?))
 }
 
-/// The count, the direction and the text of `*N TEXT` or `-N TEXT`.
-fn repeat(inside: &str) -> Result<(u64, bool, &str)> {
-    let is_downward = inside.starts_with('-');
-    let Some((digits, text)) = inside.trim_start_matches(['*', '-']).split_once(' ') else {
-        bail!("a repetition without a text");
-    };
-    Ok((digits.parse::<u64>()?, is_downward, text))
+/// The count and the text of `*N TEXT` or `-N TEXT`.
+fn repeat(inside: &str) -> Result<(u64, &str)> {
+    match inside.trim_start_matches(['*', '-']).split_once(' ') {
+        Some((digits, text)) => Ok((digits.parse::<u64>()?, text)),
+        None => bail!("a repetition without a text"),
+    }
 }

@@ -13,19 +13,25 @@ mod shapes;
 
 use anyhow::Result;
 use listing::case_files;
-use running::{Tally, run_file};
+use running::{NO_CASE, Tally, run_file};
 use std::process::ExitCode;
 
 /// Runs the cases of all files, and tells how many of each file passed.
 fn run_all(rt: &HostRuntime) -> Result<Tally> {
-    let mut all = Tally::new();
-    for name in case_files(rt)? {
-        let tally = run_file(rt, name.as_str())?;
-        println!(rt; "{name} {tally}")?;
-        all.add(&tally);
+    let mut all = NO_CASE;
+    let names = case_files(rt)?;
+    for name in &names {
+        all.add(run_named(rt, name.as_str())?);
     }
     println!(rt; "all {all}")?;
     Ok(all)
+}
+
+/// Runs the cases of a file, and tells how many passed.
+fn run_named(rt: &HostRuntime, name: &str) -> Result<Tally> {
+    let tally = run_file(rt, name)?;
+    println!(rt; "{name} {tally}")?;
+    Ok(tally)
 }
 
 fn main(rt: HostRuntime) -> Result<ExitCode> {

@@ -1,64 +1,48 @@
-//! Reads the text of a file of cases.
+//! Reads the lines of a file of cases.
 
 use crate::expanding::{add_lines, add_text};
-use crate::shapes::{Call, Case, CaseFile, Filling, Limits, LineEnd};
+use crate::shapes::{
+    Call, Case, CaseFile, Filling, Limits, LineEnd, empty_call, empty_case, front,
+};
 use anyhow::{Context, Result, bail};
 use std::alloc::Global;
 
 /// What the line before belongs to.
-#[derive(Clone, Copy, PartialEq, Eq)]
+#[derive(Clone, Copy)]
 enum Place {
     Head,
     File,
     Call,
 }
 
-/// The cases of the text; the first one has no name, and holds the files that all share.
-pub fn read_cases(alloc: Global, text: &str) -> Result<Vec<Case>> {
-    let mut cases = Vec::new(alloc);
-    cases.push(Case::new(alloc, "")?)?;
-    let mut place = Place::Head;
-    let mut number = 0u64;
-    for line in text.lines() {
-        number = number.saturating_add(1);
-        place = read_line(alloc, &mut cases, place, line).context(format_args!("line {number}"))?;
-    }
-    Ok(cases)
+/// What a line begins.
+#[derive(Clone, Copy)]
+enum Kind<'a> {
+    /// A case of this name.
+    Case(&'a str),
+    /// The file of this head.
+    File(&'a str),
+    /// A name and the text for its holes.
+    Filling(&'a str),
+    /// A call; no command line where it is the last one again.
+    Call(&'a str),
+    Nothing,
 }
 
-/// Reads a line, and tells what it belongs to.
-fn read_line(alloc: Global, cases: &mut Vec<Case>, place: Place, line: &str) -> Result<Place> {
+fn kind_of(line: &str) -> Kind<'_> {
     if let Some(name) = line.strip_prefix("# ") {
-        cases.push(Case::new(alloc, name)?)?;
-        return Ok(Place::Head);
+        return Kind::Case(name);
     }
-    let Some(case) = cases.last_mut() else {
-        bail!("no case");
-    };
     if let Some(head) = file_head(line) {
-        case.files.push(file_of(alloc, head)?)?;
-        return Ok(Place::File);
+        return Kind::File(head);
     }
     if let Some(rest) = line.strip_prefix('=') {
-        add_filling(alloc, case, rest)?;
-        return Ok(Place::Head);
+        return Kind::Filling(rest);
     }
-    if let Some(words) = command(line) {
-        add_call(alloc, case, words)?;
-        return Ok(Place::Call);
+    match command(line) {
+        Some(words) => Kind::Call(words),
+        None => Kind::Nothing,
     }
-    match place {
-        Place::File => add_to_file(case, line)?,
-        Place::Head | Place::Call if is_comment(line) => {}
-        Place::Head => bail!("no file and no call"),
-        Place::Call => add_to_call(alloc, case, line)?,
-    }
-    Ok(place)
-}
-
-/// Whether a line outside a file says nothing.
-fn is_comment(line: &str) -> bool {
-    line.is_empty() || line.starts_with("//")
 }
 
 /// What stands between the marks of a line that begins a file.
@@ -66,8 +50,73 @@ fn file_head(line: &str) -> Option<&str> {
     line.strip_prefix("-- ")?.strip_suffix(" --")
 }
 
+/// The command line of a line that begins a call.
+fn command(line: &str) -> Option<&str> {
+    if line == "$" {
+        return Some("");
+    }
+    line.strip_prefix("$ ")
+}
+
+/// The cases of the lines; the first one has no name, and holds the files that all share.
+pub fn read_cases<'a>(alloc: Global, lines: &'a [&'a str]) -> Result<Vec<Case<'a>>> {
+    let mut cases = Vec::new(alloc);
+    cases.push(empty_case(alloc, ""))?;
+    read_lines(alloc, &mut cases, lines)?;
+    Ok(cases)
+}
+
+fn read_lines<'a>(alloc: Global, cases: &mut Vec<Case<'a>>, lines: &'a [&'a str]) -> Result<()> {
+    let mut place = Place::Head;
+    for (k, line) in lines.iter().enumerate() {
+        let number = k.saturating_add(1);
+        let below = lines.get(number..).unwrap_or(&[]);
+        place = read_line(alloc, cases, place, line, below).context(format_args!("line {number}"))?;
+    }
+    Ok(())
+}
+
+/// Reads a line, and tells what it belongs to.
+fn read_line<'a>(
+    alloc: Global,
+    cases: &mut Vec<Case<'a>>,
+    place: Place,
+    line: &'a str,
+    below: &'a [&'a str],
+) -> Result<Place> {
+    let kind = kind_of(line);
+    if let Kind::Case(name) = kind {
+        cases.push(empty_case(alloc, name))?;
+    }
+    let Some(case) = cases.last_mut() else {
+        bail!("no case");
+    };
+    match kind {
+        Kind::Case(_) => Ok(Place::Head),
+        Kind::File(head) => add_file(case, head, below),
+        Kind::Filling(rest) => add_filling(alloc, case, rest),
+        Kind::Call(words) => add_call(alloc, case, words),
+        Kind::Nothing => add_line(alloc, case, place, line),
+    }
+}
+
+/// A line that begins nothing.
+fn add_line<'a>(alloc: Global, case: &mut Case<'a>, place: Place, line: &'a str) -> Result<Place> {
+    match place {
+        Place::File => Ok(place),
+        Place::Head | Place::Call if is_comment(line) => Ok(place),
+        Place::Head => bail!("no file and no call"),
+        Place::Call => add_to_call(alloc, case, line),
+    }
+}
+
+/// Whether a line outside a file says nothing.
+fn is_comment(line: &str) -> bool {
+    line.is_empty() || line.starts_with("//")
+}
+
 /// The file that a head begins: a name, and `crlf` or `open` behind it.
-fn file_of(alloc: Global, head: &str) -> Result<CaseFile> {
+fn add_file<'a>(case: &mut Case<'a>, head: &'a str, below: &'a [&'a str]) -> Result<Place> {
     let mut words = head.split_ascii_whitespace();
     let Some(name) = words.next() else {
         bail!("no name");
@@ -78,143 +127,115 @@ fn file_of(alloc: Global, head: &str) -> Result<CaseFile> {
         Some("open") => LineEnd::LastOpen,
         Some(_) => bail!("no kind of file"),
     };
-    Ok(CaseFile {
-        name: String::from_str(alloc, name)?,
+    let lines = file_lines(below);
+    case.files.push(CaseFile {
+        name,
         line_end,
-        text: String::new(alloc),
-        blanks: 0,
-    })
+        lines,
+    })?;
+    Ok(Place::File)
 }
 
-/// A line of the newest file, without a `\` that begins it.
-fn add_to_file(case: &mut Case, line: &str) -> Result<()> {
-    let Some(file) = case.files.last_mut() else {
-        bail!("no file");
-    };
-    if line.is_empty() {
-        file.blanks = file.blanks.saturating_add(1);
-        return Ok(());
+/// The lines up to the first that begins something, without the empty ones at their end.
+fn file_lines<'a>(lines: &'a [&'a str]) -> &'a [&'a str] {
+    let mut count = 0usize;
+    for (k, line) in lines.iter().enumerate() {
+        match kind_of(line) {
+            Kind::Nothing if line.is_empty() => {}
+            Kind::Nothing => count = k.saturating_add(1),
+            _ => return front(lines, count),
+        }
     }
-    for _ in 0..file.blanks {
-        file.text.push('\n')?;
-    }
-    file.blanks = 0;
-    file.text.push_str(line.strip_prefix('\\').unwrap_or(line))?;
-    file.text.push('\n')?;
-    Ok(())
+    front(lines, count)
 }
 
 /// The text for the holes of a name, from `NAME TEXT`.
-fn add_filling(alloc: Global, case: &mut Case, rest: &str) -> Result<()> {
+fn add_filling<'a>(alloc: Global, case: &mut Case<'a>, rest: &'a str) -> Result<Place> {
     let (name, raw) = rest.split_once(' ').unwrap_or((rest, ""));
     let mut text = String::new(alloc);
     add_text(&mut text, raw, case.fillings.as_slice())?;
-    let name = String::from_str(alloc, name)?;
     case.fillings.push(Filling { name, text })?;
-    Ok(())
+    Ok(Place::Head)
 }
 
-/// The command line of a line that begins a call; empty where it is the last one again.
-fn command(line: &str) -> Option<&str> {
-    let words = line.strip_prefix('$')?;
-    if words.is_empty() {
-        return Some(words);
-    }
-    words.strip_prefix(' ')
-}
-
-fn add_call(alloc: Global, case: &mut Case, line: &str) -> Result<()> {
-    let words = if line.is_empty() {
-        same_words(alloc, case.calls.as_slice())?
-    } else {
-        words_of(alloc, line, case.fillings.as_slice())?
-    };
-    let mut call = Call::new(alloc, words)?;
-    call.file_count = case.files.len();
-    call.filling_count = case.fillings.len();
+fn add_call(alloc: Global, case: &mut Case<'_>, line: &str) -> Result<Place> {
+    let mut call = empty_call(alloc, case.files.len(), case.fillings.len());
+    add_command(&mut call.line, case, line)?;
     case.calls.push(call)?;
-    Ok(())
+    Ok(Place::Call)
 }
 
-/// The words of the last call.
-fn same_words(alloc: Global, calls: &[Call]) -> Result<Vec<String>> {
-    let Some(last) = calls.last() else {
-        bail!("no command line before");
-    };
-    let mut words = Vec::new(alloc);
-    for word in &last.words {
-        words.push(String::from_str(alloc, word.as_str())?)?;
+/// Adds the command line, or the last one where it is empty.
+fn add_command(text: &mut String, case: &Case<'_>, line: &str) -> Result<()> {
+    if !line.is_empty() {
+        return add_text(text, line, case.fillings.as_slice());
     }
-    Ok(words)
-}
-
-/// The words between blanks; `''` is the empty one.
-fn words_of(alloc: Global, line: &str, fillings: &[Filling]) -> Result<Vec<String>> {
-    let mut text = String::new(alloc);
-    add_text(&mut text, line, fillings)?;
-    let mut words = Vec::new(alloc);
-    for word in text.split_ascii_whitespace() {
-        let word = if word == "''" { "" } else { word };
-        words.push(String::from_str(alloc, word)?)?;
+    match case.calls.last() {
+        Some(last) => Ok(text.push_str(last.line.as_str())?),
+        None => bail!("no command line before"),
     }
-    Ok(words)
 }
 
 /// A line on the newest call: what it is made on, and what it is to tell.
-fn add_to_call(alloc: Global, case: &mut Case, line: &str) -> Result<()> {
+fn add_to_call<'a>(alloc: Global, case: &mut Case<'a>, line: &'a str) -> Result<Place> {
     let Some(call) = case.calls.last_mut() else {
         bail!("no call");
     };
-    let fillings = case.fillings.as_slice();
-    if let Some(rest) = line.strip_prefix('<') {
-        return add_told(&mut call.input, rest, fillings);
-    }
-    if let Some(rest) = line.strip_prefix('!') {
-        return add_told(&mut call.wanted.err, rest, fillings);
-    }
     if line == "..." {
-        call.wanted.out.push(String::new(alloc))?;
-        return Ok(());
+        call.later.push(String::new(alloc))?;
+    } else if let Some(text) = told_by(call, line) {
+        add_told(text, line, case.fillings.as_slice())?;
+    } else {
+        set_other(call, line)?;
     }
-    if line.starts_with(['>', '|']) {
-        let Some(piece) = call.wanted.out.last_mut() else {
-            bail!("no piece");
-        };
-        return add_told(piece, line.strip_prefix('>').unwrap_or(line), fillings);
+    Ok(Place::Call)
+}
+
+/// The text that a line of this mark adds to.
+fn told_by<'b>(call: &'b mut Call<'_>, line: &str) -> Option<&'b mut String> {
+    if line.starts_with('<') {
+        return Some(&mut call.input);
     }
-    set_other(alloc, call, line)
+    if line.starts_with('!') {
+        return Some(&mut call.told);
+    }
+    if !line.starts_with(['>', '|']) {
+        return None;
+    }
+    match call.later.last_mut() {
+        Some(piece) => Some(piece),
+        None => Some(&mut call.first),
+    }
 }
 
 /// What follows the mark of a line: a blank and a line, or `|`, a blank and a piece without a line end.
-fn add_told(text: &mut String, rest: &str, fillings: &[Filling]) -> Result<()> {
+fn add_told(text: &mut String, line: &str, fillings: &[Filling<'_>]) -> Result<()> {
+    let rest = line.strip_prefix(['<', '!', '>']).unwrap_or(line);
     match rest.strip_prefix('|') {
         Some(piece) => add_text(text, piece.strip_prefix(' ').unwrap_or(piece), fillings),
-        None => {
-            let line = rest.strip_prefix(' ').unwrap_or(rest);
-            add_lines(text, line, "\n", fillings)
-        }
+        None => add_lines(text, rest.strip_prefix(' ').unwrap_or(rest), "\n", fillings),
     }
 }
 
 /// A line on the status, the files or a sink.
-fn set_other(alloc: Global, call: &mut Call, line: &str) -> Result<()> {
+fn set_other<'a>(call: &mut Call<'a>, line: &'a str) -> Result<()> {
     let Some((word, rest)) = line.split_once(' ') else {
         bail!("no line of a call");
     };
     match word {
-        "status" => call.wanted.status = rest.parse::<u8>()?,
-        "into" => call.into = Some(String::from_str(alloc, rest)?),
-        "fronts" => call.fronts = Some(String::from_str(alloc, rest)?),
-        "files" => read_limits(&mut call.files, rest)?,
-        "out" => read_limits(&mut call.out, rest)?,
-        "err" => read_limits(&mut call.err, rest)?,
+        "status" => call.status = rest.parse::<u8>()?,
+        "into" => call.into = Some(rest),
+        "fronts" => call.fronts = Some(rest),
+        "files" => return read_limits(&mut call.files, rest),
+        "out" => return read_limits(&mut call.out, rest),
+        "err" => return read_limits(&mut call.err, rest),
         _ => bail!("no line of a call"),
     }
     Ok(())
 }
 
-/// What the next numbers of limits are.
-#[derive(Clone, Copy, PartialEq, Eq)]
+/// What a number is of.
+#[derive(Clone, Copy)]
 enum Meant {
     Nothing,
     Room,
@@ -226,18 +247,17 @@ enum Meant {
 fn read_limits(limits: &mut Limits, words: &str) -> Result<()> {
     let mut meant = Meant::Nothing;
     for word in words.split_ascii_whitespace() {
-        meant = read_limit(limits, meant, word)?;
+        match word {
+            "room" => meant = Meant::Room,
+            "most" => meant = Meant::Most,
+            "fail" => meant = Meant::Fails,
+            _ => set_limit(limits, meant, word)?,
+        }
     }
     Ok(())
 }
 
-fn read_limit(limits: &mut Limits, meant: Meant, word: &str) -> Result<Meant> {
-    match word {
-        "room" => return Ok(Meant::Room),
-        "most" => return Ok(Meant::Most),
-        "fail" => return Ok(Meant::Fails),
-        _ => {}
-    }
+fn set_limit(limits: &mut Limits, meant: Meant, word: &str) -> Result<()> {
     let number = word.parse::<u64>()?;
     match meant {
         Meant::Nothing => bail!("a number of nothing"),
@@ -245,5 +265,5 @@ fn read_limit(limits: &mut Limits, meant: Meant, word: &str) -> Result<Meant> {
         Meant::Most => limits.most = number,
         Meant::Fails => limits.fails.push(number)?,
     }
-    Ok(meant)
+    Ok(())
 }

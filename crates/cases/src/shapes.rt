@@ -1,9 +1,9 @@
-//! What a file of cases holds.
+//! What a file of cases holds. Names and the lines of files are parts of its text.
 
-use std::alloc::{AllocError, Global};
+use std::alloc::Global;
 
 /// How the lines of a file end.
-#[derive(Clone, Copy, PartialEq, Eq)]
+#[derive(Clone, Copy)]
 pub enum LineEnd {
     /// Each by a line feed.
     Feed,
@@ -14,20 +14,18 @@ pub enum LineEnd {
 }
 
 /// A file of a case, with its holes and repetitions.
-#[derive(Drop)]
-pub struct CaseFile {
-    pub name: String,
+#[derive(Clone, Copy)]
+pub struct CaseFile<'a> {
+    pub name: &'a str,
     pub line_end: LineEnd,
-    /// Each line ends by a line feed.
-    pub text: String,
-    /// Empty lines since the last line that is not empty: no part of the file where none comes behind them.
-    pub blanks: u64,
+    /// As they stand, with the `\` that begins some.
+    pub lines: &'a [&'a str],
 }
 
 /// The text for each hole of a name.
 #[derive(Drop)]
-pub struct Filling {
-    pub name: String,
+pub struct Filling<'a> {
+    pub name: &'a str,
     pub text: String,
 }
 
@@ -50,76 +48,71 @@ impl Limits {
     }
 }
 
-/// What a call is to tell.
-#[derive(Drop)]
-pub struct Wanted {
-    pub status: u8,
-    /// The pieces of `out`, of which one follows another with any text between.
-    pub out: Vec<String>,
-    pub err: String,
-}
-
 /// A command line, what it is made on, and what it is to tell.
 #[derive(Drop)]
-pub struct Call {
+pub struct Call<'a> {
     /// The program's name, and its words.
-    pub words: Vec<String>,
+    pub line: String,
     /// How many files of the case stand before it.
     pub file_count: usize,
     /// How many fillings of the case stand before it.
     pub filling_count: usize,
     pub input: String,
     /// The name of the file that `out` is to be for later calls.
-    pub into: Option<String>,
+    pub into: Option<&'a str>,
     /// The name of the file of which fronts are to be tried.
-    pub fronts: Option<String>,
+    pub fronts: Option<&'a str>,
     pub files: Limits,
     pub out: Limits,
     pub err: Limits,
-    pub wanted: Wanted,
+    pub status: u8,
+    /// What `out` is to begin with.
+    pub first: String,
+    /// The later pieces of `out`, of which one follows another with any text between.
+    pub later: Vec<String>,
+    /// What `err` is to be.
+    pub told: String,
 }
 
-impl Call {
-    /// The command line, which is to end with status 0 and to write nothing.
-    pub fn new(alloc: Global, words: Vec<String>) -> Result<Call, AllocError> {
-        let mut out = Vec::new(alloc);
-        out.push(String::new(alloc))?;
-        Ok(Call {
-            words,
-            file_count: 0,
-            filling_count: 0,
-            input: String::new(alloc),
-            into: None,
-            fronts: None,
-            files: Limits::new(alloc),
-            out: Limits::new(alloc),
-            err: Limits::new(alloc),
-            wanted: Wanted {
-                status: 0,
-                out,
-                err: String::new(alloc),
-            },
-        })
+/// A call on so many files and fillings, which is to end with status 0 and to write nothing.
+pub fn empty_call<'a>(alloc: Global, file_count: usize, filling_count: usize) -> Call<'a> {
+    Call {
+        line: String::new(alloc),
+        file_count,
+        filling_count,
+        input: String::new(alloc),
+        into: None,
+        fronts: None,
+        files: Limits::new(alloc),
+        out: Limits::new(alloc),
+        err: Limits::new(alloc),
+        status: 0,
+        first: String::new(alloc),
+        later: Vec::new(alloc),
+        told: String::new(alloc),
     }
 }
 
 /// A case: its files, the texts for their holes, and the calls that are made on them.
 #[derive(Drop)]
-pub struct Case {
-    pub name: String,
-    pub files: Vec<CaseFile>,
-    pub fillings: Vec<Filling>,
-    pub calls: Vec<Call>,
+pub struct Case<'a> {
+    pub name: &'a str,
+    pub files: Vec<CaseFile<'a>>,
+    pub fillings: Vec<Filling<'a>>,
+    pub calls: Vec<Call<'a>>,
 }
 
-impl Case {
-    /// A case of this name with no file and no call.
-    pub fn new(alloc: Global, name: &str) -> Result<Case, AllocError> {
-        Ok(Case {
-            name: String::from_str(alloc, name)?,
-            files: Vec::new(alloc),
-            fillings: Vec::new(alloc),
-            calls: Vec::new(alloc),
-        })
+/// A case of this name with no file and no call.
+pub fn empty_case<'a>(alloc: Global, name: &'a str) -> Case<'a> {
+    Case {
+        name,
+        files: Vec::new(alloc),
+        fillings: Vec::new(alloc),
+        calls: Vec::new(alloc),
     }
+}
+
+/// The first so many items, or all where there are fewer.
+pub fn front<T>(items: &[T], count: usize) -> &[T] {
+    items.get(..count).unwrap_or(items)
 }

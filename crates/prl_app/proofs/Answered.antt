@@ -1,7 +1,7 @@
 -- What answers a command: its files, its stages, and what its mode means.
 use Rattle.prl_base.proofs.Standard.{◌≡◌, ◌++◌, ℕ, Bool, List, ◌∷◌, Option, Some, None, refl, sym, ap, ◌∙◌, subst, append_assoc, is_some}
 use Rattle.prl_io.specs.Views.{FolderView}
-use Rattle.prl_stages.specs.Vocabulary.{IsMeant, IsMeantIn, IsSummary, Folder, Given, IsGiven, IsGivenIn, generated, Comes, IsText, files, front, ran, stages_after, stages_of}
+use Rattle.prl_stages.specs.Vocabulary.{IsMeant, IsMeantIn, IsSummary, Folder, Given, IsGiven, IsGivenIn, generated, Comes, files, front, ran, stages_after, stages_of}
 use Rattle.prl_stages.specs.declared.stages.Stage.{Stage}
 use Rattle.prl_stages.specs.declared.stages.Stop.{Stop}
 use Rattle.prl_stages.specs.declared.ran.Ran.{Ran}
@@ -11,10 +11,9 @@ use Rattle.prl_calls.specs.declared.reading.Request.{Request}
 use Rattle.prl_arguments.specs.declared.arguments.Command.{Command}
 use Rattle.prl_arguments.specs.declared.arguments.Mode.{Mode}
 use Rattle.prl_arguments.specs.declared.arguments.Mode.TheVariants as modes
-use Rattle.prl_stages.specs.declared.ran.Ran.TheVariants as runs
 use Rattle.prl_executions.specs.declared.running.Outcome.{Outcome}
 use Rattle.prl_executions.specs.declared.running.Outcome.TheVariants as outcomes
-use Rattle.prl_app.specs.Vocabulary.{IsAnswer, IsAnswerOf, IsAnswerStop, HasFiles, RunsNothing}
+use Rattle.prl_app.specs.Vocabulary.{IsAnswer, IsAnswerOf, IsAnswerStop, HasFiles}
 use Rattle.prl_calls.specs.Stops.{IsReached, given_of, IsRequestOf, StopsIn, AllHold, IsStopOfFiles}
 use Rattle.prl_executions.specs.Ready.{IsOutcome}
 use Rattle.prl_calls.proofs.Stops.{stops_comes, stops_unread, hold_comes, after_holds, first_refused}
@@ -46,21 +45,6 @@ given_to modes.Run h told c g is = is
 given_to modes.Schedule h told c g is = is
 given_to modes.Table h told c g is = is
 given_to modes.Generate h told c g is = absurd h
-
--- what a mode that runs nothing means is its text
-pub meant_alone : (mode : Mode) → RunsNothing mode → (g : Given) (c : Command) (text : List ℕ) (done : Ran) → IsText g mode text → done ≡ runs.Not → IsMeantIn mode g c text done
-meant_alone modes.Check h g c text done is none = (is, none)
-meant_alone modes.Cores h g c text done is none = (is, none)
-meant_alone modes.Edf h g c text done is none = (is, none)
-meant_alone modes.Flows h g c text done is none = (is, none)
-meant_alone modes.Plan h g c text done is none = (is, none)
-meant_alone modes.Print h g c text done is none = (is, none)
-meant_alone modes.Replay h g c text done is none = (is, none)
-meant_alone modes.Schedule h g c text done is none = (is, none)
-meant_alone modes.Table h g c text done is none = (is, none)
-meant_alone modes.Run h g c text done is none = absurd h
-meant_alone modes.Cycle h g c text done is none = absurd h
-meant_alone modes.Generate h g c text done is none = absurd h
 
 -- the stages after the files hold
 pub files_answered : (told : Option Folder) (c : Command) (r : Request) → IsRequestOf told c r

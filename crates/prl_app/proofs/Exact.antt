@@ -1,6 +1,6 @@
 -- What a command comes to over known files is how its call ends.
 use Rattle.std.proofs.Common.{◌≡◌, ◌≤◌, ◌++◌, ℕ, Bool, List, [], ◌∷◌, drop, Option, Some, None, Result, refl, sym, ap, ◌∙◌, inl, inr, subst, arith}
-use Rattle.prl_app.specs.Vocabulary.{Ending, IsAnswerOf, IsAnswerStop, Status, Answers, AsksForThreads, Outside, Ends, IsEndOf, IsExact, IsOverrunOf, IsTold, Means, NoFault, NoneFailed, ran_of}
+use Rattle.prl_app.specs.Vocabulary.{Ending, IsAnswerOf, IsAnswerStop, Status, Answers, Outside, Ends, IsEndOf, IsExact, IsOverrunOf, IsTold, Means, NoFault, NoneFailed, ran_of}
 use Rattle.prl_app.specs.Vocabulary.{status_of, line_of, IsWrittenBy, line_is}
 use Rattle.prl_app.specs.code.Performed.{Performs}
 use Rattle.prl_app.specs.declared.endings.Ending.TheVariants as endings
@@ -138,19 +138,6 @@ answers_by law words old new status command ending code ran ends line told folde
   exact = exact_by law words old new ending ends;
   folder = folder;
 }
-
--- no command of a run on several workers is a command of none
-pub asked_same : (words : List (List ℕ)) (c : Command) → command_of words ≡ Some c → (asks : AsksForThreads words) → (c.mode ≡ modes.Run) × (2 ≤ c.workers)
-asked_same words c asked asks =
-    subst (λ (x : Command). (x.mode ≡ modes.Run) × (2 ≤ x.workers)) (some_same (command_of words) asks.command c asks.asked asked) (asks.mode, asks.several)
-
-pub never_asked : (words : List (List ℕ)) → command_of words ≡ None → AsksForThreads words → ⊥
-never_asked words none asks = none_some (command_of words) asks.command none asks.asked
-
--- the outside at two moments
-pub same_outside : (a b : Outside) → a.files ≡ b.files → a.out ≡ b.out → a.err ≡ b.err → a ≡ b
-same_outside a b f o e =
-    ap (λ (x : FolderView). outside x a.out a.err) f ∙ ap (λ (x : SinkView). outside b.files x a.err) o ∙ ap (λ (x : SinkView). outside b.files b.out x) e
 
 -- what a command has written
 pub written_ends : (words : List (List ℕ)) (old new : Outside) (text : List ℕ) (ran : Ran) (ending : Ending) → Means words old.files.folder text ran

@@ -80,8 +80,15 @@ fn ran_of(ending: Ending) -> Ran
 {
     match ending {
         Ending::Done(ran) | Ending::Unwritten(ran) => ran,
-        Ending::Overrun(_, stopped) => Ran::Stopped(stopped),
-        Ending::Words | Ending::Stopped(_) => Ran::Not,
+        Ending::Overrun(plan, stopped) => {
+            drop(plan);
+            Ran::Stopped(stopped)
+        }
+        Ending::Words => Ran::Not,
+        Ending::Stopped(stop) => {
+            drop(stop);
+            Ran::Not
+        }
     }
 }
 

@@ -47,7 +47,9 @@ fn summed_request(
     ensures stop { IfErr result (λ stop. (old : FolderView) → IsAnswerStop old old command.now stop) }
 {
     let ready = make_ready(alloc, request)?;
-    summed(alloc, command, request, &ready)
+    let made = summed(alloc, command, request, &ready);
+    drop(ready);
+    made
 }
 
 /// Mode `generate`. No file is read.
@@ -58,5 +60,7 @@ pub(crate) fn generated_text(alloc: Global, command: &Command) -> Result<(Vec<u8
     ensures stop { IfErr result (λ stop. (old : FolderView) → IsAnswerStop old old command.now stop) }
 {
     let request = generated_request(alloc, command.seed, command.size)?;
-    summed_request(alloc, command, &request)
+    let made = summed_request(alloc, command, &request);
+    drop(request);
+    made
 }

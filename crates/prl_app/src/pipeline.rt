@@ -5,7 +5,7 @@ ghost use Rattle.prl_arguments.specs.Arguments.{AreInRange};
 ghost use Rattle.prl_calls.specs.Stops.{given_of, AllHold, StopsIn};
 ghost use Rattle.prl_stages.specs.Vocabulary.{IsMeant, stages_after, IsText};
 ghost use Rattle.prl_app.specs.Answers.{IsAnswer, IsAnswerOf, IsAnswerStop};
-ghost use Rattle.prl_app.specs.code.Modes.{HasFiles, RunsNothing};
+ghost use Rattle.prl_app.specs.code.Modes.{HasFiles, KeepsTexts, RunsNothing};
 
 use crate::generated::generated_text;
 use prl_arguments::{Command, Mode};
@@ -20,6 +20,29 @@ use std::alloc::Global;
 use std::sync::Wait;
 use std::thread::Threads;
 
+/// The text of a mode that runs nothing and keeps the texts of its files to its end.
+fn kept_text(alloc: Global, mode: Mode, request: &Request) -> Result<Vec<u8>, Stop>
+    requires mode { KeepsTexts mode }
+    requires program { length request.now.texts.program.items ≤ MAX_PROGRAM }
+    requires bodies { length request.now.texts.bodies.items ≤ MAX_BODIES }
+    ensures text { IfOk result (λ text. IsText (given_of request.now) mode text.items) }
+    ensures holds { IfOk result (λ _. AllHold (given_of request.now) (stages_after mode request.now.named)) }
+    ensures stop { IfErr result (StopsIn (given_of request.now) (stages_after mode request.now.named)) }
+{
+    match mode {
+        Mode::Print => print_text(alloc, request),
+        Mode::Plan => planned_text(alloc, request),
+        Mode::Check => accepted_text(alloc, request),
+        Mode::Schedule => scheduled_text(alloc, request),
+        Mode::Replay => replayed_text(alloc, request),
+        Mode::Edf => edf_text(alloc, request),
+        Mode::Cores => cores_text(alloc, request),
+        Mode::Table => made_text(alloc, request),
+        Mode::Run | Mode::Cycle => unreachable!(),
+        Mode::Flows | Mode::Generate => unreachable!(),
+    }
+}
+
 /// The text of a mode that runs nothing.
 fn mode_text(alloc: Global, mode: Mode, request: Request) -> Result<Vec<u8>, Stop>
     requires mode { RunsNothing mode }
@@ -31,17 +54,12 @@ fn mode_text(alloc: Global, mode: Mode, request: Request) -> Result<Vec<u8>, Sto
     ensures stop { IfErr result (StopsIn (given_of request) (stages_after mode request.named)) }
 {
     match mode {
-        Mode::Print => print_text(alloc, &request),
-        Mode::Plan => planned_text(alloc, &request),
-        Mode::Check => accepted_text(alloc, &request),
         Mode::Flows => flows_text(alloc, request),
-        Mode::Schedule => scheduled_text(alloc, &request),
-        Mode::Replay => replayed_text(alloc, &request),
-        Mode::Edf => edf_text(alloc, &request),
-        Mode::Cores => cores_text(alloc, &request),
-        Mode::Table => made_text(alloc, &request),
-        Mode::Run | Mode::Cycle => unreachable!(),
-        Mode::Generate => unreachable!(),
+        mode => {
+            let text = kept_text(alloc, mode, &request);
+            drop(request);
+            text
+        }
     }
 }
 
@@ -72,7 +90,11 @@ fn requested(alloc: Global, command: &Command, request: Request) -> Result<(Vec<
 {
     match command.mode {
         Mode::Run => run_text(alloc, &request, command.clock),
-        Mode::Cycle => cycle_text(alloc, &request),
+        Mode::Cycle => {
+            let made = cycle_text(alloc, &request);
+            drop(request);
+            made
+        }
         mode => text_alone(alloc, mode, request),
     }
 }
@@ -131,5 +153,7 @@ pub fn answer_threads<R: Threads + Wait + Sync, F: Files, P: Probe>(
     ensures kept { (F.seen files.new).folder ≡ (F.seen files.old).folder }
 {
     let request = read_request(alloc, files, command)?;
-    run_outcome(rt, alloc, &request, command.clock, command.workers, probe)
+    let outcome = run_outcome(rt, alloc, &request, command.clock, command.workers, probe);
+    drop(request);
+    outcome
 }

@@ -83,6 +83,7 @@ fn perform_alone<F: Files, S: Sink>(
         Err(WordsFault::Memory) => return Some((None, Ending::Stopped(Stop::Memory))),
     };
     if is_for_threads(&command) {
+        drop(command);
         return None;
     }
     let ending = perform(alloc, words, &command, files, out);
@@ -145,6 +146,7 @@ fn finish<E: Sink>(err: &mut E, command: Option<Command>, ending: Ending) -> Sta
     ensures told { IsTold (E.seen err.old) (E.seen err.new) (line_of command ending) }
 {
     tell(err, &command, &ending);
+    drop(command);
     status_of(ending)
 }
 

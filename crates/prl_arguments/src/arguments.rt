@@ -114,7 +114,7 @@ pub struct Command {
 }
 
 /// Why arguments are no command.
-#[derive(Clone, Copy, PartialEq, Eq)]
+#[derive(Clone, Copy)]
 pub enum WordsFault {
     /// The arguments are not of the form of a command.
     Refused,

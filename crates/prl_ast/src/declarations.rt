@@ -68,7 +68,7 @@ pub struct Param {
 }
 
 /// The clock `rate (period, phase)`: its first date is `period * phase`.
-#[derive(Clone, Copy, PartialEq, Eq)]
+#[derive(Clone, Copy)]
 pub struct Rate {
     /// In ticks, 1 to 2^31 - 1.
     pub period: u32,

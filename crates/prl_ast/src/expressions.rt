@@ -3,7 +3,7 @@
 use prl_base::{Name, Op, Seq, Span, Value};
 
 /// An operator where it stands in the text.
-#[derive(Clone, Copy, PartialEq, Eq)]
+#[derive(Clone, Copy)]
 pub struct PlacedOp {
     pub op: Op,
     /// The operator's own token: `fby`, `::`, `tail`, `*^`, `/^` or `~>`.

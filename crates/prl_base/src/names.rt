@@ -41,7 +41,7 @@ pub fn is_word(bytes: &[u8]) -> bool
 }
 
 /// Why bytes are no name.
-#[derive(Clone, Copy, PartialEq, Eq)]
+#[derive(Clone, Copy)]
 pub enum NameFault {
     /// The bytes are no word.
     Shape,
@@ -52,7 +52,7 @@ pub enum NameFault {
 
 /// A word of 1 to 64 bytes: a letter or `_`, and then letters, digits and `_`, all of them ASCII. A
 /// keyword is one too. Contracts see the list of its bytes.
-#[derive(Debug, Drop)]
+#[derive(Drop)]
 pub struct Name {
     bytes: Vec<u8>,
 }
@@ -112,7 +112,7 @@ impl Name {
 }
 
 /// Any bytes: the name of a flow, of a task or of a file. Contracts see the list of its bytes.
-#[derive(Debug, Drop)]
+#[derive(Drop)]
 pub struct Label {
     bytes: Vec<u8>,
 }

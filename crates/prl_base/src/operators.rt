@@ -10,7 +10,7 @@ pub const MAX_FACTOR: u64 = 2_147_483_647;
 
 /// A strictly periodic clock, in ticks: the dates `start`, `start + period`, `start + 2 * period`
 /// and so on. A clock of the language has a period of at least 1 (`IsClock` in contracts).
-#[derive(Clone, Copy, Debug, PartialEq, Eq)]
+#[derive(Clone, Copy)]
 pub struct Clock {
     pub period: u64,
     pub start: u64,
@@ -20,7 +20,7 @@ pub struct Clock {
 /// of multi-periodic synchronous programs" (2011), has the operators; the dates that each of them reads
 /// are `OperatorByDate` in the crate of flows, the clocks of their results `IsResultClock`, their ranges
 /// `IsOperatorFor`.
-#[derive(Clone, Copy, Debug, PartialEq, Eq)]
+#[derive(Clone, Copy, PartialEq, Eq)]
 pub enum Op {
     /// `c fby x`: one period late, the constant first.
     Fby(Value),

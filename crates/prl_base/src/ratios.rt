@@ -12,12 +12,12 @@ use std::marker::Model;
 pub const MAX_PART: u64 = 2_147_483_647;
 
 /// A result whose reduced numerator (without its sign) or denominator is past 2^31 - 1.
-#[derive(Clone, Copy, PartialEq, Eq)]
+#[derive(Clone, Copy)]
 pub struct Past;
 
 /// A reduced ratio. Its denominator is at least 1, and neither part is past 2^31 - 1 in size.
 /// Contracts see a `Fraction`.
-#[derive(Clone, Copy, Debug, PartialEq, Eq)]
+#[derive(Clone, Copy, PartialEq, Eq)]
 pub struct Ratio {
     pub num: i64,
     pub den: u64,

@@ -7,7 +7,7 @@ ghost use Rattle.prl_base.specs.Texts.{type_text};
 use std::fmt;
 
 /// A type of the language.
-#[derive(Clone, Copy, Debug, PartialEq, Eq)]
+#[derive(Clone, Copy, PartialEq, Eq)]
 pub enum Ty {
     /// Signed whole numbers of 64 bits, which wrap.
     Int,
@@ -38,7 +38,7 @@ impl fmt::Display for Ty {
 }
 
 /// A value of the language.
-#[derive(Clone, Copy, Debug, PartialEq, Eq)]
+#[derive(Clone, Copy, PartialEq, Eq)]
 pub enum Value {
     /// From -9223372036854775808 to 9223372036854775807.
     Int(i64),

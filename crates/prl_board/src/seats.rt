@@ -32,7 +32,7 @@ pub enum Half {
 }
 
 /// Where a task stands.
-#[derive(Clone, Copy, PartialEq, Eq)]
+#[derive(Clone, Copy)]
 pub enum Place {
     /// The next job has not begun.
     Idle,

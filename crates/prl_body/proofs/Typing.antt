@@ -44,10 +44,6 @@ with_rights_push : (rights : List OperatorAndRight) (pair : OperatorAndRight) (r
 with_rights_push [] pair rest = refl
 with_rights_push (first ∷ rights) pair rest = ap (more first.operator (expression_of first.right)) (with_rights_push rights pair rest)
 
-pub prepended_none : (r : Result (Rights × Ty) BodyFault) → prepended [] r ≡ r
-prepended_none (Ok x) = refl
-prepended_none (Err e) = refl
-
 pub prepended_push : (rights : List OperatorAndRight) (pair : OperatorAndRight) (r : Result (Rights × Ty) BodyFault) →
     prepended (rights ++ pair ∷ []) r ≡ prepended rights (r >>= λ y. Ok (more pair.operator (expression_of pair.right) y.0, y.1))
 prepended_push rights pair (Ok x) = ap (λ (l : Rights). Ok (l, x.1)) (with_rights_push rights pair x.0)

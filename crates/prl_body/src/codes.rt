@@ -4,7 +4,7 @@ use prl_base::{Seq, Value};
 use prl_bodyops::{Operator, Prefix};
 
 /// What a name of an expression stands for.
-#[derive(Clone, Copy, PartialEq, Eq)]
+#[derive(Clone, Copy)]
 pub enum Variable {
     /// The input of this number, from 0.
     Input(usize),

@@ -6,7 +6,7 @@ ghost use Rattle.prl_bodyops.specs.Operators.{number_of, truth_of, wrapped, quot
 use prl_base::Value;
 
 /// An operator between two operands.
-#[derive(Clone, Copy, PartialEq, Eq)]
+#[derive(Clone, Copy)]
 pub enum Operator {
     /// `or`
     Or,
@@ -39,7 +39,7 @@ pub enum Operator {
 }
 
 /// An operator before its operand.
-#[derive(Clone, Copy, PartialEq, Eq)]
+#[derive(Clone, Copy)]
 pub enum Prefix {
     /// `not`
     Not,

@@ -66,10 +66,6 @@ operand_fewer level = text_fewer bodies right (Operand level) (level_apart level
 pub token_fewer : (f : Fixed) (ts : List Lexeme) (p : Span) (rest : List Lexeme) → read_at bodies (the f) ts ≡ Ok (p, rest) → length rest < length ts
 token_fewer f = text_fewer bodies right (the f) refl
 
-pub inner_fewer : (ts : List Lexeme) (t : Tree) (rest : List Lexeme) → read_at bodies inner ts ≡ Ok (t, rest) → length rest < length ts
-unfolding bodies Expression Conjunction Negation Comparison Sum Product Unary RunOf PairOf SeriesOf RightOf Operators Primary Enclosed Conditional
-inner_fewer = text_fewer bodies right inner refl
-
 pub after_fewer : (f : Fixed) (ts : List Lexeme) (t : Tree) (rest : List Lexeme) → read_at bodies (the f ⊳ inner) ts ≡ Ok (t, rest) → length rest < length ts
 unfolding bodies Expression Conjunction Negation Comparison Sum Product Unary RunOf PairOf SeriesOf RightOf Operators Primary Enclosed Conditional
 after_fewer f = text_fewer bodies right (the f ⊳ inner) refl

@@ -4,7 +4,7 @@ ghost use Rattle.std.specs.Prelude.{◌≡◌, ◌≤◌};
 ghost use Rattle.prl_bodytext.specs.Words.{class_of};
 
 /// A keyword or a symbol of bodies.
-#[derive(Clone, Copy, PartialEq, Eq)]
+#[derive(Clone, Copy)]
 pub enum Fixed {
     Body = 2,
     Reg,

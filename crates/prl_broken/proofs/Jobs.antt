@@ -1,11 +1,11 @@
 -- Jobs with their dates, and the runs that have them.
-use Rattle.prl_base.proofs.Standard.{◌≡◌, ◌+◌, ◌*◌, ◌<◌, ◌≤◌, ◌^◌, ◌⊎◌, ℕ, List, length, Option, Some, None, refl, sym, ap, subst, arith, inl, inr, ◌↔◌, pos, ◌+ℤ◌, ◌*ℤ◌, ◌<ℤ◌, slice_index, cases_eq}
+use Rattle.prl_base.proofs.Standard.{◌≡◌, ◌+◌, ◌*◌, ◌<◌, ◌≤◌, ◌^◌, ℕ, List, length, Option, Some, None, sym, ap, subst, arith, inl, inr, ◌↔◌, pos, ◌+ℤ◌, ◌*ℤ◌, ◌<ℤ◌, slice_index, cases_eq}
 use Rattle.prl_base.proofs.Standard.{cases_lt, ints, slice_get-get_or, le-mul_of_pos_right}
 use Rattle.prl_plan.specs.Vocabulary.{HasPlanFacts, IsJob, IsHorizonJob, job_count, no_task, task_at, IsPlan, PlanView, deadline_at, release_at, HasJob, IsUnfinished, first_unfinished, ExecState}
 use Rattle.prl_plan.specs.Vocabulary.{RunConstants}
 use Rattle.prl_plan.specs.declared.graphs.TaskGraph.{TaskGraph}
 use Rattle.prl_base.specs.declared.operators.Clock.{Clock}
-use Rattle.prl_broken.specs.Vocabulary.{Next, IsEarly, IsLate, IsLastDeadline, IsLatest, IsLeast, IsLeastBelow, IsNext, IsPending, IsPendingJob, own_date}
+use Rattle.prl_broken.specs.Vocabulary.{Next, IsEarly, IsLate, IsLeastBelow, IsPending, IsPendingJob, own_date}
 
 -- the law that horizon jobs are counted
 abbrev pub AreCounted : Type 0
@@ -122,34 +122,6 @@ module _ (plan : PlanView) (tick : ℕ) (ended : List ℕ) (bound j : ℕ) where
     least = λ k below. below_more (λ k. IsPending plan tick ended bound k → next.own ≤ own_date plan k (slice_index ended k))
         (λ k before p. (let l = is.least k before p in omega (arith, l, earlier))) (λ p. (let o = pending.is_next.own in omega (arith, o))) k below;
   }
-
--- the latest deadline of the tasks up to one more
-pub latest_more : (plan : PlanView) (ended : List ℕ) (k latest last top : ℕ) → IsLatest plan ended k latest → IsLastDeadline plan ended k last →
-    latest ≤ top → last ≤ top → ((top ≡ latest) ⊎ (top ≡ last)) → IsLatest plan ended (k + 1) top
-latest_more plan ended k latest last top is one above above' which = record {
-  above = above_all;
-  attained = elim which [
-    | inl same ↦
-        elim is.attained [
-          | inl none ↦ inl (omega (arith, same, none))
-          | inr at ↦ inr (at.0, at.1, (let b = at.2 in omega (arith, b)), at.3, (let e = at.4 in omega (arith, same, e)))
-        ]
-    | inr same ↦
-        elim one.1 [
-          | inl none ↦ inl (omega (arith, same, none))
-          | inr at ↦ inr (k, at.0, omega arith, at.1, (let e = at.2 in omega (arith, same, e)))
-        ]
-  ];
-}
-  where
-    above_all : (j m : ℕ) → j < k + 1 → slice_index ended j ≡ m + 1 → IsEarly plan j m → deadline_at plan j m ≤ top
-    above_all j m below is_last early = elim (cases_eq j k) [
-      | inl same ↦
-          (let d = one.0 m (subst (λ (x : ℕ). slice_index ended x ≡ m + 1) same is_last) (subst (λ (x : ℕ). IsEarly plan x m) same early) in
-          let e = ap (λ (x : ℕ). deadline_at plan x m) same in
-          omega (arith, d, e, above'))
-      | inr other ↦ (let d = is.above j m (omega (arith, below, other)) is_last early in omega (arith, d, above))
-    ]
 
 -- each task of a plan has a period
 abbrev pub HavePeriods : PlanView → Type 0

@@ -1,22 +1,11 @@
 -- Chains of the places of equal clocks, made one clock after another, and walked.
-use Rattle.prl_base.proofs.Standard.{◌≡◌, ◌+◌, ◌<◌, ◌≤◌, inl, inr, ℕ, true, false, cond, List, [], ◌∷◌, ◌++◌, length, set, replicate, Option, Some, None, slice_get, slice_index, refl, sym, ◌∙◌, ap}
+use Rattle.prl_base.proofs.Standard.{◌≡◌, ◌+◌, ◌<◌, inl, inr, ℕ, true, false, cond, List, [], ◌∷◌, ◌++◌, length, set, replicate, Option, Some, None, slice_get, slice_index, refl, sym, ◌∙◌, ap}
 use Rattle.prl_base.proofs.Standard.{subst, arith, eqb, Contains, is_eq, cases_Bool, cases_eq, cases_lt, cases_order, get_or-replicate, get_or-set_other, get_or_append_left, get_or_default}
 use Rattle.prl_base.proofs.Standard.{get_or_push, length-replicate, length_push, nat_tests, same_Some, slice_get_within}
 use Rattle.std.proofs.lemmas.List.{get_or-set_same, length-set}
 use Rattle.prl_base.specs.declared.operators.Clock.{Clock}
-use Rattle.prl_calendar.specs.Kinds.{AddsKind, AreChained, AreFollowing, AreLasts, AreSame, IsAdding, IsFirst, IsLast, IsNext, pair_order}
+use Rattle.prl_calendar.specs.Kinds.{AreChained, AreFollowing, AreLasts, AreSame, IsAdding, IsLast, IsNext, pair_order}
 use Rattle.prl_calendar.proofs.Places.{contains_left, contains_push, contains_push_cases, distinct_none, distinct_push}
-
--- the walk along a chain
-pub adding_none : (clocks : List Clock) (h : ℕ) (old : List ℕ) → IsFirst clocks h → IsAdding clocks h old h old
-adding_none clocks h old first = record {
-  from = omega arith;
-  at = λ below. refl;
-  kept = λ i there. there;
-  each = λ i there. inl there;
-  all = λ i less below same. absurd (first.1 i less same);
-  apart = λ distinct none. distinct;
-}
 
 pub adding_step : (clocks : List Clock) (following : List ℕ) (h : ℕ) (old : List ℕ) (place : ℕ) (new : List ℕ) → AreFollowing clocks following → place < length clocks
     → IsAdding clocks h old place new → IsAdding clocks h old (slice_index following place) (new ++ place ∷ [])
@@ -46,14 +35,6 @@ adding_step clocks following h old place new chains within a =
         | inr added ↦ omega (arith, added.0)
       ]);
     }
-
-pub adding_all : (clocks : List Clock) (h : ℕ) (old : List ℕ) (place : ℕ) (new : List ℕ) → length clocks ≤ place → IsAdding clocks h old place new → AddsKind clocks h old new
-adding_all clocks h old place new past a = record {
-  kept = a.kept;
-  each = λ i there. elim (a.each i there) [ inl before ↦ inl before | inr added ↦ inr (added.1, added.2) ];
-  all = λ i below same. a.all i (omega (arith, past, below)) below same;
-  apart = a.apart;
-}
 
 -- pairs that are equal in the order of a table
 pair_same : (x y : ℕ × ℕ) → is_eq (pair_order x y) ≡ true → (x.0 ≡ y.0) × (x.1 ≡ y.1)
@@ -228,6 +209,3 @@ chained_none clocks = record {
     all = λ j less. absurd (omega (arith, less));
   };
 }
-
-pub following_all : (clocks : List Clock) (following firsts : List ℕ) → AreChained clocks (length clocks) following firsts → AreFollowing clocks following
-following_all clocks following firsts a = record { count = a.count; next = a.next }

@@ -1,24 +1,12 @@
 -- The heap of turns gives the earliest, and the first turns of the kinds.
-use Rattle.prl_base.proofs.Standard.{◌≡◌, ◌<◌, ◌≤◌, inl, inr, ℕ, zero, suc, false, List, [], ◌∷◌, length, map, Some, slice_get, slice_index, slice_index_or, sym, ◌∙◌, ap, arith, eqb, IsUpperBound}
-use Rattle.prl_base.proofs.Standard.{AllByRecursion, Contains, IsDistinct, IsPermutation, is_lt, cases_lt, nat_tests, All-from_recursion, All-weaker, All-permutation, Contains-permutation}
+use Rattle.prl_base.proofs.Standard.{◌≡◌, ◌<◌, ℕ, zero, suc, false, List, [], ◌∷◌, length, map, Some, slice_get, slice_index, slice_index_or, sym, ◌∙◌, ap, arith, eqb}
+use Rattle.prl_base.proofs.Standard.{AllByRecursion, Contains, IsDistinct, IsPermutation, All-from_recursion, All-permutation, Contains-permutation}
 use Rattle.prl_base.proofs.Standard.{IsDistinct-IsPermutation, IsDistinct-cons, IsDistinct-head, IsDistinct-tail, same_Some, slice_get-get_or}
-use Rattle.std.specs.List.{All}
 use Rattle.prl_base.specs.declared.operators.Clock.{Clock}
 use Rattle.prl_calendar.specs.Kinds.{AreFirsts, IsFirst}
-use Rattle.prl_calendar.specs.Turns.{AreTurns, IsTurn, Turn, date_of, first_turn, last, same_place, turn_order}
+use Rattle.prl_calendar.specs.Turns.{AreTurns, IsTurn, Turn, first_turn, last, same_place}
 use Rattle.prl_calendar.proofs.Places.{contains_head, contains_tail, distinct_none}
 use Rattle.prl_calendar.proofs.Turning.{same_place_flips}
-
-le_from_order : (x y : Turn) → is_lt (turn_order x y) ≡ false → date_of x ≤ date_of y
-le_from_order x y e = elim (cases_lt (date_of y) (date_of x)) [
-  | inl less ↦ absurd (grind (arith, nat_tests))
-  | inr le ↦ le
-]
-
--- no turn is before the greatest in the order of turns
-pub least_from_greatest : (x : Turn) (xs : List Turn) → IsUpperBound turn_order x xs → All (λ e. date_of x ≤ date_of e) xs
-least_from_greatest x xs bound =
-    All-weaker (λ y. is_lt (turn_order x y) ≡ false) (λ y. date_of x ≤ date_of y) (le_from_order x) xs (All-from_recursion (λ y. is_lt (turn_order x y) ≡ false) xs bound)
 
 module _ (clocks : List Clock) where
   abbrev begin : ℕ → Turn

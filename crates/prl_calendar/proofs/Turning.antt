@@ -150,20 +150,6 @@ turning_step clocks clocked until t h turns new due more before fits a turned ad
       distinct = adds.apart a.distinct (λ i in_due same. a.not_yet x i x_there refl in_due same);
     }
 
--- where no turn is left at the date, the turns tell the dates after it, and all places are due
-pub turning_over : (clocks : List Clock) (until t : ℕ) (turns : List Turn) (due : List ℕ) → AreTurning clocks until t turns due → All (λ e. t < date_of e) turns
-    → AreTurns clocks until (t + 1) turns
-turning_over clocks until t turns due a over = record {
-  each = λ k d below. record {
-    first = a.first k d below;
-    late = let less : t < date_of (slice_index_or turns k d) = over k d below in omega (arith, less);
-    due = a.dated k d below;
-    next = λ s dated late end. a.next k d below s dated (omega (arith, late)) end;
-  };
-  apart = a.apart;
-  all = a.all;
-}
-
 pub turning_due : (clocks : List Clock) (until t : ℕ) (turns : List Turn) (due sorted : List ℕ) → AreTurning clocks until t turns due → All (λ e. t < date_of e) turns
     → IsPermutation due sorted → IsNonDecreasing sorted → AreDue clocks t sorted
 turning_due clocks until t turns due sorted a over same rises = record {

@@ -33,8 +33,13 @@ fn order_and_clocks(alloc: Global, request: &Request, flat: &Flat) -> Result<(Or
     ensures stop { IfErr result (StopsIn (given_of request.now) (Stage.Causality ∷ Stage.Clocks ∷ [])) }
 {
     let order = ordered(alloc, request, flat)?;
-    let clocks = clocked(alloc, request, flat)?;
-    Ok((order, clocks))
+    match clocked(alloc, request, flat) {
+        Ok(clocks) => Ok((order, clocks)),
+        Err(stop) => {
+            drop(order);
+            Err(stop)
+        }
+    }
 }
 
 /// The flat program with an order of its flows and their clocks.
@@ -52,9 +57,13 @@ pub fn flat_of(
     ensures stop { IfErr result (StopsIn (given_of request.now) (Stage.Expansion ∷ Stage.Causality ∷ Stage.Clocks ∷ [])) }
 {
     let flat = flattened(alloc, request, typed)?;
-    let made = order_and_clocks(alloc, request, &flat)?;
-    let (order, clocks) = made;
-    Ok((flat, order, clocks))
+    match order_and_clocks(alloc, request, &flat) {
+        Ok((order, clocks)) => Ok((flat, order, clocks)),
+        Err(stop) => {
+            drop(flat);
+            Err(stop)
+        }
+    }
 }
 
 /// A program with its main node, its flat program and the clocks of its flows.
@@ -79,9 +88,12 @@ fn clocks_of(
     ensures stop { IfErr result (StopsIn (given_of request.now) front) }
 {
     let typed = check_types(alloc, request, program)?;
-    let made = flat_of(alloc, request, &typed)?;
-    let (flat, _order, clocks) = made;
-    Ok((typed.main(), flat, clocks))
+    let main = typed.main();
+    let made = flat_of(alloc, request, &typed);
+    drop(typed);
+    let (flat, order, clocks) = made?;
+    drop(order);
+    Ok((main, flat, clocks))
 }
 
 /// What the modes that plan a program have in common first.
@@ -93,13 +105,18 @@ fn read_front(alloc: Global, request: &Request) -> Result<Front, Stop>
     ensures stop { IfErr result (StopsIn (given_of request.now) front) }
 {
     let program = read_program(alloc, request)?;
-    let (main, flat, clocks) = clocks_of(alloc, request, &program)?;
-    Ok(Front {
-        program,
-        main,
-        flat,
-        clocks,
-    })
+    match clocks_of(alloc, request, &program) {
+        Ok((main, flat, clocks)) => Ok(Front {
+            program,
+            main,
+            flat,
+            clocks,
+        }),
+        Err(stop) => {
+            drop(program);
+            Err(stop)
+        }
+    }
 }
 
 /// The task graph with its words.
@@ -116,8 +133,13 @@ pub fn make_graphed(
     ensures stop { IfErr result (StopsIn (given_of request.now) graphed) }
 {
     let graph = make_graph(alloc, request, flat, clocks)?;
-    let words = make_words(alloc, request, &graph)?;
-    Ok((graph, words))
+    match make_words(alloc, request, &graph) {
+        Ok(words) => Ok((graph, words)),
+        Err(stop) => {
+            drop(graph);
+            Err(stop)
+        }
+    }
 }
 
 /// The task graph of the program with its words.
@@ -128,7 +150,9 @@ fn read_graphed(alloc: Global, request: &Request) -> Result<(TaskGraph, Words), 
     ensures stop { IfErr result (StopsIn (given_of request.now) (front ++ graphed)) }
 {
     let front = read_front(alloc, request)?;
-    make_graphed(alloc, request, &front.flat, &front.clocks)
+    let made = make_graphed(alloc, request, &front.flat, &front.clocks);
+    drop(front);
+    made
 }
 
 /// The plan of the task graph with its words.
@@ -143,9 +167,13 @@ pub fn make_planned(
     ensures holds { IfOk result (λ _. AllHold (given_of request.now) planned) }
     ensures stop { IfErr result (StopsIn (given_of request.now) planned) }
 {
-    let (graph, words) = made;
-    let dates = make_dates(alloc, request, &graph)?;
-    make_plan(alloc, request, graph, words, dates)
+    match make_dates(alloc, request, &made.0) {
+        Ok(dates) => make_plan(alloc, request, made, dates),
+        Err(stop) => {
+            drop(made);
+            Err(stop)
+        }
+    }
 }
 
 /// The plan of the program.
@@ -167,7 +195,7 @@ fn check_named_bodies(alloc: Global, request: &Request, front: &Front) -> Result
     ensures stop { IfErr result (StopsIn (given_of request.now) (named_bodies request.now.named)) }
 {
     if request.named {
-        read_bodies(alloc, request, &front.program, front.main)?;
+        drop(read_bodies(alloc, request, &front.program, front.main)?);
     }
     Ok(())
 }
@@ -186,8 +214,13 @@ fn checked_graphed(
     ensures stop { IfErr result (StopsIn (given_of request.now) (graphed ++ named_bodies request.now.named)) }
 {
     let made = make_graphed(alloc, request, &front.flat, &front.clocks)?;
-    check_named_bodies(alloc, request, front)?;
-    Ok(made)
+    match check_named_bodies(alloc, request, front) {
+        Ok(()) => Ok(made),
+        Err(stop) => {
+            drop(made);
+            Err(stop)
+        }
+    }
 }
 
 /// The task graph of the program with its words, where bodies whose file is named are right.
@@ -199,7 +232,9 @@ fn read_checked(alloc: Global, request: &Request) -> Result<(TaskGraph, Words), 
     ensures stop { IfErr result (StopsIn (given_of request.now) (front ++ graphed ++ named_bodies request.now.named)) }
 {
     let front = read_front(alloc, request)?;
-    checked_graphed(alloc, request, &front)
+    let made = checked_graphed(alloc, request, &front);
+    drop(front);
+    made
 }
 
 /// The plan of the program, whose bodies are looked at where their file is named.

@@ -102,18 +102,18 @@ pub fn make_dates(alloc: Global, request: &Request, graph: &TaskGraph) -> Result
 pub fn make_plan(
     alloc: Global,
     request: &Request,
-    graph: TaskGraph,
-    words: Words,
+    made: (TaskGraph, Words),
     dates: Dates,
 ) -> Result<Plan, Stop>
-    requires words { HasWords (given_of request.now) graph words.of }
-    requires dates { HasDates (given_of request.now) graph dates }
-    ensures graph { IfOk result (λ plan. plan.graph ≡ graph) }
+    requires words { HasWords (given_of request.now) made.0 made.1.of }
+    requires dates { HasDates (given_of request.now) made.0 dates }
+    ensures graph { IfOk result (λ plan. plan.graph ≡ made.0) }
     ensures found { IfOk result (HasPlan (given_of request.now)) }
     ensures holds { IfOk result (λ _. Holds (given_of request.now) Stage.Cells) }
     ensures stop { IfErr result (StopsAt (given_of request.now) Stage.Cells) }
 {
-    let cells = cells(alloc, &graph, &words, &dates)?;
+    let cells = cells(alloc, &made.0, &made.1, &dates)?;
+    let (graph, words) = made;
     Ok(Plan::new(graph, words, dates, cells))
 }
 

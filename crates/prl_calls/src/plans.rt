@@ -43,5 +43,7 @@ pub fn plan_of(alloc: Global, program: Vec<u8>, node: Option<Label>) -> Result<P
         node,
         until: 0,
     };
-    plan_for(alloc, &request)
+    let plan = plan_for(alloc, &request);
+    drop(request);
+    plan
 }

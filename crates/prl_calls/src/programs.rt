@@ -60,8 +60,12 @@ fn check_texts(
         (checked (program_tree program.now).imports (used_imports (program_tree program.now) main) (text_trees written.now)) }
 {
     let names = Names::new(alloc, program)?;
-    let used = used_imports(alloc, &names, main as usize)?;
-    check_bodies(alloc, written, program.imports.as_slice(), &used)
+    let used = used_imports(alloc, &names, main as usize);
+    drop(names);
+    let used = used?;
+    let bodies = check_bodies(alloc, written, program.imports.as_slice(), &used);
+    drop(used);
+    bodies
 }
 
 /// The bodies of the text, checked for the imports of the program: one for each that the expansion of main applies.

@@ -105,15 +105,20 @@ fn read_texts<F: Files>(alloc: Global, files: &mut F, command: &Command) -> Resu
     ensures kept { (F.seen files.new).folder ≡ (F.seen files.old).folder }
 {
     let first = first_texts(alloc, files, command)?;
-    let later = later_texts(alloc, files, command)?;
-    Ok(Texts {
-        program: first.0,
-        bodies: first.1,
-        sensors: first.2,
-        schedule: later.0,
-        table: later.1,
-        cores: later.2,
-    })
+    match later_texts(alloc, files, command) {
+        Ok(later) => Ok(Texts {
+            program: first.0,
+            bodies: first.1,
+            sensors: first.2,
+            schedule: later.0,
+            table: later.1,
+            cores: later.2,
+        }),
+        Err(stop) => {
+            drop(first);
+            Err(stop)
+        }
+    }
 }
 
 /// The name again, where there is one.
@@ -140,12 +145,17 @@ pub fn read_request<F: Files>(
     ensures kept { (F.seen files.new).folder ≡ (F.seen files.old).folder }
 {
     let texts = read_texts(alloc, files, command)?;
-    let node = copied(alloc, &command.node)?;
-    Ok(Request {
-        texts,
-        named: command.bodies.is_some(),
-        listed: command.schedule.is_some(),
-        node,
-        until: command.until,
-    })
+    match copied(alloc, &command.node) {
+        Ok(node) => Ok(Request {
+            texts,
+            named: command.bodies.is_some(),
+            listed: command.schedule.is_some(),
+            node,
+            until: command.until,
+        }),
+        Err(_) => {
+            drop(texts);
+            Err(Stop::Memory)
+        }
+    }
 }

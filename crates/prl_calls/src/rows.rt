@@ -154,13 +154,20 @@ pub fn run_with(
     ensures holds { IfOk result (λ _. Holds (given_of request.now) Stage.Rows) }
     ensures stop { IfErr result (StopsAt (given_of request.now) Stage.Rows) }
 {
-    let sensors = read_rows(alloc, request, &front.0, &front.2)?;
-    let (flat, order, clocks) = front;
-    Ok(Run {
-        flat,
-        clocks,
-        order,
-        bodies,
-        sensors,
-    })
+    match read_rows(alloc, request, &front.0, &front.2) {
+        Ok(sensors) => {
+            let (flat, order, clocks) = front;
+            Ok(Run {
+                flat,
+                clocks,
+                order,
+                bodies,
+                sensors,
+            })
+        }
+        Err(stop) => {
+            drop((front, bodies));
+            Err(stop)
+        }
+    }
 }

@@ -10,7 +10,7 @@ use prl_clock::Timing;
 use prl_flow::Flat;
 
 /// A flow after another one: it is defined over that, or, back, that over it.
-#[derive(Clone, Copy, PartialEq, Eq)]
+#[derive(Clone, Copy)]
 pub struct Hop {
     pub flow: u32,
     pub back: bool,

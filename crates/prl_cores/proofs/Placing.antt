@@ -33,12 +33,6 @@ pub placed_fault : (names : List (List ℕ)) (k : ℕ) (table : List (Option ℕ
 placed_fault names k table text line after fault cut read =
     placed_cut names k table text line after cut ∙ ap (λ r. r >>= then_lines names (k + 1) (lines_of after)) read
 
--- where nothing is left, the table is whole
-pub placed_end : (names : List (List ℕ)) (k : ℕ) (table : List (Option ℕ)) (text : List ℕ) → cut_line text ≡ None → length text ≡ 0 →
-    placed_from names k table (lines_of text) ≡ Ok table
-placed_end names k table [] e none = ap (placed_from names k table) (lines_of_end [] e)
-placed_end names k table (b ∷ bs) e none = absurd (omega arith)
-
 -- where more is left, it is a line
 pub placed_last : (names : List (List ℕ)) (k : ℕ) (table : List (Option ℕ)) (text : List ℕ) → cut_line text ≡ None → (length text ≡ 0 → ⊥) →
     placed_from names k table (lines_of text) ≡ or_line k (placed_in table (placing_of names text))

@@ -14,7 +14,7 @@ use prl_schedules::{TaskNames, without_return};
 use std::alloc::{AllocError, AllocFailed, Global};
 
 /// Why a text does not place the tasks.
-#[derive(Clone, Copy, PartialEq, Eq)]
+#[derive(Clone, Copy)]
 pub enum CoresFault {
     /// The line of this number, counted from 1, is the first that is no task and its processor, or is a second line for a task.
     Syntax(u64),

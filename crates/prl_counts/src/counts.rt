@@ -6,7 +6,7 @@ ghost use Rattle.prl_counts.specs.Counted.{Declares, IsOfImport, IsOfNode};
 use prl_ast::{Import, Node, Program};
 
 /// How many inputs and outputs.
-#[derive(Clone, Copy, PartialEq, Eq)]
+#[derive(Clone, Copy)]
 pub struct Counts {
     pub ins: usize,
     pub outs: usize,

@@ -9,7 +9,7 @@ use prl_base::TaskNo;
 use std::alloc::AllocError;
 
 /// Ticks one after another that go to one job.
-#[derive(Clone, Copy, PartialEq, Eq)]
+#[derive(Clone, Copy)]
 pub struct Piece {
     pub task: TaskNo,
     pub job: u64,

@@ -1,15 +1,15 @@
 -- What is read for the next value is there.
-use Rattle.prl_base.proofs.Standard.{◌≡◌, ◌+◌, ◌-◌, ◌*◌, ◌/◌, ◌<◌, ℕ, zero, suc, List, [], ◌∷◌, length, Some, slice_get, refl, ap, arith, slice_get_within}
-use Rattle.prl_base.specs.Operators.{IsOperatorFor, after_constant, instance, origin_of}
+use Rattle.prl_base.proofs.Standard.{◌≡◌, ◌+◌, ◌-◌, ◌*◌, ◌/◌, ◌<◌, ℕ, zero, suc, List, [], ◌∷◌, length, Some, slice_get, refl, arith, slice_get_within}
+use Rattle.prl_base.specs.Operators.{IsOperatorFor, instance, origin_of}
 use Rattle.prl_base.specs.declared.operators.Op.{Op}
 use Rattle.prl_base.specs.declared.values.Ty.{Ty}
 use Rattle.prl_base.specs.declared.values.Value.{Value}
 use Rattle.prl_base.specs.declared.operators.Op.TheVariants as operators
-use Rattle.prl_flow.specs.Vocabulary.{FlatProgram, IsWellDefined, Rows, rows_of}
+use Rattle.prl_flow.specs.Vocabulary.{FlatProgram, HasInstance, IsWellDefined, Rows, rows_of}
 use Rattle.prl_flow.specs.declared.programs.Def.{Def}
 use Rattle.prl_flow.specs.declared.programs.Def.TheVariants as definitions
 use Rattle.prl_solutions.specs.Tables.{Reads}
-use Rattle.prl_evaluation.specs.code.Fronts.{HasInstance, IsPlain, IsReady, IsThere, len}
+use Rattle.prl_evaluation.specs.code.Fronts.{IsPlain, IsReady, IsThere, len}
 
 -- an operator's result has an instance where what it reads is there
 has_instance : (ty : Ty) (op : Op) (count n : ℕ) → IsOperatorFor ty op → ((m : ℕ) → origin_of op n ≡ instance m → m < count) → HasInstance op count n
@@ -21,11 +21,6 @@ has_instance ty operators.Tail count n fits there = there (n + 1) refl
 has_instance ty (operators.Up k) count n fits there = (fits.0, there (n / k) refl)
 has_instance ty (operators.Down k) count n fits there = there (k * n) refl
 has_instance ty (operators.Shift q) count n fits there = there n refl
-
--- the origin of what comes after a constant
-pub origin_later : (c : Value) (n : ℕ) → (n ≡ 0 → ⊥) → after_constant c n ≡ instance (n - 1)
-origin_later c zero other = absurd (other refl)
-origin_later c (suc n) other = ap instance (omega arith)
 
 -- a sensor with a row at a number has rows
 row_there : (rows : Rows) (k n : ℕ) → n < length (rows_of rows k) → k < length rows

@@ -3,15 +3,14 @@
 ghost use Rattle.std.specs.Prelude.{◌≡◌, ◌<◌, ℕ, List, IfOk, length, slice_index_or};
 ghost use Rattle.prl_base.specs.Operators.{origin_of};
 ghost use Rattle.prl_body.specs.declared.bodies.CheckedBody.{CheckedBody};
-ghost use Rattle.prl_flow.specs.Programs.{FlatProgram};
+ghost use Rattle.prl_flow.specs.Vocabulary.{FlatProgram, HasInstance};
 ghost use Rattle.prl_solutions.specs.Tables.{nothing, table_of, taken, value_of};
-ghost use Rattle.prl_evaluation.specs.code.Fronts.{HasInstance, IsPlain, IsThere};
+ghost use Rattle.prl_evaluation.specs.code.Fronts.{IsPlain, IsThere};
 
-use crate::operators::operator_value;
 use crate::settings::Setting;
 use crate::tables::Values;
 use prl_base::{Op, Value};
-use prl_flow::Def;
+use prl_flow::{Def, instance_of_operator};
 use std::alloc::{AllocError, Global};
 
 /// The first `number` values that the operator makes of the flow that it stands on.
@@ -27,7 +26,7 @@ fn operator_values(
 {
     let mut values = Vec::with_capacity(alloc, number)?;
     for n in 0..number {
-        values.push(operator_value(*op, of, n))?;
+        values.push(instance_of_operator(*op, of, n))?;
     }
     Ok(values)
 }

@@ -26,7 +26,7 @@ use std::alloc::{AllocError, Global};
 pub const MAX_VALUES: u64 = 4_000_000;
 
 /// Why flows are not computed.
-#[derive(Clone, Copy, PartialEq, Eq)]
+#[derive(Clone, Copy)]
 pub enum FlowFault {
     /// The flows have more than 4,000,000 values.
     Limit(Limit),

@@ -26,17 +26,6 @@ pub record IsDealt (mine : ℕ → Type 0) (i : ℕ) (old all own : Slots) : Typ
   pub from_all : (j : ℕ) (s : JobSeatView) → slice_get all j ≡ Some (Some s) → slice_get old j ≡ Some (Some s)
   pub from_own : (j : ℕ) (s : JobSeatView) → slice_get own j ≡ Some (Some s) → slice_get old j ≡ Some (Some s)
 
-pub none_dealt : (mine : ℕ → Type 0) (old own : Slots) → own ≡ [] → IsDealt mine 0 old old own
-none_dealt mine old own none = record {
-  wide = refl;
-  long = ap length none;
-  rest = λ j past. refl;
-  dealt = λ j below. absurd (omega (arith, below));
-  left = λ j below. absurd (omega (arith, below));
-  from_all = λ j s has. has;
-  from_own = λ j s has. absurd (let e : slice_get [] j ≡ Some (Some s) = ap (λ (xs : Slots). slice_get xs j) (sym none) ∙ has in cc e);
-}
-
 module _ (mine : ℕ → Type 0) (i : ℕ) (old all own : Slots) (so_far : IsDealt mine i old all own) (before after seat : Option JobSeatView) (there : slice_get all i ≡ Some before) where
   was : slice_get old i ≡ Some before
   was = sym (so_far.rest i (omega arith)) ∙ there
@@ -94,16 +83,6 @@ pub record ArePut (i : ℕ) (old given all seats : Slots) : Type 0 where
   pub kept : (j : ℕ) → j < i → Has old j → Has all j
   pub put : (j : ℕ) → j < i → Has given j → Has all j
   pub from : (j : ℕ) (s : JobSeatView) → slice_get all j ≡ Some (Some s) → (slice_get old j ≡ Some (Some s)) ⊎ (slice_get given j ≡ Some (Some s))
-
-pub none_put : (old given : Slots) → ArePut 0 old given old given
-none_put old given = record {
-  wide = refl;
-  long = refl;
-  rest = λ j past. (refl, refl);
-  kept = λ j below. absurd (omega (arith, below));
-  put = λ j below. absurd (omega (arith, below));
-  from = λ j s has. inl has;
-}
 
 module _ (i : ℕ) (old given all seats : Slots) (so_far : ArePut i old given all seats) (before after seat : Option JobSeatView)
     (there : slice_get all i ≡ Some before) (other : slice_get seats i ≡ Some seat) where

@@ -29,7 +29,7 @@ impl<'b, P: Probe> Watch for Eye<'b, P> {
 }
 
 /// What a poll of a task did.
-#[derive(Clone, Copy, PartialEq, Eq)]
+#[derive(Clone, Copy)]
 pub(crate) enum Polled {
     /// An event.
     Event,

@@ -22,7 +22,7 @@ use std::sync::Wait;
 const PATIENCE: u32 = 1_000;
 
 /// What a round of polls did.
-#[derive(Clone, Copy, PartialEq, Eq)]
+#[derive(Clone, Copy)]
 enum Round {
     /// An event.
     Events,

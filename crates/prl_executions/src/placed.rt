@@ -173,7 +173,9 @@ fn placed_text(alloc: Global, request: &Request, ready: &Ready) -> Result<Vec<u8
     ensures stop { IfErr result (StopsIn (given_of request.now) (Stage.Cores ∷ Stage.Placed ∷ [])) }
 {
     let spread = make_placement(alloc, request, &ready.plan)?;
-    placed_of(alloc, request, ready, &spread)
+    let text = placed_of(alloc, request, ready, &spread);
+    drop(spread);
+    text
 }
 
 /// Mode `cores`.
@@ -185,5 +187,7 @@ pub fn cores_text(alloc: Global, request: &Request) -> Result<Vec<u8>, Stop>
     ensures stop { IfErr result (StopsIn (given_of request.now) (stages_after Mode.Cores request.now.named)) }
 {
     let ready = make_ready(alloc, request)?;
-    placed_text(alloc, request, &ready)
+    let text = placed_text(alloc, request, &ready);
+    drop(ready);
+    text
 }

@@ -66,5 +66,7 @@ pub fn replayed_text(alloc: Global, request: &Request) -> Result<Vec<u8>, Stop>
     ensures stop { IfErr result (StopsIn (given_of request.now) (stages_after Mode.Replay request.now.named)) }
 {
     let ready = make_ready(alloc, request)?;
-    replay_of(alloc, request, &ready)
+    let text = replay_of(alloc, request, &ready);
+    drop(ready);
+    text
 }

@@ -96,8 +96,13 @@ fn ended_text(
     ensures stop { IfErr result (λ stop. stop ≡ Stop.Memory) }
 {
     let closed = closed_alone(alloc, ready, gate)?;
-    let text = text_of(alloc, request, ready, gate, &closed)?;
-    Ok((text, Ran::Ended(closed)))
+    match text_of(alloc, request, ready, gate, &closed) {
+        Ok(text) => Ok((text, Ran::Ended(closed))),
+        Err(_) => {
+            drop(closed);
+            Err(Stop::Memory)
+        }
+    }
 }
 
 /// Mode `run` with one worker.
@@ -109,7 +114,9 @@ pub fn run_text(alloc: Global, request: &Request, gate: Gate) -> Result<(Vec<u8>
     ensures stop { IfErr result (StopsIn (given_of request.now) (front ++ ran)) }
 {
     let ready = make_ready(alloc, request)?;
-    ended_text(alloc, request, &ready, gate)
+    let made = ended_text(alloc, request, &ready, gate);
+    drop(ready);
+    made
 }
 
 /// What a run of several workers has come to.
@@ -134,15 +141,27 @@ fn ended_outcome(
     requires ended { HasEnded closed }
     ensures { IfOk result (IsOutcome (given_of request.now) gate) }
 {
-    let text = text_of(alloc, request, ready, gate, &closed)?;
-    Ok(Outcome::Ended(text, Ran::Ended(closed)))
+    match text_of(alloc, request, ready, gate, &closed) {
+        Ok(text) => Ok(Outcome::Ended(text, Ran::Ended(closed))),
+        Err(error) => {
+            drop(closed);
+            Err(error)
+        }
+    }
 }
 
 /// What a run of several workers has come to that was overrun.
 fn overrun_outcome(ready: Ready, stopped: Stopped) -> Outcome
     ensures { result ≡ Outcome.Overrun ready.plan stopped }
 {
-    Outcome::Overrun(ready.plan, stopped)
+    let Ready {
+        plan,
+        bodies,
+        sensors,
+        ..
+    } = ready;
+    drop((bodies, sensors));
+    Outcome::Overrun(plan, stopped)
 }
 
 /// Mode `run` with several workers, after its stages. It may wait.
@@ -170,9 +189,16 @@ fn outcome_of<R: Threads + Wait + Sync, P: Probe>(
         workers,
         probe,
     ) {
-        Ok(closed) => ended_outcome(alloc, request, &ready, gate, closed),
+        Ok(closed) => {
+            let outcome = ended_outcome(alloc, request, &ready, gate, closed);
+            drop(ready);
+            outcome
+        }
         Err(RunFault::Overrun(stopped)) => Ok(overrun_outcome(ready, stopped)),
-        Err(RunFault::Memory) => Err(AllocError),
+        Err(RunFault::Memory) => {
+            drop(ready);
+            Err(AllocError)
+        }
     }
 }
 

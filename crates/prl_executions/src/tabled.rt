@@ -124,8 +124,13 @@ fn driven_text(
     ensures { IfOk result (λ made. IsTextOf (given_of request.now) ready.now gates.Gated made.0.items made.1) }
 {
     let closed = driven(alloc, ready, table)?;
-    let text = text_of(alloc, request, ready, Gate::Gated, &closed)?;
-    Ok((text, Ran::Ended(closed)))
+    match text_of(alloc, request, ready, Gate::Gated, &closed) {
+        Ok(text) => Ok((text, Ran::Ended(closed))),
+        Err(error) => {
+            drop(closed);
+            Err(error)
+        }
+    }
 }
 
 /// The run by the table that the text tells, where it is good.
@@ -158,7 +163,9 @@ fn cycle_of(alloc: Global, request: &Request, ready: &Ready) -> Result<(Vec<u8>,
     ensures stop { IfErr result (StopsAt (given_of request.now) Stage.Table) }
 {
     let table = told_table(alloc, request, &ready.plan)?;
-    cycled(alloc, request, ready, &table)
+    let made = cycled(alloc, request, ready, &table);
+    drop(table);
+    made
 }
 
 /// Mode `cycle`.
@@ -170,5 +177,7 @@ pub fn cycle_text(alloc: Global, request: &Request) -> Result<(Vec<u8>, Ran), St
     ensures stop { IfErr result (StopsIn (given_of request.now) ((front ++ ran) ++ (Stage.Table ∷ []))) }
 {
     let ready = make_ready(alloc, request)?;
-    cycle_of(alloc, request, &ready)
+    let made = cycle_of(alloc, request, &ready);
+    drop(ready);
+    made
 }

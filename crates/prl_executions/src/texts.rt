@@ -27,7 +27,9 @@ pub fn print_text(alloc: Global, request: &Request) -> Result<Vec<u8>, Stop>
     ensures stop { IfErr result (StopsIn (given_of request.now) (stages_after Mode.Print request.now.named)) }
 {
     let program = read_program(alloc, request)?;
-    Ok(print(alloc, &program)?)
+    let text = print(alloc, &program);
+    drop(program);
+    Ok(text?)
 }
 
 /// Mode `plan`.
@@ -38,7 +40,9 @@ pub fn planned_text(alloc: Global, request: &Request) -> Result<Vec<u8>, Stop>
     ensures stop { IfErr result (StopsIn (given_of request.now) (stages_after Mode.Plan request.now.named)) }
 {
     let plan = planned_program(alloc, request)?;
-    Ok(plan_text(alloc, &plan)?)
+    let text = plan_text(alloc, &plan);
+    drop(plan);
+    Ok(text?)
 }
 
 /// The line that says how large the plan is.
@@ -59,7 +63,9 @@ pub fn accepted_text(alloc: Global, request: &Request) -> Result<Vec<u8>, Stop>
     ensures stop { IfErr result (StopsIn (given_of request.now) (stages_after Mode.Check request.now.named)) }
 {
     let plan = checked_plan(alloc, request)?;
-    Ok(accepted(alloc, &plan)?)
+    let text = accepted(alloc, &plan);
+    drop(plan);
+    Ok(text?)
 }
 
 /// The plan of the program, and its horizon.
@@ -70,8 +76,13 @@ fn plan_and_horizon(alloc: Global, request: &Request) -> Result<(Plan, Horizon),
     ensures stop { IfErr result (StopsIn (given_of request.now) (stages_after Mode.Schedule request.now.named)) }
 {
     let plan = planned_program(alloc, request)?;
-    let horizon = make_horizon(request, &plan)?;
-    Ok((plan, horizon))
+    match make_horizon(request, &plan) {
+        Ok(horizon) => Ok((plan, horizon)),
+        Err(stop) => {
+            drop(plan);
+            Err(stop)
+        }
+    }
 }
 
 /// The text of the dispatched list.
@@ -96,7 +107,9 @@ pub fn scheduled_text(alloc: Global, request: &Request) -> Result<Vec<u8>, Stop>
     ensures stop { IfErr result (StopsIn (given_of request.now) (stages_after Mode.Schedule request.now.named)) }
 {
     let made = plan_and_horizon(alloc, request)?;
-    Ok(dispatched(alloc, request, &made.0, made.1)?)
+    let text = dispatched(alloc, request, &made.0, made.1);
+    drop(made);
+    Ok(text?)
 }
 
 /// The line of what the analysis of the plan finds.
@@ -121,7 +134,9 @@ pub fn edf_text(alloc: Global, request: &Request) -> Result<Vec<u8>, Stop>
     ensures stop { IfErr result (StopsIn (given_of request.now) (stages_after Mode.Edf request.now.named)) }
 {
     let made = plan_and_horizon(alloc, request)?;
-    Ok(analysed(alloc, request, &made.0, made.1)?)
+    let text = analysed(alloc, request, &made.0, made.1);
+    drop(made);
+    Ok(text?)
 }
 
 /// The refusal that a fault of making is; None is want of memory.
@@ -165,7 +180,9 @@ fn table_of(alloc: Global, request: &Request, plan: &Plan) -> Result<Vec<u8>, St
     ensures stop { IfErr result (StopsAt (given_of request.now) Stage.Made) }
 {
     let table = make_table(alloc, request, plan)?;
-    Ok(table_text(alloc, plan, &table)?)
+    let text = table_text(alloc, plan, &table);
+    drop(table);
+    Ok(text?)
 }
 
 /// Mode `table`.
@@ -176,5 +193,7 @@ pub fn made_text(alloc: Global, request: &Request) -> Result<Vec<u8>, Stop>
     ensures stop { IfErr result (StopsIn (given_of request.now) (stages_after Mode.Table request.now.named)) }
 {
     let plan = planned_program(alloc, request)?;
-    table_of(alloc, request, &plan)
+    let text = table_of(alloc, request, &plan);
+    drop(plan);
+    text
 }

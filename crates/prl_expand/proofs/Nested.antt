@@ -23,7 +23,7 @@ use Rattle.prl_flow.specs.declared.programs.Def.TheVariants as definitions
 use Rattle.prl_flow.specs.declared.programs.Flow.{Flow}
 use Rattle.prl_behaviours.specs.Annotations.{entered, done, next, Part, part}
 use Rattle.prl_behaviours.specs.Annotations as notes
-use Rattle.prl_expand.specs.Vocabulary.{Expansion, AreCounted, flat_of}
+use Rattle.prl_expand.specs.Vocabulary.{Expansion, flat_of}
 
 abbrev token : ℕ → Span
 token k = record { at = k; len = 1 }
@@ -119,12 +119,6 @@ second_equation =
 abbrev expansion : Expansion
 expansion = entered (0 ∷ []) (1 ∷ 2 ∷ []) (3 ∷ []) (next first_equation (next second_equation done))
 
-flows_counted : AreCounted (notes.flows_in expansion)
-flows_counted = refl
-
-nodes_counted : AreCounted (notes.nodes_in expansion)
-nodes_counted = refl
-
 abbrev types : List Ty
 types = kinds.Int ∷ kinds.Int ∷ kinds.Int ∷ kinds.Int ∷ kinds.Int ∷ kinds.Int ∷ kinds.Int ∷ kinds.Int ∷ kinds.Int ∷ kinds.Int ∷ []
 
@@ -158,15 +152,6 @@ places_are : map (λ (f : Flow). f.at) (flat_of program types 2 expansion).flows
     ≡ token 40 ∷ token 41 ∷ token 42 ∷ token 43 ∷ token 10 ∷ token 11 ∷ token 13 ∷ token 50
     ∷ token 20 ∷ token 21 ∷ token 22 ∷ token 23 ∷ token 26 ∷ token 27 ∷ token 46 ∷ token 46 ∷ token 10 ∷ token 11 ∷ token 13 ∷ token 54 ∷ token 53 ∷ []
 places_are = refl
-
--- the rates of `i` and `v`, and the due of `v`
-rates_are : map (λ (f : Flow). f.rate) (flat_of program types 2 expansion).flows
-    ≡ every_ten ∷ None ∷ None ∷ None ∷ None ∷ None ∷ None ∷ None ∷ None ∷ None ∷ None ∷ every_ten ∷ None ∷ None ∷ None ∷ None ∷ None ∷ None ∷ None ∷ None ∷ None ∷ []
-rates_are = refl
-
-dues_are : map (λ (f : Flow). f.due) (flat_of program types 2 expansion).flows
-    ≡ None ∷ None ∷ None ∷ None ∷ None ∷ None ∷ None ∷ None ∷ None ∷ None ∷ None ∷ Some 5 ∷ None ∷ None ∷ None ∷ None ∷ None ∷ None ∷ None ∷ None ∷ None ∷ []
-dues_are = refl
 
 -- the argument stands where its expression begins
 application : (flat_of program types 2 expansion).apps

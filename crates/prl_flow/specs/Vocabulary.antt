@@ -6,7 +6,8 @@ pub use Rattle.prl_flow.specs.Applications.{nth_step, registers_before, values_a
 pub use Rattle.prl_flow.specs.Counts.{dates_before, values_before}
 pub use Rattle.prl_flow.specs.Flows.{IsClockOf, IsUpTo, OperatorByDate, delay, value_at}
 pub use Rattle.prl_flow.specs.Flows.{value_of_operator}
-pub use Rattle.prl_flow.specs.Instances.{AreFirst, IsDenominated, instance_of_operator}
+pub use Rattle.prl_flow.specs.Instances.{AreFirst, HasInstance, IsDenominated}
+pub use Rattle.prl_flow.specs.Instances.{instance_of_operator}
 pub use Rattle.prl_flow.specs.Instances.{instance_values, value_from}
 pub use Rattle.prl_flow.specs.Programs.{Device, FlatProgram, HasType, IsApplication, IsFactor}
 pub use Rattle.prl_flow.specs.Programs.{IsFlat, IsInput, IsNoted, IsOutput, IsWellDefined, name_of}

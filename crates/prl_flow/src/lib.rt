@@ -4,9 +4,11 @@
 #![tactic(auto)]
 
 mod dates;
+mod operators;
 mod programs;
 mod rows;
 
 pub use dates::dates_before;
+pub use operators::instance_of_operator;
 pub use programs::{App, Arg, Clocks, Def, Flat, Flow, Order, OutFlow, has_argument};
 pub use rows::Sensors;

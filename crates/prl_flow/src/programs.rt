@@ -9,7 +9,7 @@ use prl_base::{Clock, FlowNo, Label, Name, Op, Seq, Span, Ty, Value};
 use std::marker::Model;
 
 /// How a flow of a flat program is defined.
-#[derive(Clone, Copy, Debug, PartialEq, Eq)]
+#[derive(Clone, Copy, PartialEq, Eq)]
 pub enum Def {
     /// The rows of main's input of this number.
     Sensor(u32),
@@ -53,7 +53,7 @@ pub struct App {
 }
 
 /// An argument of an application.
-#[derive(Clone, Copy, Debug, PartialEq, Eq)]
+#[derive(Clone, Copy)]
 pub struct Arg {
     pub flow: FlowNo,
     /// Where it stands in the source text.

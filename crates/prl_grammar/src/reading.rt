@@ -11,7 +11,7 @@ use prl_base::{Name, Span};
 use std::alloc::{AllocError, AllocFailed, Global};
 
 /// Why a reader stopped.
-#[derive(Clone, Copy, PartialEq, Eq)]
+#[derive(Clone, Copy)]
 pub enum Stop {
     /// The next token is unexpected, or the end is; so many tokens are left.
     Unexpected(usize),

@@ -13,7 +13,7 @@ use prl_lex::{LexFault, lex};
 use std::alloc::{AllocError, Global};
 
 /// Why a text has no tree.
-#[derive(Clone, Copy, PartialEq, Eq)]
+#[derive(Clone, Copy)]
 pub enum TextFault {
     /// The first fault of its tokens.
     Lexical(LexFault),

@@ -9,7 +9,7 @@ use prl_base::Label;
 use std::alloc::Global;
 
 /// Why a file was not read.
-#[derive(Clone, Copy, Debug, PartialEq, Eq)]
+#[derive(Clone, Copy, PartialEq, Eq)]
 pub enum FileFault {
     /// There is no file of this name.
     Absent,

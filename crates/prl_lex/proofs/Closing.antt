@@ -10,10 +10,6 @@ further_again : (o : Option ℕ) (k : ℕ) → further k (option_map (λ n. n + 
 further_again None k = refl
 further_again (Some n) k = ap Some (omega arith)
 
-further_none : (o : Option ℕ) → further 0 o ≡ o
-further_none None = refl
-further_none (Some n) = ap Some (omega arith)
-
 cons_closing : (xs : List ℕ) (y : ℕ) (ys : List ℕ) → xs ≡ y ∷ ys → begins 42 41 xs ≡ false → closing_len xs ≡ option_map (λ n. n + 1) (closing_len ys)
 cons_closing xs y ys e no_match = ap closing_len e ∙ cond-false (begins 42 41 (y ∷ ys)) (Some 2) _ (ap (begins 42 41) (sym e) ∙ no_match)
 

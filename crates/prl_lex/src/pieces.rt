@@ -11,7 +11,7 @@ use crate::tokens::Kind;
 use prl_base::{is_word_byte, is_word_start, line_len};
 
 /// What stands at the front of a text.
-#[derive(Clone, Copy, PartialEq, Eq)]
+#[derive(Clone, Copy)]
 pub enum Piece {
     /// So many bytes of white space or of a comment.
     Gap(usize),

@@ -4,7 +4,7 @@ ghost use Rattle.std.specs.Prelude.{◌≡◌, ◌+◌, ◌≤◌, length};
 ghost use Rattle.prl_lex.specs.Lexing.{token_text};
 
 use prl_base::{Limit, Span};
-use std::alloc::{AllocError, AllocFailed};
+use std::alloc::AllocFailed;
 
 /// What a token is.
 #[derive(Clone, Copy, PartialEq, Eq)]
@@ -18,7 +18,7 @@ pub enum Kind {
 }
 
 /// A token of a text.
-#[derive(Clone, Copy, PartialEq, Eq)]
+#[derive(Clone, Copy)]
 pub struct Token {
     pub kind: Kind,
     /// Its bytes.
@@ -28,7 +28,7 @@ pub struct Token {
 }
 
 /// Why a text has no tokens. The first fault, in order of place, is answered.
-#[derive(Clone, Copy, PartialEq, Eq)]
+#[derive(Clone, Copy)]
 pub enum LexFault {
     /// No token begins at this byte; a comment that is not closed counts as such.
     BadToken(u32),
@@ -37,17 +37,6 @@ pub enum LexFault {
     /// A name of more than 64 bytes, or more than 64 open parentheses.
     Limit(Limit),
     Memory,
-}
-
-impl From<AllocError> for LexFault {
-    ghost use Rattle.std.specs.Prelude.{◌≡◌};
-    ghost use Rattle.prl_lex.specs.declared.tokens.LexFault.TheVariants.{Memory};
-
-    ghost from_gives = { λ _ e. e ≡ Memory };
-
-    fn from(_error: AllocError) -> LexFault {
-        LexFault::Memory
-    }
 }
 
 impl<T: Drop> From<AllocFailed<T>> for LexFault {

@@ -1,14 +1,13 @@
 -- Rows of marks, one mark after another.
-use Rattle.prl_base.proofs.Standard.{◌≡◌, ◌<◌, ◌≢◌, ◌||◌, ℕ, ◌+◌, zero, suc, Bool, true, false, cond, List, [], ◌∷◌, ◌++◌, length, take, map, set, get_or, refl, sym, ap, ◌∙◌, subst, Some, None, arith}
-use Rattle.prl_base.proofs.Standard.{eqb, ⊎_elim, get_or-set_same, length-set, take_more, map-append, length-map, cases_Bool, false≢true, eqb-true, slice_get_within, option_map, bytes_eq}
+use Rattle.prl_base.proofs.Standard.{◌≡◌, ◌<◌, ◌||◌, ℕ, ◌+◌, zero, suc, Bool, true, false, cond, List, [], ◌∷◌, ◌++◌, length, take, map, get_or, refl, sym, ap, ◌∙◌, subst, Some, None, arith}
+use Rattle.prl_base.proofs.Standard.{take_more, map-append, length-map, slice_get_within, option_map, bytes_eq}
 use Rattle.prl_base.proofs.Standard.{bytes_decides}
-use Rattle.std.proofs.Common.{get_or-set_other, eq-eqb}
 use Rattle.std.specs.List.{slice_get}
 use Rattle.prl_ast.specs.Trees.{NodeTree, ProgramTree, EquationTree, equation_tree, tree_of}
 use Rattle.prl_ast.specs.declared.declarations.Equation.{Equation}
 use Rattle.prl_ast.specs.declared.expressions.Expr.{Expr}
 use Rattle.prl_names.specs.declared.lookups.Callee.TheVariants as callees
-use Rattle.prl_names.specs.Vocabulary.{is_node, applied_in, applied_trees, applied_equations, all_trees, index_from, index_of, node_names, import_names, node_or, callee_of, mark_of, Adds}
+use Rattle.prl_names.specs.Vocabulary.{applied_in, applied_trees, applied_equations, all_trees, index_from, index_of, node_names, import_names, node_or, callee_of, mark_of, Adds}
 
 or_assoc : (a b c : Bool) → ((a || b) || c) ≡ (a || (b || c))
 or_assoc true b c = refl
@@ -64,22 +63,6 @@ callee_below p name k h =
             | None ↦ λ no. cc
           ] is
     ] refl h
-
-pub adds_node : (p : ProgramTree) (name : List ℕ) (row : List Bool) (k : ℕ) → k < length row → callee_of p name ≡ Some (callees.Node k) →
-    Adds (λ j. is_node j (callee_of p name)) row (set row k true)
-adds_node p name row k below is = record {
-  same = length-set row k true;
-  each = λ j within.
-      ⊎_elim
-      (λ e. (let same : k ≡ j = eqb-true k j e in
-      rw (is, e, ← same) (get_or-set_same row k true false below ∙ sym (or_true (mark_of row k)))))
-      (λ e. (let apart : j ≢ k = λ x. false≢true (sym e ∙ eq-eqb k j (sym x)) in
-      rw (is, e) (get_or-set_other row k j true false apart ∙ sym (or_false (mark_of row j)))))
-      (cases_Bool (eqb k j));
-}
-
-pub adds_other : (p : ProgramTree) (name : List ℕ) (row : List Bool) → ((j : ℕ) → is_node j (callee_of p name) ≡ false) → Adds (λ j. is_node j (callee_of p name)) row row
-adds_other p name row none = adds_same (λ j. false) (λ j. is_node j (callee_of p name)) row row (λ j. sym (none j)) (adds_none row)
 
 applied_push : (p : ProgramTree) (j : ℕ) (es : List Expr) (e : Expr) → applied_trees p j (all_trees (es ++ e ∷ [])) ≡ (applied_trees p j (all_trees es) || applied_in p j (tree_of e))
 applied_push p j [] e = or_false (applied_in p j (tree_of e))

@@ -3,7 +3,7 @@
 use prl_base::{CellNo, EdgeNo, TaskNo, Value};
 
 /// A half of a buffer cell: twice the cell's number for its low half, and one more for its high half.
-#[derive(Clone, Copy, PartialEq, Eq)]
+#[derive(Clone, Copy)]
 pub struct SlotNo(pub u32);
 
 impl SlotNo {
@@ -38,7 +38,7 @@ pub enum Event {
 /// One action of a job. A job reads its ports in order, then it writes to the edges that use its instance, in the order
 /// of edges, and then it ends. A constant is read at once; an instance is read, and written, by its low half and then by
 /// its high half.
-#[derive(Clone, Copy, PartialEq, Eq)]
+#[derive(Clone, Copy)]
 pub enum Action {
     /// It takes a constant at a port.
     ReadConst {

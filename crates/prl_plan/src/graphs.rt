@@ -26,7 +26,7 @@ pub struct Task {
 }
 
 /// Where the values of an edge come from.
-#[derive(Clone, Copy, PartialEq, Eq)]
+#[derive(Clone, Copy)]
 pub enum Producer {
     /// An output of a task.
     Port { task: TaskNo, out: u32 },

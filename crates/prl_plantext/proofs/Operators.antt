@@ -1,15 +1,8 @@
 -- The operators of a list of words, one after another.
-use Rattle.prl_base.proofs.Standard.{◌≡◌, ◌++◌, ◌<◌, ℕ, true, false, List, [], ◌∷◌, Option, Some, None, append_assoc, cond, length, codes, refl, ap, sym, ◌∙◌, arith, bytes_eq}
+use Rattle.prl_base.proofs.Standard.{◌≡◌, ◌++◌, ◌<◌, ℕ, false, List, [], ◌∷◌, Option, Some, None, append_assoc, cond, length, codes, refl, ap, sym, ◌∙◌, arith, bytes_eq}
 use Rattle.prl_base.specs.declared.operators.Op.{Op}
 use Rattle.prl_base.specs.declared.operators.Op.TheVariants as operators
 use Rattle.prl_plantext.specs.code.Graphs.{first_of, operator_in, operators_in, rest_of, with_operator}
-
-pub operators_of_tail : (words : List (List ℕ)) → 0 < length words → bytes_eq (first_of words) (codes "tail") ≡ true →
-    operators_in words ≡ operators.Tail ∷ operators_in (rest_of words)
-operators_of_tail [] some is = absurd (omega (arith, some))
-operators_of_tail (word ∷ []) some is = ap (λ t. cond t (operators.Tail ∷ []) (with_operator (operator_in word []) [])) is
-operators_of_tail (word ∷ argument ∷ words) some is =
-    ap (λ t. cond t (operators.Tail ∷ operators_in (argument ∷ words)) (with_operator (operator_in word argument) (operators_in words))) is
 
 pub operators_of_other : (words : List (List ℕ)) → 0 < length words → bytes_eq (first_of words) (codes "tail") ≡ false →
     operators_in words ≡ with_operator (operator_in (first_of words) (first_of (rest_of words))) (operators_in (rest_of (rest_of words)))

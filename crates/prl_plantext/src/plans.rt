@@ -16,7 +16,7 @@ use prl_words::{WordFault, words};
 use std::alloc::{AllocError, Global};
 
 /// Why a text gives no plan.
-#[derive(Clone, Copy, PartialEq, Eq)]
+#[derive(Clone, Copy)]
 pub enum PlanFault {
     /// The text is that of no plan.
     NotPlan,

@@ -1,6 +1,6 @@
 -- Expressions that are printed one after another.
 use Rattle.prl_base.proofs.Standard.{◌≡◌, ◌+◌, ◌<◌, ℕ, suc, codes, List, [], ◌∷◌, ◌++◌, map, length, take, get_or, Result, Ok, Err, OnOk, sym, ap, ◌∙◌, arith, append_assoc, nat_tests, append-nil}
-use Rattle.prl_base.proofs.Standard.{take_more, map_push, flat_map_more, length-map, length-take-le, flat_map}
+use Rattle.prl_base.proofs.Standard.{take_more, map_push, length-map, length-take-le}
 use Rattle.prl_ast.specs.Trees.{Tree, tree_of}
 use Rattle.prl_ast.specs.declared.expressions.Expr.{Expr}
 use Rattle.prl_syntax.specs.Trees.{trees_from}
@@ -39,8 +39,3 @@ ok_after (Err s) new text old a b e h = tt
 pub joined_seven : (old a b c d e f g t1 t2 t3 t4 t5 t6 t7 : List ℕ) → t1 ≡ old ++ a → t2 ≡ t1 ++ b → t3 ≡ t2 ++ c → t4 ≡ t3 ++ d → t5 ≡ t4 ++ e → t6 ≡ t5 ++ f → t7 ≡ t6 ++ g
     → t7 ≡ old ++ (a ++ b ++ c ++ d ++ e ++ f ++ g)
 joined_seven old a b c d e f g t1 t2 t3 t4 t5 t6 t7 h1 h2 h3 h4 h5 h6 h7 = simp (h7, h6, h5, h4, h3, h2, h1, append_assoc)
-
-pub appended_one : {X : Type 0} (f : X → List ℕ) (start text text' : List ℕ) (xs : List X) (i : ℕ) (x : X) → i < length xs → x ≡ get_or xs i x → text ≡ start ++ flat_map f (take i xs) → text' ≡ text ++ f x
-    → text' ≡ start ++ flat_map f (take (i + 1) xs)
-appended_one f start text text' xs i x lt is e g =
-    g ∙ ap (λ t. t ++ f x) e ∙ flat_map_more f start (take i xs) x ∙ ap (λ ys. start ++ flat_map f ys) (ap (λ y. take i xs ++ y ∷ []) is ∙ sym (take_more xs i x lt))

@@ -6,7 +6,7 @@ use prl_schedules::ScheduleFault;
 use std::alloc::{AllocError, AllocFailed};
 
 /// Why there is no replay.
-#[derive(Clone, Copy, PartialEq, Eq)]
+#[derive(Clone, Copy)]
 pub enum ReplayFault {
     /// The line of this number, counted from 1, is the first that is no event of the schedule.
     Syntax(u64),

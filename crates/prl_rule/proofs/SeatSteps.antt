@@ -1,5 +1,5 @@
 -- Steps on seats: a split, a join, and the entry of a spent seat.
-use Rattle.std.proofs.Common.{◌≡◌, ℕ, zero, suc, ◌<◌, ◌≢◌, ◌⊎◌, List, [], ◌∷◌, ◌++◌, length, get_or, set, replicate, refl, sym, ap, ◌∙◌, subst, inl, inr, ⊎_elim, arith, length-set, Bool, cond, eq-eqb, ne_eqb, Option, Some, None}
+use Rattle.std.proofs.Common.{◌≡◌, ℕ, zero, suc, ◌≢◌, ◌⊎◌, List, [], ◌∷◌, ◌++◌, length, get_or, set, replicate, refl, sym, ap, ◌∙◌, subst, inl, inr, ⊎_elim, length-set, Bool, cond, eq-eqb, ne_eqb, Option, Some, None}
 use mathlib.Core.Option.{some, some-injective, some-ne-none}
 use lib.ListN.{get_elem?}
 use Rattle.atomic_table.proofs.Lists.{at_set}
@@ -15,11 +15,6 @@ at_grown [] a b zero e = inr (refl, some-injective a b e)
 at_grown [] a b (suc j) e = absurd (some-ne-none b (sym e))
 at_grown (x ∷ xs) a b zero e = inl e
 at_grown (x ∷ xs) a b (suc j) e = ⊎_elim (λ t. inl t) (λ t. inr (ap suc t.0, t.1)) (at_grown xs a b j e)
-
-at_within : {A : Type 0} (l : List A) (j : ℕ) (b : A) → get_elem? l j ≡ some b → j < length l
-at_within [] j b e = absurd (some-ne-none b (sym e))
-at_within (x ∷ xs) zero b e = omega arith
-at_within (x ∷ xs) (suc j) b e = let rest = at_within xs j b e in omega (arith, rest)
 
 -- only place i of a list of so many places is filled, with what stands there in another list
 none_there : (n j : ℕ) (p : TaskPart) → get_elem? (replicate n None) j ≡ some (Some p) → ⊥

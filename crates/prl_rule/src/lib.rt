@@ -16,7 +16,7 @@ pub use steps::{
     split_gives_one_part, store_of_done_is_an_end, store_of_half_is_a_write,
     store_of_now_is_a_tick,
 };
-pub use tagged::{halves, pack, unpack, whole};
+pub use tagged::{halves, is_other, pack, unpack, whole};
 pub use views::{
     About, ClockPart, Constants, Gate, HeldValues, KeptHalf, KeptStop, Running, Standing, TaskPart,
     View,

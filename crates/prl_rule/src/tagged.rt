@@ -1,6 +1,7 @@
 //! The two halves of a value, and the words that carry them: each with the tag of its instance.
 
-ghost use Rattle.std.specs.Prelude.{◌≡◌, ◌/◌, ◌%◌, ◌^◌};
+ghost use Rattle.std.specs.Prelude.{◌≡◌, ◌+◌, ◌/◌, ◌%◌, ◌^◌};
+ghost use Rattle.std.specs.Bool.{OnTrue, OnFalse};
 ghost use Rattle.prl_base.specs.Values.{FitsValue};
 ghost use Rattle.prl_rule.specs.Halves.{AreHalves, high_half, low_half, tagged, value_of_halves};
 
@@ -43,4 +44,13 @@ pub fn unpack(word: u64) -> (u32, u32)
     ensures { (result.0 ≡ word / 2 ^ 32) × (result.1 ≡ word % 2 ^ 32) }
 {
     ((word / (1 << 32)) as u32, (word % (1 << 32)) as u32)
+}
+
+/// Whether the word of a half is of another instance than this one.
+pub fn is_other(word: u64, instance: u64) -> bool
+    ensures yes { OnTrue result (word / 2 ^ 32 ≡ instance + 1 → ⊥) }
+    ensures no { OnFalse result (word / 2 ^ 32 ≡ instance + 1) }
+{
+    let (tag, _) = unpack(word);
+    tag == 0 || u64::from(tag - 1) != instance
 }

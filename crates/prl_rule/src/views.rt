@@ -1,6 +1,10 @@
 //! What a seat of the board knows, as plain data, of which no value is made, and the rule of the
 //! table.
 
+ghost use Rattle.std.specs.Prelude.{◌≡◌};
+ghost use Rattle.std.specs.Bool.{OnTrue, OnFalse};
+ghost use Rattle.prl_rule.specs.declared.views.Gate.TheVariants as gates;
+
 use atomic_table::TableRule;
 use prl_base::Value;
 use prl_body::Bodies;
@@ -9,12 +13,25 @@ use prl_plan::{Horizon, Plan};
 use std::collections::LinkedList;
 
 /// Whether the clock waits for the jobs that are due.
-#[derive(Clone, Copy, PartialEq, Eq)]
+#[derive(Clone, Copy)]
 pub enum Gate {
     /// A tick comes only when every horizon job that is due by it has ended.
     Gated,
     /// A tick comes at any time.
     Free,
+}
+
+impl Gate {
+    /// Whether the clock waits for the jobs that are due.
+    pub fn is_gated(&self) -> bool
+        ensures yes { OnTrue result (self.now ≡ gates.Gated) }
+        ensures no { OnFalse result (self.now ≡ gates.Gated → ⊥) }
+    {
+        match self {
+            Gate::Gated => true,
+            Gate::Free => false,
+        }
+    }
 }
 
 /// What a run is about.

@@ -1,5 +1,5 @@
 -- Events line by line.
-use Rattle.std.proofs.Common.{◌≡◌, ℕ, ◌+◌, ◌<◌, List, [], ◌∷◌, ◌++◌, length, Some, None, Result, Ok, Err, refl, sym, ap, ◌∙◌, arith, append_assoc, append-nil}
+use Rattle.std.proofs.Common.{◌≡◌, ℕ, ◌+◌, ◌<◌, List, [], ◌∷◌, ◌++◌, length, Some, None, Result, Ok, Err, refl, sym, ap, ◌∙◌, arith, append_assoc}
 use Rattle.prl_base.specs.Vocabulary.{cut_line, lines_of, ◌>>=◌}
 use Rattle.prl_base.proofs.LineCuts.{lines_of_cut, lines_of_end, length_lines_of}
 use Rattle.prl_plan.specs.declared.events.Event.{Event}
@@ -43,12 +43,6 @@ pub with_front_fault : (names : List (List ℕ)) (k : ℕ) (front : List Event) 
     → with_front front (events_from names k (lines_of text)) ≡ Err fault
 with_front_fault names k front text line after fault cut read =
     ap (with_front front) (left_in_cut names k text line after cut ∙ ap (λ r. r >>= then_events (events_from names (k + 1) (lines_of after))) read)
-
--- where nothing is left, the events in front are all
-pub with_front_end : (names : List (List ℕ)) (k : ℕ) (front : List Event) (text : List ℕ) → cut_line text ≡ None → length text ≡ 0
-    → with_front front (events_from names k (lines_of text)) ≡ Ok front
-with_front_end names k front [] e none = ap (λ l. with_front front (events_from names k l)) (lines_of_end [] e) ∙ ap Ok (append-nil front)
-with_front_end names k front (b ∷ bs) e none = absurd (omega arith)
 
 -- where more is left, it is a line
 pub with_front_last : (names : List (List ℕ)) (k : ℕ) (front : List Event) (text : List ℕ) → cut_line text ≡ None → (length text ≡ 0 → ⊥)

@@ -15,7 +15,7 @@ use prl_plan::{Event, Plan, plan_is_one};
 use std::alloc::{AllocFailed, Global};
 
 /// Why a text is no schedule.
-#[derive(Clone, Copy, PartialEq, Eq)]
+#[derive(Clone, Copy)]
 pub enum ScheduleFault {
     /// The line of this number, counted from 1, is no event.
     Syntax(u64),

@@ -319,10 +319,7 @@ impl<'a> Board<'a> {
         ensures yes { OnTrue result (self.now.known.gate ≡ gates.Gated) }
         ensures no { OnFalse result (self.now.known.gate ≡ gates.Gated → ⊥) }
     {
-        match self.gate {
-            Gate::Gated => true,
-            Gate::Free => false,
-        }
+        self.gate.is_gated()
     }
 
     /// How many jobs of the horizon a task has.

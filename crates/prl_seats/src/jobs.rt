@@ -1,7 +1,6 @@
 //! A task's seat of the table, with where its job stands.
 
-ghost use Rattle.std.specs.Prelude.{◌≡◌, ◌+◌, ◌/◌, ◌^◌, ◌<◌, ℕ, [], false, Some};
-ghost use Rattle.std.specs.Bool.{OnTrue, OnFalse};
+ghost use Rattle.std.specs.Prelude.{◌≡◌, ◌/◌, ◌<◌, ℕ, [], false, Some};
 ghost use Rattle.prl_base.specs.Values.{FitsValue};
 ghost use Rattle.prl_base.specs.declared.numbers.EdgeNo.{EdgeNo};
 ghost use Rattle.prl_base.specs.declared.values.Value.{Value};
@@ -14,7 +13,7 @@ ghost use Rattle.prl_seats.specs.JobSeats.{AnswersRelease, Ends, Follows, GoesOn
 use crate::board::{Board, Seat};
 use prl_base::TaskNo;
 use prl_plan::{Action, SlotNo};
-use prl_rule::{pack, unpack};
+use prl_rule::{is_other, pack};
 use std::marker::Model;
 use std::mem;
 
@@ -30,7 +29,7 @@ pub enum Release {
 }
 
 /// How far a task is.
-#[derive(Clone, Copy, PartialEq, Eq)]
+#[derive(Clone, Copy)]
 pub enum Stage {
     /// No horizon job is left.
     Over,
@@ -64,15 +63,6 @@ impl Model for JobSeat {
     ghost view = { λ s. record { table = s.seat.table_id; id = s.seat.id; view = s.seat.me.0; task = s.task; job = s.job; place = s.place; stage = s.stage } };
 
     ghost invariant = { λ s. (s.seat.me.1 ≡ []) × ((k : Constants) → s.seat.me.0.constants ≡ Some k → HasPartOf s.task.0 s.seat.me.0 → Follows k s.seat.me.0 s.task.0 s.job s.place s.stage) };
-}
-
-/// Whether the word of a half is of another instance.
-fn is_other(word: u64, instance: u64) -> bool
-    ensures yes { OnTrue result (word / 2 ^ 32 ≡ instance + 1 → ⊥) }
-    ensures no { OnFalse result (word / 2 ^ 32 ≡ instance + 1) }
-{
-    let (tag, _) = unpack(word);
-    tag == 0 || u64::from(tag - 1) != instance
 }
 
 /// How far a task is before this job has begun.

@@ -7,7 +7,7 @@ use prl_base::line_len;
 use std::alloc::AllocError;
 
 /// A place of a text.
-#[derive(Clone, Copy, PartialEq, Eq)]
+#[derive(Clone, Copy)]
 pub struct Place {
     /// The line, counted from 1.
     pub line: u64,

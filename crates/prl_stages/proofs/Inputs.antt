@@ -11,7 +11,7 @@ use Rattle.prl_ast.specs.Trees.{ProgramTree}
 use Rattle.prl_behaviours.specs.Annotations.{Entered, entered, flows_in, right_flows}
 use Rattle.prl_behaviours.specs.Asked.{inputs_of as entered_inputs, outputs_of as entered_outputs}
 use Rattle.prl_expand.specs.Vocabulary.{flow_no, IsExpanded}
-use Rattle.prl_flow.specs.Vocabulary.{dates_before, Device, FlatProgram, IsFlat, name_of, Rows, AreClocks, HasRows, clock_of}
+use Rattle.prl_flow.specs.Vocabulary.{dates_before, Device, FlatProgram, IsFlat, Rows, AreClocks, HasRows, clock_of}
 use Rattle.prl_flow.proofs.ClockDates.{dates_before_number}
 use Rattle.prl_sensors.specs.Facts.{AreRowsFor}
 use Rattle.prl_sensors.specs.SensorRows.{Inputs, sensors_of}
@@ -30,22 +30,12 @@ few_of all marked flows few inside is =
     let count : length flows ≡ length marked = ap length is ∙ length-map marked flow_no in
     omega (arith, few, inside, count)
 
--- main has no more inputs and outputs than a program may have flows
-pub few_inputs : (p : ProgramTree) (main : ℕ) (tys : List Ty) (flat : FlatProgram) → IsExpanded p main tys flat → length flat.ins ≤ 4096
-few_inputs p main tys flat x =
-    few_of (length (flows_in x.expansion)) (entered_inputs x.expansion) flat.ins x.few (within x.expansion).0 (ap (λ (f : FlatProgram). f.ins) x.flat_is)
-
 pub few_outputs : (p : ProgramTree) (main : ℕ) (tys : List Ty) (flat : FlatProgram) → IsExpanded p main tys flat → length flat.outs ≤ 4096
 few_outputs p main tys flat x =
     few_of (length (flows_in x.expansion)) (entered_outputs x.expansion) flat.outs x.few (within x.expansion).1 (ap (λ (f : FlatProgram). f.outs) x.flat_is)
 
 abbrev no_flow : FlowNo
 no_flow = record { 0 = 0 }
-
--- one name, one type and one need more
-pub one_name : (devices : List Device) (k : ℕ) → k < length devices
-    → map (λ (d : Device). d.0) (take (k + 1) devices) ≡ map (λ (d : Device). d.0) (take k devices) ++ name_of devices k ∷ []
-one_name devices k below = map_more (λ (d : Device). d.0) devices k ([], 0) below
 
 module _ (p : FlatProgram) (clocks : List Clock) (until : ℕ) where
   abbrev type_at : FlowNo → Ty

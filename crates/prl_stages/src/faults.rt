@@ -4,7 +4,7 @@ use prl_base::{EdgeNo, Label, Limit, Name, Ratio, Ty};
 use prl_plan::Rule;
 
 /// A file that a command names.
-#[derive(Clone, Copy, PartialEq, Eq)]
+#[derive(Clone, Copy)]
 pub enum InputFile {
     Program,
     Bodies,
@@ -15,7 +15,7 @@ pub enum InputFile {
 }
 
 /// Why a text is no program of the grammar. Numbers count the bytes of the text from 0.
-#[derive(Clone, Copy, PartialEq, Eq)]
+#[derive(Clone, Copy)]
 pub enum GrammarRefusal {
     /// No token begins here.
     BadToken(u32),
@@ -138,7 +138,7 @@ pub enum ScheduleRefusal {
 }
 
 /// Why no table is made of a plan, as `MakeFault` of `prl_table` has it. Ticks count from 0.
-#[derive(Clone, Copy, PartialEq, Eq)]
+#[derive(Clone, Copy)]
 pub enum MakeRefusal {
     /// The run from which a table is cut would go up to this tick, which is above 2147483647.
     TooFar(u64),

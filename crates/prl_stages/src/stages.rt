@@ -4,7 +4,7 @@ use crate::faults::{Fault, InputFile};
 use std::alloc::AllocError;
 
 /// What is looked at, one after another.
-#[derive(Clone, Copy, PartialEq, Eq)]
+#[derive(Clone, Copy)]
 pub enum Stage {
     /// The bytes of a file.
     File(InputFile),

@@ -19,7 +19,7 @@ use std::alloc::Global;
 const MAX_NODES: usize = 256;
 
 /// Why a text is no program.
-#[derive(Clone, Copy, Debug, PartialEq, Eq)]
+#[derive(Clone, Copy, Debug)]
 pub enum ParseFault {
     /// No token begins at this byte.
     BadToken(u32),

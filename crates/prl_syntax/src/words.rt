@@ -4,7 +4,7 @@ ghost use Rattle.std.specs.Prelude.{◌≡◌, ◌≤◌};
 ghost use Rattle.prl_syntax.specs.Words.{class_of};
 
 /// A keyword or a symbol of programs.
-#[derive(Clone, Copy, PartialEq, Eq)]
+#[derive(Clone, Copy)]
 pub enum Fixed {
     Imported = 2,
     Node,

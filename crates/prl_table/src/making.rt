@@ -20,7 +20,7 @@ use prl_tables::{Entry, Table, classes, classes_are_early};
 use std::alloc::{AllocError, Global};
 
 /// Why no table is made of a plan.
-#[derive(Clone, Copy, PartialEq, Eq)]
+#[derive(Clone, Copy)]
 pub enum MakeFault {
     /// The run would go up to this tick, which is above 2147483647.
     TooFar(u64),

@@ -16,7 +16,7 @@ use prl_plan::Plan;
 use std::alloc::{AllocError, AllocFailed, Global};
 
 /// Why a text is no good table of a plan. Lines count from 1, and the first entry is in line 3.
-#[derive(Clone, Copy, PartialEq, Eq)]
+#[derive(Clone, Copy)]
 pub enum TableFault {
     /// The line of this number is not of the text.
     Syntax(u64),

@@ -4,7 +4,7 @@ use prl_base::{Seq, TaskNo};
 
 /// So many units of a job of the first hyperperiod from a tick on, and of the later jobs of its
 /// class in the later ones.
-#[derive(Clone, Copy, PartialEq, Eq)]
+#[derive(Clone, Copy)]
 pub struct Entry {
     pub at: u64,
     pub task: TaskNo,

@@ -1,12 +1,11 @@
 -- The types that the marks leave, and the first rule that contradicts the earlier ones.
-use Rattle.prl_base.proofs.Standard.{◌≡◌, ◌<◌, ◌++◌, ◌∙◌, ℕ, zero, suc, List, [], ◌∷◌, length, get_or, take, drop, arith, sym, ap, subst, Some, drop-cons, slice_get-get_or, take-append-drop}
+use Rattle.prl_base.proofs.Standard.{◌≡◌, ◌<◌, ◌∙◌, ℕ, List, length, get_or, arith, sym, ap, subst, Some, slice_get-get_or}
 use Rattle.prl_base.proofs.Standard.{get_or_default}
 use Rattle.prl_base.specs.declared.values.Ty.{Ty}
 use Rattle.prl_base.specs.declared.values.Ty.TheVariants as ty
-use Rattle.prl_terms.specs.Vocabulary.{Rule, Term, Unsolved, Choice, type_in, FitsRule, FitRules, IsFree, AreTypes, Explains, mark_of, Follows, Solves, IsSettled, Refuses}
+use Rattle.prl_terms.specs.Vocabulary.{Rule, Term, Choice, type_in, IsFree, AreTypes, mark_of, Follows, Solves, IsSettled}
 use Rattle.prl_terms.specs.declared.terms.Term.TheVariants as terms
-use Rattle.prl_terms.specs.declared.solving.Unsolved.TheVariants as unsolved
-use Rattle.prl_terms.proofs.Meeting.{chosen, chosen_follows, mismatch}
+use Rattle.prl_terms.proofs.Meeting.{chosen, chosen_follows}
 
 -- so many marks from the first on are the types
 pub record AreKnown (marks : List Term) (types : List Ty) (count : ℕ) : Type 0 where
@@ -40,18 +39,6 @@ free_is marks found k a settled known e rules solves = record {
   differ = λ same. int_or_bool (sym (open_type marks k a ty.Int e) ∙ same ∙ open_type marks k a ty.Bool e);
   earlier = λ j lt c d m n. type_known marks found k known c (solves.follows c m) j lt ∙ sym (type_known marks found k known d (solves.follows d n) j lt);
 }
-
-pub fits_at : (count : ℕ) (rules : List Rule) (i : ℕ) (d : Rule) → FitRules count rules → i < length rules → FitsRule count (get_or rules i d)
-fits_at count [] i d fits lt = absurd (omega arith)
-fits_at count (rule ∷ rules) zero d fits lt = fits.0
-fits_at count (rule ∷ rules) (suc i) d fits lt = fits_at count rules i d fits.1 (omega arith)
-
-pub refused_is : (count : ℕ) (rules : List Rule) (i : ℕ) (d : Rule) (e : Unsolved) → i < length rules → Refuses (take i rules) (get_or rules i d) e → Explains rules count e
-refused_is count rules i d (unsolved.Mismatch at wanted found) lt h =
-    mismatch (take i rules) (get_or rules i d) (drop (suc i) rules)
-    (sym (take-append-drop i rules) ∙ ap (λ (rs : List Rule). take i rules ++ rs) (drop-cons rules i d lt)) h
-refused_is count rules i d (unsolved.Free k) lt h = absurd h
-refused_is count rules i d unsolved.Memory lt h = tt
 
 -- a mark that is read
 pub mark_read : (marks read : List Term) (k : ℕ) (d t : Term) → read ≡ marks → k < length read → get_or read k d ≡ t → (k < length marks) × (mark_of marks k ≡ t)

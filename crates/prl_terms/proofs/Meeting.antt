@@ -116,9 +116,6 @@ apart_left a b h = record {
   other = λ d. let e : b ≡ a = cc in h.differ (sym e);
 }
 
-pub apart_right : {marks : List Term} (a b : ℕ) → AreApart a b marks → IsApart b (terms.Parameter a) marks
-apart_right a b h = apart_left b a (record { own = h.other_own; inside = h.other_inside; other_own = h.own; other_inside = h.inside; differ = λ e. h.differ (sym e) })
-
 -- a rule that contradicts those before it is the first that does
 pub mismatch : {rules : List Rule} {at : ℕ} {wanted found : Ty} (earlier : List Rule) (rule : Rule) (later : List Rule) → rules ≡ earlier ++ rule ∷ later
     → Contradicts earlier rule at wanted found → IsMismatch rules at wanted found

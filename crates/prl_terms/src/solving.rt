@@ -14,7 +14,7 @@ use std::alloc::{AllocError, Global};
 use std::mem;
 
 /// Why rules leave no types.
-#[derive(Clone, Copy, PartialEq, Eq)]
+#[derive(Clone, Copy)]
 pub enum Unsolved {
     /// The rule contradicts the earlier ones, which give its two sides these types.
     Mismatch { at: u32, wanted: Ty, found: Ty },

@@ -29,7 +29,7 @@ past_default (x ∷ xs) zero past = absurd (omega (arith, past))
 past_default (x ∷ xs) (suc place) past = past_default xs place (omega (arith, past))
 
 -- an action that is no end stands in the list
-stands : (xs : List Action) (place : ℕ) → (get_or xs place actions.End ≡ actions.End → ⊥) → place < length xs
+pub stands : (xs : List Action) (place : ℕ) → (get_or xs place actions.End ≡ actions.End → ⊥) → place < length xs
 stands xs place none = elim (cases_lt place (length xs)) [
   | inl below ↦ below
   | inr past ↦ absurd (none (past_default xs place past))

@@ -1,9 +1,13 @@
 -- The event that comes next: the choice of its task, and that it is legal.
-use Rattle.prl_base.proofs.Standard.{◌≡◌, ◌+◌, ◌<◌, ◌≤◌, ◌⊎◌, ℕ, zero, suc, Option, Some, None, refl, sym, ap, subst, arith, inl, inr, cases_lt, cases_eq}
+use Rattle.prl_base.proofs.Standard.{◌≡◌, ◌+◌, ◌-◌, ◌<◌, ◌≤◌, ◌⊎◌, ℕ, zero, suc, Option, Some, None, refl, sym, ap, subst, arith, inl, inr, cases_lt, cases_eq, OnFalse, OnTrue, OnFalse_from}
+use Rattle.prl_base.proofs.Standard.{ltb-false, ltb-true}
+use Rattle.std.proofs.lemmas.Bool.{OnTrue_from}
+use Rattle.std.specs.Prelude.{nat_lt}
 use Rattle.prl_plan.specs.Vocabulary.{HasPlanFacts, IsJob, first_unfinished, IsUnfinished, HasJob, ActsReleased, KeepsLegal, IsComplete, IsFirstUnfinished, RunConstants, ExecState}
 use Rattle.prl_plan.specs.declared.events.Event.{Event}
 use Rattle.prl_plan.specs.declared.events.Event.TheVariants as events
-use Rattle.prl_track.specs.Vocabulary.{First, Chosen, IsEarliest, IsIdle, IsNext, TrackView, run_of, IsFirst, IsChosen, NoneReleased, IsChoice}
+use Rattle.prl_track.specs.Vocabulary.{First, Chosen, IsEarliest, IsIdle, IsNext, TrackView, run_of, IsFirst, IsChosen, NoneReleased, IsChoice, IsInTime, IsNotEarlier}
+use Rattle.prl_track.specs.code.Tests.{IsDueFirst, Overtakes}
 
 -- what a track's fields say of its view: the facts of its plan, and its tick
 pub record IsKnown (v : TrackView) (now : ℕ) : Type 0 where
@@ -59,7 +63,7 @@ module _ (c : RunConstants) (facts : HasPlanFacts c) (s : ExecState) where
     choice_without best is done = choice_stays best is (λ n left. absurd (omega (arith, left.job, left.unfinished, done)))
 
     module _ (first : First) (is_first : IsFirst c s j first) where
-      no_earlier : (n : ℕ) → IsUnfinished c s j n → (first.release ≤ c.release j n) × (first.deadline ≤ c.deadline j n)
+      pub no_earlier : (n : ℕ) → IsUnfinished c s j n → (first.release ≤ c.release j n) × (first.deadline ≤ c.deadline j n)
       no_earlier n left =
           (let r = rises j n is_first.left left in
           (omega (arith, r.0, is_first.release), omega (arith, r.1, is_first.deadline)))
@@ -168,3 +172,40 @@ module _ (c : RunConstants) (facts : HasPlanFacts c) (s : ExecState) where
         | inr first ↦
             ((Some events.Tick, none_is_idle c facts s is first.0 first.1 (record { task = first.2.task; job = first.2.job; unfinished = omega (arith, first.2.first) })))
       ]
+
+-- what the first unfinished job of a task tells of all of them
+module _ (c : RunConstants) (facts : HasPlanFacts c) (s : ExecState) (j : ℕ) where
+  module _ (done : c.jobs j ≤ first_unfinished s j) where
+    pub none_earlier : (processor deadline : ℕ) → IsNotEarlier c s j processor deadline
+    none_earlier processor deadline n together left at = absurd (omega (arith, left.job, left.unfinished, done))
+
+    pub none_due : IsInTime c s j
+    none_due n left = absurd (omega (arith, left.job, left.unfinished, done))
+
+  module _ (first : First) (is : IsFirst c s j first) (now : ℕ) (clock : now ≡ s.now) where
+    pub has_deadline : 1 ≤ first.deadline
+    has_deadline =
+        let some_ = facts.positive j (first_unfinished s j) (record { task = is.left.task; job = is.left.job }) in
+        omega (arith, is.deadline, some_)
+
+    pub overtakes : (processor deadline : ℕ) → c.processor j ≡ processor → first.release ≤ now → OnTrue (nat_lt first.deadline deadline) (Overtakes c s j processor deadline)
+    overtakes processor deadline here released = OnTrue_from (nat_lt first.deadline deadline) (Overtakes c s j processor deadline)
+        (λ before.
+        (let b = ltb-true first.deadline deadline before in
+        (here, is.left, omega (arith, is.release, released, clock), omega (arith, is.deadline, b))))
+
+    pub stays_after : (processor deadline : ℕ) → OnFalse (nat_lt first.deadline deadline) (IsNotEarlier c s j processor deadline)
+    stays_after processor deadline = OnFalse_from (nat_lt first.deadline deadline) (IsNotEarlier c s j processor deadline)
+        (λ later n together left at.
+        (let l = ltb-false first.deadline deadline later in
+        omega (arith, (no_earlier c facts s j first is n left).1, l)))
+
+    pub unreleased_after : (processor deadline : ℕ) → now < first.release → IsNotEarlier c s j processor deadline
+    unreleased_after processor deadline early n together left at =
+        absurd (omega (arith, (no_earlier c facts s j first is n left).0, early, clock, at))
+
+    pub due : first.deadline - 1 ≤ now → IsDueFirst c s j
+    due by_then = (is.left, omega (arith, is.deadline, by_then, clock))
+
+    pub in_time : now < first.deadline - 1 → IsInTime c s j
+    in_time later n left = omega (arith, (no_earlier c facts s j first is n left).1, later, clock)

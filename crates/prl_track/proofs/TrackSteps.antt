@@ -1,6 +1,6 @@
 -- What a track keeps is kept by each event that the rules allow.
-use Rattle.prl_base.proofs.Standard.{◌≡◌, ◌≢◌, ◌+◌, ◌<◌, ◌≤◌, ◌⊎◌, ◌++◌, ℕ, zero, suc, List, [], ◌∷◌, length, replicate, get_or, set, take, Option, Some, None, refl, sym, ◌∙◌, ap, subst, arith, inl}
-use Rattle.prl_base.proofs.Standard.{inr, slice_get, MatchOption, cases_eq, get_or_default_zero, get_or-set_at, get_or-set_other, length-replicate, slice_get_read}
+use Rattle.prl_base.proofs.Standard.{◌≡◌, ◌≢◌, ◌+◌, ◌^◌, ◌<◌, ◌≤◌, ◌⊎◌, ◌++◌, ℕ, zero, suc, List, [], ◌∷◌, length, replicate, get_or, set, take, Option, Some, None, refl, sym, ◌∙◌, ap, subst, arith}
+use Rattle.prl_base.proofs.Standard.{inl, inr, slice_get, MatchOption, cases_eq, get_or_default_zero, get_or-set_at, get_or-set_other, length-replicate, slice_get_read}
 use Rattle.std.proofs.lemmas.List.{length-set}
 use Rattle.prl_base.specs.declared.numbers.EdgeNo.{EdgeNo}
 use Rattle.prl_base.specs.declared.numbers.TaskNo.{TaskNo}
@@ -13,6 +13,7 @@ use Rattle.prl_plan.specs.declared.events.Action.TheVariants as actions
 use Rattle.prl_plan.specs.declared.events.Event.TheVariants as events
 use Rattle.prl_plan.proofs.StateLaws.{gated_event_keeps_sound, legal_event_is_gated, opening_is_sound, action_is_as_defined}
 use Rattle.prl_track.specs.Vocabulary.{First, Access, Cursor, TrackView, run_of, IsFirstAt, AreFirsts, IsFirstOf, IsReading, AreCursors, IsAt, AreRoutes, on_route, route_of, IsTrack}
+use Rattle.prl_track.proofs.Falls.{stands}
 use Rattle.prl_track.proofs.Places.{slice_get_set_same, slice_get_set_other}
 
 reading_moves : (s : ExecState) (i : ℕ) (action : Action) → IsReading action → after_action s i action ≡ moved s i
@@ -20,6 +21,16 @@ reading_moves s i (actions.ReadConst port value) h = refl
 reading_moves s i (actions.Read port e m slot) h = refl
 reading_moves s i (actions.Write e m slot) h = absurd h
 reading_moves s i actions.End h = absurd h
+
+-- what reads or writes does not end the job
+pub reads_on : (action : Action) → IsReading action → action ≡ actions.End → ⊥
+reads_on action reads ends = subst IsReading ends reads
+
+no_end : (edge : EdgeNo) (job : ℕ) (slot : SlotNo) → actions.Write edge job slot ≡ actions.End → ⊥
+no_end edge job slot e = cc
+
+pub goes_on : (action : Action) (edge : EdgeNo) (job : ℕ) (slot : SlotNo) → action ≡ actions.Write edge job slot → action ≡ actions.End → ⊥
+goes_on action edge job slot its ends = no_end edge job slot (sym its ∙ ends)
 
 -- a cursor one action further
 pub cursor_moves : (plan : PlanView) (i n place : ℕ) (cursor next : Cursor) → IsAt plan i n place cursor → next.index ≡ cursor.index → next.rest ≡ cursor.rest + 1 →
@@ -183,9 +194,64 @@ module _ (track v : TrackView) (seen : track ≡ v) (firsts : List (Option First
     keeps : KeepsLegal (run_of track) track.state (events.Act task)
     keeps = subst (λ (w : TrackView). KeepsLegal (run_of w) w.state (events.Act task)) (sym seen) allowed
 
+    pub task_inside : task.0 < length track.plan.graph.tasks
+    task_inside = keeps.0.task
+
+    pub place_inside : task.0 < length track.state.places
+    place_inside = omega (arith, is.sound.tagged.places, keeps.0.task)
+
+    pub ended_inside : task.0 < length track.state.ended
+    ended_inside = omega (arith, is.sound.tagged.ended, keeps.0.task)
+
+    pub first_inside : task.0 < length firsts
+    first_inside = omega (arith, is.first_jobs.tasks, keeps.0.task)
+
+    pub cursor_inside : task.0 < length cursors
+    cursor_inside = omega (arith, is.standing.tasks, keeps.0.task)
+
     -- the place that is read is the task's
     place_read : (p : ℕ) → p ≡ get_or track.state.places task.0 p → p ≡ get_or track.state.places task.0 0
     place_read p read = read ∙ get_or_default_zero track.state.places task.0 p (omega (arith, is.sound.tagged.places, keeps.0.task))
+
+    -- where the job has more to do, its place has room for one more
+    module _ (more : next_action (run_of v) v.state task.0 ≡ actions.End → ⊥) where
+      place_small : get_or track.state.places task.0 0 + 1 < 2 ^ 32
+      place_small =
+          let few = is.facts.short task.0 (first_unfinished track.state task.0) (record { task = keeps.0.task; job = keeps.0.job }) in
+          let here = stands ((run_of track).actions task.0 (first_unfinished track.state task.0)) (get_or track.state.places task.0 0)
+          (subst (λ (w : TrackView). next_action (run_of w) w.state task.0 ≡ actions.End → ⊥) (sym seen) more) in
+          omega (arith, few, here)
+
+      pub place_fits : (p : ℕ) → p ≡ get_or track.state.places task.0 p → p + 1 < 2 ^ 32
+      place_fits p read = omega (arith, place_read p read, place_small)
+
+      pub cursor_fits : (cursor : Cursor) → IsAt v.plan task.0 (first_unfinished v.state task.0) (get_or v.state.places task.0 0) cursor → cursor.rest + 1 < 2 ^ 32
+      cursor_fits cursor at =
+          omega (arith, at.stands, ap (λ (w : TrackView). get_or w.state.places task.0 0) seen, place_small)
+
+    -- what is seen of the track after a step of the task
+    pub passed_view : (p : ℕ) → p ≡ get_or track.state.places task.0 p →
+        record track { state = record track.state { places = set track.state.places task.0 (p + 1) } } ≡ record v { state = moved v.state task.0 }
+    passed_view p read =
+        ap (λ (q : ℕ). record track { state = record track.state { places = set track.state.places task.0 (q + 1) } }) (place_read p read)
+        ∙ ap (λ (w : TrackView). record w { state = moved w.state task.0 }) seen
+
+    pub written_view : (p : ℕ) → p ≡ get_or track.state.places task.0 p → (edge : EdgeNo) (job : ℕ) (slot : SlotNo) →
+        next_action (run_of v) v.state task.0 ≡ actions.Write edge job slot →
+        record track { state = record track.state { places = set track.state.places task.0 (p + 1); tags = set track.state.tags slot.0 (job + 1) } }
+        ≡ record v { state = after_action v.state task.0 (next_action (run_of v) v.state task.0) }
+    written_view p read edge job slot its =
+        ap (λ (q : ℕ). record track { state = record track.state { places = set track.state.places task.0 (q + 1); tags = set track.state.tags slot.0 (job + 1) } }) (place_read p read)
+        ∙ ap (λ (w : TrackView). record w { state = after_action w.state task.0 (actions.Write edge job slot) }) seen
+        ∙ ap (λ (a : Action). record v { state = after_action v.state task.0 a }) (sym its)
+
+    pub ended_view : (job : ℕ) → job ≡ first_unfinished v.state task.0 →
+        record track { state = record track.state { ended = set track.state.ended task.0 (job + 1); places = set track.state.places task.0 0 } }
+        ≡ record v { state = after_action v.state task.0 actions.End }
+    ended_view job now =
+        ap (λ (n : ℕ). record track { state = record track.state { ended = set track.state.ended task.0 (n + 1); places = set track.state.places task.0 0 } })
+        (subst (λ (w : TrackView). job ≡ first_unfinished w.state task.0) (sym seen) now)
+        ∙ ap (λ (w : TrackView). record w { state = after_action w.state task.0 actions.End }) seen
 
     writes : (edge : EdgeNo) (job : ℕ) (slot : SlotNo) → next_action (run_of v) v.state task.0 ≡ actions.Write edge job slot →
         next_action (run_of track) track.state task.0 ≡ actions.Write edge job slot

@@ -54,7 +54,7 @@ pub enum Seen {
 }
 
 /// An event that breaks a rule.
-#[derive(Clone, Copy, PartialEq, Eq)]
+#[derive(Clone, Copy)]
 pub struct Illegal {
     /// The rule that it breaks. Where an act breaks more than one, L2 goes before L1, and L1 before L3.
     pub rule: Rule,

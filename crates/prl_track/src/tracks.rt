@@ -68,8 +68,6 @@ fn first_at(plan: &Plan, placed: &Placed<'_>, horizon: Horizon, i: TaskNo, n: u6
     if n >= horizon.jobs_of(plan, i) {
         return None;
     }
-    plan_facts(plan, horizon);
-    look_ups_fit();
     Some(First {
         job: n,
         release: placed.release(plan, i, n),
@@ -202,7 +200,6 @@ impl<'a> Track<'a> {
         ensures yes { OnTrue result (Overtakes (run_of self.entry.now) self.entry.now.state j.0 processor deadline) }
         ensures no { OnFalse result (IsNotEarlier (run_of self.entry.now) self.entry.now.state j.0 processor deadline) }
     {
-        plan_facts(self.plan, self.horizon);
         if self.processor(j) != processor {
             return false;
         }
@@ -231,7 +228,6 @@ impl<'a> Track<'a> {
         ensures yes { OnTrue result (IsDueFirst (run_of self.entry.now) self.entry.now.state j.0) }
         ensures no { OnFalse result (IsInTime (run_of self.entry.now) self.entry.now.state j.0) }
     {
-        plan_facts(self.plan, self.horizon);
         match self.first(j) {
             Some(first) => first.deadline - 1 <= self.now,
             None => false,
@@ -377,7 +373,6 @@ impl<'a> Track<'a> {
         requires at { IsAt self.old.plan task.0 (first_unfinished self.old.state task.0) (slice_index self.old.state.places task.0) cursor }
         ensures { self.exit.now ≡ record self.entry.now { state = moved self.entry.now.state task.0 } }
     {
-        plan_facts(self.plan, self.horizon);
         let i = task.0 as usize;
         self.places[i] += 1;
         self.cursors[i] = cursor.moved();
@@ -391,7 +386,6 @@ impl<'a> Track<'a> {
         requires at { IsAt self.old.plan task.0 (first_unfinished self.old.state task.0) (slice_index self.old.state.places task.0) cursor }
         ensures { self.exit.now ≡ record self.entry.now { state = after_event (run_of self.entry.now) self.entry.now.state (Event.Act task) } }
     {
-        plan_facts(self.plan, self.horizon);
         let i = task.0 as usize;
         self.places[i] += 1;
         self.tags[slot.0 as usize] = job + 1;

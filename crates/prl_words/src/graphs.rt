@@ -11,7 +11,7 @@ use prl_plan::{MAX_PREFIX, TaskGraph, Words};
 use std::alloc::{AllocError, Global};
 
 /// Why there are no words.
-#[derive(Clone, Copy, PartialEq, Eq)]
+#[derive(Clone, Copy)]
 pub enum WordFault {
     /// The prefixes have more than 1,000,000 constants.
     Limit(Limit),

@@ -9,7 +9,7 @@ use prl_plan::Word;
 use std::alloc::{AllocError, Global};
 
 /// The `*^` and `~>` at the consumer's end.
-#[derive(Clone, Copy, PartialEq, Eq)]
+#[derive(Clone, Copy)]
 pub(crate) struct Leading {
     /// How many operators they are.
     pub(crate) operators: usize,

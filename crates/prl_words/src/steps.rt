@@ -9,7 +9,7 @@ use prl_plan::Word;
 use std::alloc::{AllocError, Global};
 
 /// How a repeating part goes on under an operator.
-#[derive(Clone, Copy, PartialEq, Eq)]
+#[derive(Clone, Copy)]
 struct Turns {
     /// How often the repeating part is written.
     rounds: u64,

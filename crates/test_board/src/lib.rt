@@ -1,4 +1,4 @@
-//! Tests of the board.
+//! Tests of boards, and of executives on threads.
 #![tactic(auto)]
 
 #[cfg(test)]
@@ -11,6 +11,10 @@ mod halves;
 mod lone_runs;
 #[cfg(test)]
 mod pairs;
+#[cfg(test)]
+mod plans;
+#[cfg(test)]
+mod runs;
 #[cfg(test)]
 mod seats;
 #[cfg(test)]

@@ -68,27 +68,37 @@ fn files_in_memory(rt: HostRuntime) -> Result<(), Fail> {
     Ok(())
 }
 
+/// Whether a sink whose third write fails, and that takes four bytes at most, has what was written up to then, and what is
+/// written later.
+fn fails_at_the_third_write(sink: &mut MemSink) -> bool {
+    let first = write_all(sink, b"o,0,0,1\no,1,10,2\n");
+    let has_first = sink.bytes() == b"o,0,0,1\n".as_slice();
+    let later = write_pieces(sink, &[b"o,".as_slice(), b"1".as_slice()]);
+    first == Err(Failed)
+        && has_first
+        && later == Ok(())
+        && sink.bytes() == b"o,0,0,1\no,1".as_slice()
+}
+
 #[test]
 fn sink_in_memory(rt: HostRuntime) -> Result<(), Fail> {
-    let alloc = rt.alloc();
-    let mut sink = MemSink::new(alloc, 1000, 4, vec![in alloc; 2]?)?;
-    assert_eq!(rt; write_all(&mut sink, b"o,0,0,1\no,1,10,2\n"), Err(Failed));
-    assert_eq!(rt; sink.bytes(), b"o,0,0,1\n".as_slice());
-    assert_eq!(rt;
-        write_pieces(&mut sink, &[b"o,".as_slice(), b"1".as_slice()]),
-        Ok(())
-    );
-    assert_eq!(rt; sink.bytes(), b"o,0,0,1\no,1".as_slice());
+    let fails = vec![in rt.alloc(); 2]?;
+    let mut sink = MemSink::new(rt.alloc(), 1000, 4, fails)?;
+    assert!(rt; fails_at_the_third_write(&mut sink));
     Ok(())
+}
+
+/// Whether a sink with room for five bytes takes those and no more.
+fn takes_five(sink: &mut MemSink) -> bool {
+    let first = sink.write(b"1234567");
+    let later = sink.write(b"67");
+    first == Ok(5) && later == Err(Failed) && sink.bytes() == b"12345".as_slice()
 }
 
 #[test]
 fn full_sink(rt: HostRuntime) -> Result<(), Fail> {
-    let alloc = rt.alloc();
-    let mut sink = MemSink::new(alloc, 5, 100, Vec::new(alloc))?;
-    assert_eq!(rt; sink.write(b"1234567"), Ok(5));
-    assert_eq!(rt; sink.write(b"67"), Err(Failed));
-    assert_eq!(rt; sink.bytes(), b"12345".as_slice());
+    let mut sink = MemSink::new(rt.alloc(), 5, 100, Vec::new(rt.alloc()))?;
+    assert!(rt; takes_five(&mut sink));
     Ok(())
 }
 
@@ -161,14 +171,19 @@ fn written(
     (first, sink.write(next))
 }
 
+/// Whether a sink fails where its writer refuses a write or a flush, and where it takes nothing of several bytes.
+fn are_refused() -> bool {
+    written(2, true, b"a") == (Ok(2), Err(Failed))
+        && written(2, false, b"abc") == (Err(Failed), Err(Failed))
+        && written(0, true, b"") == (Err(Failed), Ok(0))
+}
+
 #[test]
 fn sink_of_the_host(rt: HostRuntime) -> Result<(), Fail> {
     let mut kept = Vec::new(rt.alloc());
     let all = HostSink::new(&mut kept).write(b"abc");
     assert!(rt; all == Ok(3) && kept.as_slice() == b"abc".as_slice());
-    assert_eq!(rt; written(2, true, b"a"), (Ok(2), Err(Failed)));
-    assert_eq!(rt; written(2, false, b"abc"), (Err(Failed), Err(Failed)));
-    assert_eq!(rt; written(0, true, b""), (Err(Failed), Ok(0)));
+    assert!(rt; are_refused());
     Ok(())
 }
 

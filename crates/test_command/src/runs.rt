@@ -4,7 +4,7 @@ use holders::Holder;
 use prl_app::{Ran, prelude, prelude_alone};
 use prl_base::Label;
 use prl_io::{MemFiles, MemSink, NoProbe, Probe};
-use std::alloc::Global;
+use std::alloc::{AllocError, Global};
 use std::sync::Wait;
 use std::test::Fail;
 use std::thread::Threads;
@@ -58,9 +58,11 @@ const BODIES: &[u8] = b"body F { o = i + j; p = i; }\nbody S { o = 2 * i; }\n";
 
 const SIX: &[u8] = b"i,0,1\ni,1,2\ni,2,3\ni,3,4\ni,4,5\ni,5,6\n";
 
-/// What came of a call.
+/// A call, and what came of it.
 #[derive(Drop)]
-struct Answered {
+struct Call {
+    words: Vec<String>,
+    files: MemFiles,
     out: MemSink,
     err: MemSink,
     status: u8,
@@ -68,37 +70,30 @@ struct Answered {
     stopped: bool,
 }
 
-fn is_ended(ran: &Ran) -> bool {
+/// Whether a run has ended, and whether it was stopped.
+fn end_of(ran: &Ran) -> (bool, bool) {
     match ran {
-        Ran::Ended(closed) => closed.ended(),
-        Ran::Not => false,
-        Ran::Stopped(_) => false,
+        Ran::Ended(closed) => (closed.ended(), false),
+        Ran::Not => (false, false),
+        Ran::Stopped(_) => (false, true),
     }
 }
 
-fn is_stopped(ran: &Ran) -> bool {
-    match ran {
-        Ran::Stopped(_) => true,
-        Ran::Not => false,
-        Ran::Ended(_) => false,
-    }
-}
-
-fn file(alloc: Global, name: &str, bytes: &[u8]) -> Result<(Label, Vec<u8>), Fail> {
+fn file(alloc: Global, name: &str, bytes: &[u8]) -> Result<(Label, Vec<u8>), AllocError> {
     let label = Label::new(alloc, name.as_bytes())?;
     Ok((label, Vec::from_slice(alloc, bytes)?))
 }
 
-/// A folder of a program, its bodies and its rows.
-fn folder(alloc: Global, program: &[u8], rows: &[u8]) -> Result<MemFiles, Fail> {
+/// A folder of these files.
+fn folder(alloc: Global, files: &[(&str, &[u8])]) -> Result<MemFiles, AllocError> {
     let mut entries = Vec::new(alloc);
-    entries.push(file(alloc, "p.prl", program)?)?;
-    entries.push(file(alloc, "p.bod", BODIES)?)?;
-    entries.push(file(alloc, "p.csv", rows)?)?;
+    for (name, bytes) in files {
+        entries.push(file(alloc, name, bytes)?)?;
+    }
     Ok(MemFiles::new(entries, Vec::new(alloc)))
 }
 
-fn words(alloc: Global, line: &str) -> Result<Vec<String>, Fail> {
+fn words(alloc: Global, line: &str) -> Result<Vec<String>, AllocError> {
     let mut words = Vec::new(alloc);
     for word in line.split(' ') {
         words.push(String::from_str(alloc, word)?)?;
@@ -106,11 +101,19 @@ fn words(alloc: Global, line: &str) -> Result<Vec<String>, Fail> {
     Ok(words)
 }
 
-/// Nothing is told yet.
-fn nothing(alloc: Global) -> Result<Answered, Fail> {
+/// Sinks for `out` and `err`.
+fn sinks(alloc: Global) -> Result<(MemSink, MemSink), AllocError> {
     let out = MemSink::new(alloc, 1000, 1000, Vec::new(alloc))?;
-    let err = MemSink::new(alloc, 1000, 1000, Vec::new(alloc))?;
-    Ok(Answered {
+    Ok((out, MemSink::new(alloc, 1000, 1000, Vec::new(alloc))?))
+}
+
+/// A call of this command line on these files, of which nothing has come yet.
+fn ready(alloc: Global, line: &str, files: MemFiles) -> Result<Call, AllocError> {
+    let words = words(alloc, line)?;
+    let (out, err) = sinks(alloc)?;
+    Ok(Call {
+        words,
+        files,
         out,
         err,
         status: 0,
@@ -119,19 +122,31 @@ fn nothing(alloc: Global) -> Result<Answered, Fail> {
     })
 }
 
-/// Makes a call, and notes how it ended.
-fn call<R: Threads + Wait + Sync, P: Probe>(
-    rt: &R,
+/// A call of this command line on a program, its bodies and its rows, of which nothing has come yet.
+fn call_on<'a>(
     alloc: Global,
-    words: &[String],
-    files: &mut MemFiles,
-    probe: &P,
-    told: &mut Answered,
-) {
-    let status = prelude(rt, alloc, words, files, &mut told.out, &mut told.err, probe);
-    told.status = status.code;
-    told.ended = is_ended(&status.ran);
-    told.stopped = is_stopped(&status.ran);
+    line: &str,
+    program: &'a [u8],
+    rows: &'a [u8],
+) -> Result<Call, AllocError> {
+    let files = [("p.prl", program), ("p.bod", BODIES), ("p.csv", rows)];
+    ready(alloc, line, folder(alloc, files.as_slice())?)
+}
+
+/// Makes a call, and notes how it ended.
+fn make<R: Threads + Wait + Sync, P: Probe>(rt: &R, alloc: Global, call: &mut Call, probe: &P) {
+    let words = call.words.as_slice();
+    let status = prelude(
+        rt,
+        alloc,
+        words,
+        &mut call.files,
+        &mut call.out,
+        &mut call.err,
+        probe,
+    );
+    call.status = status.code;
+    (call.ended, call.stopped) = end_of(&status.ran);
 }
 
 /// What a command line tells of a program with rows.
@@ -142,35 +157,15 @@ fn told<R: Threads + Wait + Sync, P: Probe>(
     program: &[u8],
     rows: &[u8],
     probe: &P,
-) -> Result<Answered, Fail> {
-    let words = words(alloc, line)?;
-    let mut files = folder(alloc, program, rows)?;
-    let mut told = nothing(alloc)?;
-    call(rt, alloc, &words, &mut files, probe, &mut told);
-    Ok(told)
+) -> Result<Call, AllocError> {
+    let mut call = call_on(alloc, line, program, rows)?;
+    make(rt, alloc, &mut call, probe);
+    Ok(call)
 }
 
 /// Whether a call ended so, with this on `out` and nothing on `err`.
-fn wrote(told: &Answered, out: &[u8]) -> bool {
+fn wrote(told: &Call, out: &[u8]) -> bool {
     told.status == 0 && told.out.bytes() == out && told.err.bytes().is_empty()
-}
-
-/// Each third value of a sensor, three times.
-const THIRDS: &[u8] = b"sensor i wcet 1;
-actuator o wcet 1;
-node main (i: int rate (10, 0)) returns (o)
-let
-  o = i /^ 3 *^ 3;
-tel
-";
-
-#[test]
-fn each_third_value_three_times(rt: HostRuntime) -> Result<(), Fail> {
-    let line = "prelude flows --program p.prl --sensors p.csv --until 60";
-    let made = told(&rt, rt.alloc(), line, THIRDS, SIX, &NoProbe)?;
-    let thirds = b"o,0,0,1\no,1,10,1\no,2,20,1\no,3,30,4\no,4,40,4\no,5,50,4\n";
-    assert!(rt; wrote(&made, thirds));
-    Ok(())
 }
 
 #[test]
@@ -189,13 +184,12 @@ fn two_workers_run_at_once(rt: HostRuntime) -> Result<(), Fail> {
     let line = "prelude run --program p.prl --sensors p.csv --until 20 --workers 2";
     let made = told(&rt, rt.alloc(), line, LANES, rows, &holder)?;
     let flows = b"o,0,0,1\np,0,0,3\no,1,10,2\np,1,10,4\n";
-    assert!(rt; wrote(&made, flows) && made.ended);
-    assert!(rt; holder.calls() == 8 && !holder.in_vain());
+    assert!(rt; wrote(&made, flows) && made.ended && holder.calls() == 8 && !holder.in_vain());
     Ok(())
 }
 
 /// Whether the actuator's first job was overrun by the sensor's second or third one.
-fn is_overrun(told: &Answered) -> bool {
+fn is_overrun(told: &Call) -> bool {
     let second = b"overrun o 0 port 0 cell 0 wanted 1 found 2\n".as_slice();
     let third = b"overrun o 0 port 0 cell 0 wanted 1 found 3\n".as_slice();
     let is_told = told.err.bytes() == second || told.err.bytes() == third;
@@ -224,19 +218,17 @@ fn four_workers_with_a_free_clock_end(rt: HostRuntime) -> Result<(), Fail> {
 }
 
 /// Whether a call that has no runtime has no status, and writes nothing on `err`.
-fn is_not_made(alloc: Global, words: &[String], files: &mut MemFiles, told: &mut Answered) -> bool {
-    let status = prelude_alone(alloc, words, files, &mut told.out, &mut told.err);
-    status.is_none() && told.err.bytes().is_empty()
+fn is_not_made(alloc: Global, call: &mut Call) -> bool {
+    let words = call.words.as_slice();
+    let status = prelude_alone(alloc, words, &mut call.files, &mut call.out, &mut call.err);
+    status.is_none() && call.err.bytes().is_empty()
 }
 
 /// One worker runs where no thread can be had; several are not asked for.
 #[test]
 fn no_runtime_is_needed_for_one_worker(rt: HostRuntime) -> Result<(), Fail> {
-    let alloc = rt.alloc();
     let line = "prelude run --program p.prl --sensors p.csv --until 0 --workers 2";
-    let words = words(alloc, line)?;
-    let mut files = folder(alloc, COPY, b"")?;
-    let mut told = nothing(alloc)?;
-    assert!(rt; is_not_made(alloc, &words, &mut files, &mut told));
+    let mut call = call_on(rt.alloc(), line, COPY, b"")?;
+    assert!(rt; is_not_made(rt.alloc(), &mut call));
     Ok(())
 }

@@ -1,14 +1,13 @@
 -- The first values of flows, and one value more.
-use Rattle.std.specs.Prelude.{◌≡◌, ◌+◌, ◌*◌, ◌/◌, ◌^◌, ◌<◌, ◌≤◌, ℕ, List, [], ◌∷◌, ◌++◌, length, slice_get, slice_set, Some}
+use Rattle.std.specs.Prelude.{◌≡◌, ◌+◌, ◌^◌, ◌<◌, ◌≤◌, ℕ, List, [], ◌∷◌, ◌++◌, length, slice_get, slice_set, Some}
 use Rattle.prl_base.specs.Values.{type_of}
 use Rattle.prl_base.specs.Clocks.{date_at}
 use Rattle.prl_base.specs.declared.numbers.FlowNo.{FlowNo}
 use Rattle.prl_base.specs.declared.operators.Clock.{Clock}
-use Rattle.prl_base.specs.declared.operators.Op.{Op}
-use Rattle.prl_base.specs.declared.operators.Op.TheVariants as operators
 use Rattle.prl_base.specs.declared.values.Value.{Value}
 use Rattle.prl_body.specs.declared.bodies.CheckedBody.{CheckedBody}
 use Rattle.prl_flow.specs.Counts.{dates_before}
+use Rattle.prl_flow.specs.Instances.{HasInstance}
 use Rattle.prl_flow.specs.Applications.{HaveBodies}
 use Rattle.prl_flow.specs.Programs.{FlatProgram, IsFlat}
 use Rattle.prl_flow.specs.Rows.{Rows, rows_of}
@@ -23,15 +22,6 @@ use Rattle.prl_solutions.specs.Tables.{IsFixed, Reads, Table, table_of}
 use Rattle.prl_evaluation.specs.code.Runs.{IsRun}
 use Rattle.prl_evaluation.specs.declared.runs.Run.{Run}
 use Rattle.prl_evaluation.specs.declared.settings.Setting.{Setting}
-
--- the operator's result has instance `n`, where the flow that it stands on has so many values
-abbrev pub HasInstance : Op → ℕ → ℕ → Type 0
-HasInstance (operators.Fby c) count n = n ≤ count
-HasInstance (operators.Cons c) count n = n ≤ count
-HasInstance operators.Tail count n = n + 1 < count
-HasInstance (operators.Up k) count n = (1 ≤ k) × (n / k < count)
-HasInstance (operators.Down k) count n = k * n < count
-HasInstance (operators.Shift q) count n = n < count
 
 -- the definition is no application's
 abbrev pub IsPlain : Def → Type 0

@@ -10,14 +10,12 @@ returns-in_err-made-clause-stop c =
     let p = err_from_is_err_and c.from_residual.result c.from_residual.ensures.1 in
     rw (p.1, p.2) (stops_first (given_of r) graphed (named_bodies r.named) c.in_err-made.field-0.0 c.in_err-made.ensures.stop)
 
-pub returns-in_err-check_named_bodies-clause-stop : goal.returns-in_err-check_named_bodies-clause-stop
-returns-in_err-check_named_bodies-clause-stop c =
+pub returns-in-Err-clause-stop : goal.returns-in-Err-clause-stop
+returns-in-Err-clause-stop c =
     let r = c.args.request.now in
-    let p = err_from_is_err_and c.from_residual-in_err-check_named_bodies.result c.from_residual-in_err-check_named_bodies.ensures.1 in
-    rw (p.1, p.2)
-    (stops_rest (given_of r) graphed (named_bodies r.named) c.in_err-check_named_bodies.field-0.0 c.in_ok-made.ensures.holds c.in_err-check_named_bodies.ensures.stop)
+    stops_rest (given_of r) graphed (named_bodies r.named) c.in-Err.stop c.in_ok-made.ensures.holds c.in-Err.ensures.stop
 
-pub returns-clause-holds : goal.returns-clause-holds
-returns-clause-holds c =
+pub returns-in-Ok-clause-holds : goal.returns-in-Ok-clause-holds
+returns-in-Ok-clause-holds c =
     let r = c.args.request.now in
-    both_hold (given_of r) graphed (named_bodies r.named) c.in_ok-made.ensures.holds c.in_ok-check_named_bodies.ensures.holds
+    both_hold (given_of r) graphed (named_bodies r.named) c.in_ok-made.ensures.holds c.in-Ok.ensures.holds

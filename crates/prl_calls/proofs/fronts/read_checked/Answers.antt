@@ -20,12 +20,12 @@ pub returns-clause-holds : goal.returns-clause-holds
 returns-clause-holds c =
     let r = c.args.request.now in
     let g = given_of r in
-    ok_map c.checked_graphed.result (λ _. AllHold g (later r)) (λ _. AllHold g (front ++ later r))
-    (λ made holds. both_hold g front (later r) c.in_ok-front.ensures.holds holds) c.checked_graphed.ensures.holds
+    ok_map c.checked_graphed-made.result (λ _. AllHold g (later r)) (λ _. AllHold g (front ++ later r))
+    (λ made holds. both_hold g front (later r) c.in_ok-front.ensures.holds holds) c.checked_graphed-made.ensures.holds
 
 pub returns-clause-stop : goal.returns-clause-stop
 returns-clause-stop c =
     let r = c.args.request.now in
     let g = given_of r in
-    err_map c.checked_graphed.result (StopsIn g (later r)) (StopsIn g (front ++ later r))
-    (λ stop at. stops_rest g front (later r) stop c.in_ok-front.ensures.holds at) c.checked_graphed.ensures.stop
+    err_map c.checked_graphed-made.result (StopsIn g (later r)) (StopsIn g (front ++ later r))
+    (λ stop at. stops_rest g front (later r) stop c.in_ok-front.ensures.holds at) c.checked_graphed-made.ensures.stop

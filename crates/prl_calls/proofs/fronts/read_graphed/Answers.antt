@@ -7,11 +7,11 @@ use Rattle.prl_calls.proofs.fronts.read_graphed.Goals as goal
 pub returns-clause-holds : goal.returns-clause-holds
 returns-clause-holds c =
     let g = given_of c.args.request.now in
-    ok_map c.make_graphed.result (λ _. AllHold g graphed) (λ _. AllHold g (front ++ graphed))
-    (λ made holds. both_hold g front graphed c.in_ok-front.ensures.holds holds) c.make_graphed.ensures.holds
+    ok_map c.make_graphed-made.result (λ _. AllHold g graphed) (λ _. AllHold g (front ++ graphed))
+    (λ made holds. both_hold g front graphed c.in_ok-front.ensures.holds holds) c.make_graphed-made.ensures.holds
 
 pub returns-clause-stop : goal.returns-clause-stop
 returns-clause-stop c =
     let g = given_of c.args.request.now in
-    err_map c.make_graphed.result (StopsIn g graphed) (StopsIn g (front ++ graphed))
-    (λ stop at. stops_rest g front graphed stop c.in_ok-front.ensures.holds at) c.make_graphed.ensures.stop
+    err_map c.make_graphed-made.result (StopsIn g graphed) (StopsIn g (front ++ graphed))
+    (λ stop at. stops_rest g front graphed stop c.in_ok-front.ensures.holds at) c.make_graphed-made.ensures.stop

@@ -47,3 +47,13 @@ returns c =
     (to_z_pos w64 (t.clock.start + c.args.n * t.clock.period + slice_index c.args.bests.now (c.jobs_before.result + c.args.n)) (omega arith))
     (to_z w64 (t.clock.start + c.args.n * t.clock.period + t.due))
     (to_z_pos w64 (t.clock.start + c.args.n * t.clock.period + t.due) (omega arith))
+
+pub overflow_mul-released : goal.overflow_mul-released
+overflow_mul-released c =
+    let small = read_small c.args.graph.now c.requires.well c.args.task.0 c.args.n c.requires.task c.requires.job _ c.as_slice.ensures c.index-as_slice-task.result c.index-as_slice-task.is in
+    record { fits = omega arith }
+
+pub overflow_add-index : goal.overflow_add-index
+overflow_add-index c = record {
+  fits = omega (arith, index_below c.args.graph.now c.args.task.0 c.args.n c.requires.task c.requires.job, c.jobs_before.ensures.jobs, c.requires.well.few_jobs);
+}

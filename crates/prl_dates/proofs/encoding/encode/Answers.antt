@@ -1,7 +1,8 @@
-use Rattle.prl_base.proofs.Standard.{◌≡◌, ◌+◌, ◌<◌, ◌≤◌, ℕ, List, length, sym, subst, ◌∙◌, arith, slice_index, with_items_is}
+use Rattle.prl_base.proofs.Standard.{◌≡◌, ◌+◌, ◌<◌, ◌≤◌, ℕ, List, length, sym, ap, subst, ◌∙◌, arith, slice_index, with_items_is}
 use Rattle.prl_plan.specs.Vocabulary.{AreEncodedDates, task_at, HaveRoom, AreShortWindows}
 use Rattle.prl_plan.specs.declared.tables.Window.{Window}
-use Rattle.prl_dates.specs.Vocabulary.{Lane, jobs_of, jobs_before, AreFinal, AreUpperDates, LeaveAll, AreWindows}
+use Rattle.prl_dates.specs.Vocabulary.{Lane, jobs_of, jobs_before, AreFinal, IsFirstTable, AreUpperDates, LeaveAll, AreWindows}
+use Rattle.prl_dates.specs.declared.bests.First.TheVariants as firsts
 use Rattle.prl_dates.proofs.DateTables.{best_room, first_dates, dates_made, room_made, short_made}
 use Rattle.prl_dates.proofs.Indices.{before_all}
 use Rattle.prl_dates.proofs.encoding.encode.Goals as goal
@@ -52,3 +53,17 @@ pub returns-clause-narrow : goal.returns-clause-narrow
 returns-clause-narrow c =
     let made = returns-clause-dates c in
     c.faults_tell_of_narrow_chains.ensures.room c.args.graph.now c.new.result made.0 made.1
+
+pub bests-requires-clause-dues : goal.bests-requires-clause-dues
+bests-requires-clause-dues c =
+    subst (λ (xs : List ℕ). IsFirstTable c.args.graph.now firsts.Due (length c.args.graph.now.tasks) xs) (sym c.as_slice-2.ensures.value) c.in_ok-tails.ensures
+
+pub lower_to_end-requires-clause-floor : goal.lower_to_end-requires-clause-floor
+lower_to_end-requires-clause-floor c =
+    let d = (goal.at.lower_to_end-requires-clause-floor c).After-as_mut_slice in
+    let floor : LeaveAll c.args.graph.now c.in_ok-lanes.lanes.items (length c.in_ok-lanes.lanes.items) c.in_ok-bests.bests.items = λ l lane inside stands. (final d).still.asks l lane inside stands in
+    subst (λ (xs : List ℕ). LeaveAll c.args.graph.now c.as_slice-3.result.now (length c.as_slice-3.result.now) xs) (sym c.as_slice-4.ensures.value)
+    (subst (λ (xs : List Lane). LeaveAll c.args.graph.now xs (length xs) c.in_ok-bests.bests.items) (sym c.as_slice-3.ensures.value) floor)
+
+pub windows-requires-clause-bests : goal.windows-requires-clause-bests
+windows-requires-clause-bests c = ap (λ (xs : List ℕ). length xs) c.as_slice-5.ensures.value ∙ c.in_ok-bests.ensures.long

@@ -76,3 +76,13 @@ returns c =
     ap (λ (z : ℤ). to_z w64 (of_z w64 z)) earlier ∙ to_z-of_z w64 (release_of (task_at graph c.args.from.0) c.args.before) (near a).earlier in
     c.abs_diff.ensures ∙ ap (λ (z : ℤ). unsigned_abs (z -ℤ to_z w64 (of_z w64 c.release-earlier.result))) x
     ∙ ap (λ (z : ℤ). unsigned_abs (release_of (task_at graph c.args.to.0) (pos c.args.n) -ℤ z)) y)
+
+pub release-earlier-requires-clause-period : goal.release-earlier-requires-clause-period
+release-earlier-requires-clause-period c =
+    let d = (goal.at.release-earlier-requires-clause-period c).After-index-tasks-from in
+    subst (λ (x : Task). x.clock.period < 2 ^ 31) (sym (from_is d)) (task_is c.args.graph.now c.requires.well c.args.from.0 c.requires.from).period.1
+
+pub release-later-requires-clause-period : goal.release-later-requires-clause-period
+release-later-requires-clause-period c =
+    let d = (goal.at.release-later-requires-clause-period c).After-index-tasks-to in
+    subst (λ (x : Task). x.clock.period < 2 ^ 31) (sym (to_is d)) (task_is c.args.graph.now c.requires.well c.args.to.0 c.requires.to).period.1

@@ -1,4 +1,5 @@
-use Rattle.std.proofs.Common.{◌∙◌, arith}
+use Rattle.std.proofs.Common.{◌∙◌, List, length, refl, ap, arith}
+use Rattle.prl_dates.specs.declared.lanes.Link.{Link}
 use Rattle.prl_dates.proofs.Lowering.{index_to, index_from, few_indices, sum_fits, lowered_to, kept_to}
 use Rattle.prl_dates.proofs.latest.lower.Goals as goal
 use Rattle.prl_dates.proofs.latest.lower.Goals.{then-limit-dates, else-limit-dates}
@@ -44,3 +45,12 @@ loop-k-preserved c =
           kept_to _ c.requires.well _ _ c.requires.lane c.requires.floor _ _ _ _ c.loop-k.invariant _ c.as_slice-links.ensures c.loop-k-test.true _ (c.from-wcet.ensures ∙ c.wcet_of.ensures)
           c.if-limit-dates.lowered c.if-limit-dates.dates w.dates-is w.lowered-is w.if-limit-dates.false
     ]
+
+pub loop-k-init : goal.loop-k-init
+loop-k-init c = record { dates = c.requires.dates; less = λ h. absurd (cc); same = λ h. refl; asks = λ h k less. absurd (omega (arith, less)) }
+
+pub returns-clause-dates : goal.returns-clause-dates
+returns-clause-dates c = c.loop-k.invariant.dates
+
+pub returns-clause-asks : goal.returns-clause-asks
+returns-clause-asks c = λ low k inside. c.loop-k.invariant.asks low k (omega (arith, inside, ap (λ (ls : List Link). length ls) c.as_slice-links.ensures))

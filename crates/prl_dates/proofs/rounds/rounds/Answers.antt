@@ -40,3 +40,19 @@ loop-count-preserved c =
       settled = subst (λ (xs : List ℕ). AreSettled graph lanes c.mark.new.rose xs) (sym copied) settled;
       copy = sym copied;
     }
+
+pub loop-count-init : goal.loop-count-init
+loop-count-init c = record { bests = c.requires.bests; within = c.requires.within; settled = c.requires.settled; copy = c.requires.copy }
+
+pub round-requires-clause-small : goal.round-requires-clause-small
+round-requires-clause-small c = λ q. omega (arith, c.loop-count.invariant.within q, c.requires.few)
+
+pub returns-then-eq-clause-within : goal.returns-then-eq-clause-within
+returns-then-eq-clause-within c = λ q. omega (arith, c.loop-count.invariant.within q)
+
+pub returns-clause-within : goal.returns-clause-within
+returns-clause-within c = λ q. omega (arith, c.loop-count.invariant.within q)
+
+pub returns-clause-bests : goal.returns-clause-bests
+returns-clause-bests c =
+    subst (λ (n : ℕ). AreBests c.args.graph.now n (dates_of c.args.graph.now c.loop-count.now)) (let e : c.loop-count.count ≡ c.args.most = omega arith in e) c.loop-count.invariant.bests

@@ -1,5 +1,6 @@
-use Rattle.prl_base.proofs.Standard.{rules, ◌≡◌, ◌-◌, ◌*◌, ◌<◌, ◌^◌, ℕ, List, length, sym, ◌∙◌, ap, subst, arith, sum}
-use Rattle.prl_dates.specs.Vocabulary.{AreSettled, IsRising}
+use Rattle.prl_base.proofs.Standard.{rules, ◌≡◌, ◌-◌, ◌*◌, ◌<◌, ◌^◌, ℕ, List, length, refl, sym, ◌∙◌, ap, subst, arith, sum}
+use Rattle.prl_dates.specs.Vocabulary.{AreSettled, IsRising, Leaves}
+use Rattle.prl_plan.specs.Jobs.{task_at}
 use Rattle.prl_dates.proofs.RoundSteps.{next_settled}
 use Rattle.prl_dates.proofs.SpreadRounds.{ceiling_within, rising_more, rising_less}
 use Rattle.prl_dates.proofs.spreads.raise_to_end.Goals as goal
@@ -30,4 +31,24 @@ loop-now-preserved c =
           (rising_more graph c.requires.well lanes c.requires.lanes c.args.now.now c.loop-now.now next c.loop-now.invariant.rising c.round.ensures);
       settled = subst (λ (xs : List ℕ). AreSettled graph lanes c.mark.new.rose xs) (sym copied) settled;
       copy = sym copied;
+    }
+
+pub loop-now-init : goal.loop-now-init
+loop-now-init c = record {
+  marks = c.requires.marks;
+  long = c.requires.long;
+  rising = record { long = refl; up = λ q. omega arith; ceiling = c.requires.ceiling; least = λ date keeps below. below };
+  settled = c.requires.settled;
+  copy = c.requires.copy;
+}
+
+pub returns-then-eq : goal.returns-then-eq
+returns-then-eq c =
+    let same : c.loop-now.now ≡ c.round.new.next = search rules in
+    record {
+      long = c.loop-now.invariant.rising.long;
+      up = c.loop-now.invariant.rising.up;
+      leaves = λ l lane inside stands k at.
+          subst (λ (xs : List ℕ). Leaves lane (task_at c.args.graph.now lane.to.0).wcet c.loop-now.now xs k) (sym same) (c.round.ensures.asks l lane inside stands k at);
+      least = c.loop-now.invariant.rising.least;
     }

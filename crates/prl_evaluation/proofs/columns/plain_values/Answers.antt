@@ -2,10 +2,10 @@ use Rattle.std.proofs.Common.{◌≡◌, ◌<◌, ◌∙◌, refl, ℕ, List, le
 use Rattle.prl_base.specs.Operators.{origin_of}
 use Rattle.prl_base.specs.declared.values.Value.{Value}
 use Rattle.prl_body.specs.declared.bodies.CheckedBody.{CheckedBody}
-use Rattle.prl_flow.specs.Programs.{FlatProgram}
+use Rattle.prl_flow.specs.Vocabulary.{FlatProgram, HasInstance}
 use Rattle.prl_flow.specs.declared.programs.Def.{Def}
 use Rattle.prl_solutions.specs.Tables.{nothing, table_of, taken, value_of}
-use Rattle.prl_evaluation.specs.code.Fronts.{HasInstance, IsThere}
+use Rattle.prl_evaluation.specs.code.Fronts.{IsThere}
 use Rattle.prl_evaluation.proofs.AllAtOnce.{listed, ok_more}
 use Rattle.prl_evaluation.proofs.columns.plain_values.Goals as goal
 

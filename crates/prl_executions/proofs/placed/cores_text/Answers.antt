@@ -22,11 +22,11 @@ returns-in_err-ready-clause-stop c =
 pub returns-clause-holds : goal.returns-clause-holds
 returns-clause-holds c =
     let g = given_of c.args.request.now in
-    ok_map c.placed_text.result (λ _. AllHold g last) (λ _. AllHold g (stages_after modes.Cores (c.args.request.now.named)))
-    (λ text holds. both_hold g first last c.in_ok-ready.ensures.holds holds) c.placed_text.ensures.holds
+    ok_map c.placed_text-text.result (λ _. AllHold g last) (λ _. AllHold g (stages_after modes.Cores (c.args.request.now.named)))
+    (λ text holds. both_hold g first last c.in_ok-ready.ensures.holds holds) c.placed_text-text.ensures.holds
 
 pub returns-clause-stop : goal.returns-clause-stop
 returns-clause-stop c =
     let g = given_of c.args.request.now in
-    err_map c.placed_text.result (StopsIn g last) (StopsIn g (stages_after modes.Cores (c.args.request.now.named)))
-    (λ stop at. stops_rest g first last stop c.in_ok-ready.ensures.holds at) c.placed_text.ensures.stop
+    err_map c.placed_text-text.result (StopsIn g last) (StopsIn g (stages_after modes.Cores (c.args.request.now.named)))
+    (λ stop at. stops_rest g first last stop c.in_ok-ready.ensures.holds at) c.placed_text-text.ensures.stop

@@ -17,11 +17,11 @@ make_placement-requires c = has_plan_there (given_of c.args.request.now) c.args.
 pub returns-clause-holds : goal.returns-clause-holds
 returns-clause-holds c =
     let g = given_of c.args.request.now in
-    ok_map c.placed_of.result (λ _. Holds g stages.Placed) (λ _. AllHold g last)
-    (λ text placed. (c.in_ok-spread.ensures.holds, (placed, tt))) c.placed_of.ensures.holds
+    ok_map c.placed_of-text.result (λ _. Holds g stages.Placed) (λ _. AllHold g last)
+    (λ text placed. (c.in_ok-spread.ensures.holds, (placed, tt))) c.placed_of-text.ensures.holds
 
 pub returns-clause-stop : goal.returns-clause-stop
 returns-clause-stop c =
     let g = given_of c.args.request.now in
-    err_map c.placed_of.result (StopsAt g stages.Placed) (StopsIn g last)
-    (λ stop at. inr (c.in_ok-spread.ensures.holds, inl at)) c.placed_of.ensures.stop
+    err_map c.placed_of-text.result (StopsAt g stages.Placed) (StopsIn g last)
+    (λ stop at. inr (c.in_ok-spread.ensures.holds, inl at)) c.placed_of-text.ensures.stop

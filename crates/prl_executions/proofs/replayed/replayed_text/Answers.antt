@@ -12,7 +12,7 @@ returns-in_err-ready-clause-stop c =
     rw (x.1, x.2) (stops_first (given_of c.args.request.now) (front ++ ran) (stages.Schedule ∷ []) c.in_err-ready.field-0.0 c.in_err-ready.ensures.stop)
 
 pub returns-clause-holds : goal.returns-clause-holds
-returns-clause-holds c = last_holds (given_of c.args.request.now) (front ++ ran) stages.Schedule c.in_ok-ready.ensures.holds c.replay_of.result c.replay_of.ensures.holds
+returns-clause-holds c = last_holds (given_of c.args.request.now) (front ++ ran) stages.Schedule c.in_ok-ready.ensures.holds c.replay_of-text.result c.replay_of-text.ensures.holds
 
 pub returns-clause-stop : goal.returns-clause-stop
-returns-clause-stop c = last_stops (given_of c.args.request.now) (front ++ ran) stages.Schedule c.in_ok-ready.ensures.holds c.replay_of.result c.replay_of.ensures.stop
+returns-clause-stop c = last_stops (given_of c.args.request.now) (front ++ ran) stages.Schedule c.in_ok-ready.ensures.holds c.replay_of-text.result c.replay_of-text.ensures.stop

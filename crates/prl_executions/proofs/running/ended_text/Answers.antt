@@ -10,8 +10,3 @@ pub returns-in_err-closed-clause-stop : goal.returns-in_err-closed-clause-stop
 returns-in_err-closed-clause-stop c =
     let p = err_from_is_err_and c.from_residual.result c.from_residual.ensures.1 in
     rw (p.1, p.2) refl
-
-pub returns-in_err-text-clause-stop : goal.returns-in_err-text-clause-stop
-returns-in_err-text-clause-stop c =
-    let p = err_from_is_err_and c.from_residual-in_err-text.result c.from_residual-in_err-text.ensures.1 in
-    rw (p.1, p.2) refl

@@ -8,11 +8,11 @@ use Rattle.prl_executions.proofs.running.run_text.Goals as goal
 pub returns-clause-holds : goal.returns-clause-holds
 returns-clause-holds c =
     let g = given_of c.args.request.now in
-    ok_map c.ended_text.result (λ made. IsRunText g c.args.gate made.0.items made.1) (λ _. AllHold g (front ++ ran))
-    (λ made text. c.in_ok-ready.ensures.holds) c.ended_text.ensures.text
+    ok_map c.ended_text-made.result (λ made. IsRunText g c.args.gate made.0.items made.1) (λ _. AllHold g (front ++ ran))
+    (λ made text. c.in_ok-ready.ensures.holds) c.ended_text-made.ensures.text
 
 pub returns-clause-stop : goal.returns-clause-stop
 returns-clause-stop c =
     let g = given_of c.args.request.now in
-    err_map c.ended_text.result (λ stop. stop ≡ stops.Memory) (StopsIn g (front ++ ran))
-    (λ stop is. subst (StopsIn g (front ++ ran)) (sym is) (inl tt)) c.ended_text.ensures.stop
+    err_map c.ended_text-made.result (λ stop. stop ≡ stops.Memory) (StopsIn g (front ++ ran))
+    (λ stop is. subst (StopsIn g (front ++ ran)) (sym is) (inl tt)) c.ended_text-made.ensures.stop

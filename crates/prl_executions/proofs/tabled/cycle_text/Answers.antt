@@ -12,7 +12,7 @@ returns-in_err-ready-clause-stop c =
     rw (x.1, x.2) (stops_first (given_of c.args.request.now) (front ++ ran) (stages.Table ∷ []) c.in_err-ready.field-0.0 c.in_err-ready.ensures.stop)
 
 pub returns-clause-holds : goal.returns-clause-holds
-returns-clause-holds c = last_holds (given_of c.args.request.now) (front ++ ran) stages.Table c.in_ok-ready.ensures.holds c.cycle_of.result c.cycle_of.ensures.holds
+returns-clause-holds c = last_holds (given_of c.args.request.now) (front ++ ran) stages.Table c.in_ok-ready.ensures.holds c.cycle_of-made.result c.cycle_of-made.ensures.holds
 
 pub returns-clause-stop : goal.returns-clause-stop
-returns-clause-stop c = last_stops (given_of c.args.request.now) (front ++ ran) stages.Table c.in_ok-ready.ensures.holds c.cycle_of.result c.cycle_of.ensures.stop
+returns-clause-stop c = last_stops (given_of c.args.request.now) (front ++ ran) stages.Table c.in_ok-ready.ensures.holds c.cycle_of-made.result c.cycle_of-made.ensures.stop

@@ -6,7 +6,7 @@ use Rattle.prl_executions.proofs.Ends.{last_holds, last_stops}
 use Rattle.prl_executions.proofs.texts.made_text.Goals as goal
 
 pub returns-clause-holds : goal.returns-clause-holds
-returns-clause-holds c = last_holds (given_of c.args.request.now) (front ++ graphed ++ planned) stages.Made c.in_ok-plan.ensures.holds c.table_of.result c.table_of.ensures.holds
+returns-clause-holds c = last_holds (given_of c.args.request.now) (front ++ graphed ++ planned) stages.Made c.in_ok-plan.ensures.holds c.table_of-text.result c.table_of-text.ensures.holds
 
 pub returns-clause-stop : goal.returns-clause-stop
-returns-clause-stop c = last_stops (given_of c.args.request.now) (front ++ graphed ++ planned) stages.Made c.in_ok-plan.ensures.holds c.table_of.result c.table_of.ensures.stop
+returns-clause-stop c = last_stops (given_of c.args.request.now) (front ++ graphed ++ planned) stages.Made c.in_ok-plan.ensures.holds c.table_of-text.result c.table_of-text.ensures.stop

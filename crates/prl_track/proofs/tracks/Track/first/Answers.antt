@@ -1,4 +1,4 @@
-use Rattle.prl_base.proofs.Standard.{◌≡◌, ◌<◌, length, arith, refl, sym, subst, slice_get_read}
+use Rattle.prl_base.proofs.Standard.{◌<◌, length, arith, refl, sym, subst, slice_get_read}
 use Rattle.prl_track.specs.Vocabulary.{TrackView, run_of, IsFirstOf}
 use Rattle.prl_track.proofs.TrackSteps.{first_of}
 use Rattle.prl_track.proofs.tracks.Track.first.Goals as goal

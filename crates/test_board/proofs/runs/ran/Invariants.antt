@@ -1,4 +1,4 @@
-use Rattle.test_exec.proofs.runs.ran.Given as goal
+use Rattle.test_board.proofs.runs.ran.Given as goal
 
 abbrev pub ghosts-alone : goal.ghosts-alone
 ghosts-alone g a = record { name = a.blank.name; parts = a.blank.parts }

@@ -1,5 +1,0 @@
-//! Tests of generated programs.
-#![tactic(auto)]
-
-#[cfg(test)]
-mod generated;
