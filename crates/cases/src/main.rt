@@ -4,37 +4,54 @@
 #![tactic(auto)]
 
 mod calling;
-mod comparing;
-mod expanding;
+mod calls;
 mod listing;
 mod reading;
 mod running;
-mod shapes;
+mod scenes;
 
-use anyhow::Result;
+use case_texts::{NO_CASE, Report, Tally, lines_of};
 use listing::case_files;
-use running::{NO_CASE, Tally, run_file};
+use reading::run_lines;
 use std::process::ExitCode;
+use std::{fs, io};
 
-/// Runs the cases of all files, and tells how many of each file passed.
-fn run_all(rt: &HostRuntime) -> Result<Tally> {
-    let mut all = NO_CASE;
+/// Runs the cases of all files.
+fn run_all(rt: &HostRuntime) -> io::Result<Tally> {
     let names = case_files(rt)?;
-    for name in &names {
-        all.add(run_named(rt, name.as_str())?);
+    run_files(rt, &names)
+}
+
+/// Runs the cases of these files, and tells how many of all passed.
+fn run_files(rt: &HostRuntime, names: &[String]) -> io::Result<Tally> {
+    let mut all = NO_CASE;
+    for name in names {
+        all.add(run_file(rt, name.as_str())?);
     }
     println!(rt; "all {all}")?;
     Ok(all)
 }
 
 /// Runs the cases of a file, and tells how many passed.
-fn run_named(rt: &HostRuntime, name: &str) -> Result<Tally> {
-    let tally = run_file(rt, name)?;
-    println!(rt; "{name} {tally}")?;
+fn run_file(rt: &HostRuntime, name: &str) -> io::Result<Tally> {
+    let text = fs::read_to_string(rt, name)?;
+    run_text(rt, name, text.as_str())
+}
+
+fn run_text(rt: &HostRuntime, name: &str, text: &str) -> io::Result<Tally> {
+    let mut report = Report::new(rt.alloc());
+    let lines = lines_of(&mut report, text);
+    run_lines(&mut report, name, lines.as_slice());
+    print_report(rt, name, report.text.text.as_str(), report.tally())
+}
+
+/// Tells what is wrong with the cases of a file, and how many passed.
+fn print_report(rt: &HostRuntime, name: &str, faults: &str, tally: Tally) -> io::Result<Tally> {
+    print!(rt; "{faults}{name} {tally}\n")?;
     Ok(tally)
 }
 
-fn main(rt: HostRuntime) -> Result<ExitCode> {
+fn main(rt: HostRuntime) -> io::Result<ExitCode> {
     let all = run_all(&rt)?;
     if all.is_clean() {
         Ok(ExitCode::SUCCESS)

@@ -1,238 +1,150 @@
-//! Runs cases, and tells how they ended.
+//! Runs the calls of a case, and tells which did not tell what they are to.
 
-use crate::calling::{Folder, MadeFile, Told, cut, folder, make};
-use crate::comparing::is_made_of;
-use crate::reading::read_cases;
-use crate::shapes::{Call, Case, CaseFile, front};
-use anyhow::{Context, Result};
-use std::alloc::{AllocError, Global};
-use std::{fmt, fs};
+use crate::calling::{Sinks, sinks_of, status_of};
+use crate::calls::{Call, call_of, limits_of};
+use crate::reading::put_file;
+use crate::scenes::{Body, Folder, Scene, cut, folder_of};
+use case_texts::{Draft, Report, is_made_of, said};
+use prl_io::MemFiles;
 
-/// How many cases passed, and how many did not.
-#[derive(Clone, Copy)]
-pub struct Tally {
-    passed: u64,
-    failed: u64,
+/// Makes the call of this command line, or of the last one where it is empty, with these lines below it.
+pub fn run_call<'a>(
+    report: &mut Report,
+    scene: &mut Scene<'a>,
+    words: &'a str,
+    lines: &'a [&'a str],
+) {
+    if !words.is_empty() {
+        scene.words = words;
+    }
+    if scene.words.is_empty() {
+        return report.refuse("no command line before");
+    }
+    let call = call_of(report, scene, lines);
+    run_read(report, scene, &call);
 }
 
-/// No case yet.
-pub const NO_CASE: Tally = Tally {
-    passed: 0,
-    failed: 0,
-};
-
-impl Tally {
-    /// Whether no case failed, and some passed.
-    pub fn is_clean(&self) -> bool {
-        self.failed == 0 && self.passed > 0
-    }
-
-    /// Adds the cases of another tally.
-    pub fn add(&mut self, other: Tally) {
-        self.passed = self.passed.saturating_add(other.passed);
-        self.failed = self.failed.saturating_add(other.failed);
-    }
-
-    /// Adds a case.
-    fn count(&mut self, passes: bool) {
-        if passes {
-            self.passed = self.passed.saturating_add(1);
-        } else {
-            self.failed = self.failed.saturating_add(1);
-        }
+/// Makes a call once, or on fronts of a file.
+fn run_read<'a>(report: &mut Report, scene: &mut Scene<'a>, call: &Call<'a>) {
+    match said(call.lines, "fronts ") {
+        Some(name) => run_fronts(report, scene, call, name),
+        None => run_once(report, scene, call),
     }
 }
 
-impl fmt::Display for Tally {
-    fn fmt<W: fmt::Write>(&self, f: &mut fmt::Formatter<W>) -> fmt::Result {
-        let passed = self.passed;
-        let failed = self.failed;
-        write!(f, "{passed} passed, {failed} failed")
-    }
-}
-
-/// A case, the file that it stands in, and the files that it shares with others.
-#[derive(Clone, Copy)]
-struct Scene<'a> {
-    file: &'a str,
-    case: &'a Case<'a>,
-    shared: &'a [CaseFile<'a>],
-}
-
-/// Runs the cases of a file.
-pub fn run_file(rt: &HostRuntime, file: &str) -> Result<Tally> {
-    let text = fs::read_to_string(rt, file)?;
-    run_text(rt, file, text.as_str())
-}
-
-fn run_text(rt: &HostRuntime, file: &str, text: &str) -> Result<Tally> {
-    let lines = lines_of(rt.alloc(), text)?;
-    run_lines(rt, file, lines.as_slice())
-}
-
-fn lines_of<'a>(alloc: Global, text: &'a str) -> Result<Vec<&'a str>, AllocError> {
-    let mut lines = Vec::new(alloc);
-    for line in text.lines() {
-        lines.push(line)?;
-    }
-    Ok(lines)
-}
-
-fn run_lines(rt: &HostRuntime, file: &str, lines: &[&str]) -> Result<Tally> {
-    let cases = read_cases(rt.alloc(), lines).context(format_args!("{file}"))?;
-    match cases.as_slice().split_first() {
-        Some((first, named)) => run_cases(rt, file, named, first.files.as_slice()),
-        None => Ok(NO_CASE),
-    }
-}
-
-fn run_cases(
-    rt: &HostRuntime,
-    file: &str,
-    cases: &[Case<'_>],
-    shared: &[CaseFile<'_>],
-) -> Result<Tally> {
-    let mut tally = NO_CASE;
-    for (k, case) in cases.iter().enumerate() {
-        let scene = Scene { file, case, shared };
-        let passes = run_case(rt, &scene)?;
-        let is_new = is_new(rt, &scene, front(cases, k))?;
-        tally.count(passes && is_new);
-    }
-    Ok(tally)
-}
-
-/// Whether none of the cases before has the name.
-fn is_new(rt: &HostRuntime, scene: &Scene<'_>, before: &[Case<'_>]) -> Result<bool> {
-    let name = scene.case.name;
-    if before.iter().any(|case| case.name == name) {
-        println!(rt; "{}: {name}: a second case of this name", scene.file)?;
-        return Ok(false);
-    }
-    Ok(true)
-}
-
-/// Runs a case that has calls, and tells whether each told what it is to.
-fn run_case(rt: &HostRuntime, scene: &Scene<'_>) -> Result<bool> {
-    let mut made = Vec::new(rt.alloc());
-    run_calls(rt, scene, &mut made).context(format_args!("{}: {}", scene.file, scene.case.name))
-}
-
-fn run_calls<'a>(
-    rt: &HostRuntime,
-    scene: &Scene<'a>,
-    made: &mut Vec<MadeFile<'a>>,
-) -> Result<bool> {
-    let calls = scene.case.calls.as_slice();
-    let mut passes = !calls.is_empty();
-    if calls.is_empty() {
-        println!(rt; "{}: {}: no call", scene.file, scene.case.name)?;
-    }
-    for call in calls {
-        let as_wanted = run_call(rt, scene, call, made)?;
-        passes = passes && as_wanted;
-    }
-    Ok(passes)
-}
-
-/// Makes a call, and tells whether it told what it is to.
-fn run_call<'a>(
-    rt: &HostRuntime,
-    scene: &Scene<'a>,
-    call: &Call<'a>,
-    made: &mut Vec<MadeFile<'a>>,
-) -> Result<bool> {
-    if let Some(name) = call.fronts {
-        return run_fronts(rt, scene, call, made.as_slice(), name);
-    }
-    let alloc = rt.alloc();
-    let folder = folder(alloc, made.as_slice(), scene.case, call, scene.shared)?;
-    let told = make(alloc, call, folder)?;
-    keep(alloc, made, call, told.out.bytes())?;
-    check(rt, scene, call, &told, call.told.as_str())
-}
-
-/// Keeps what a call wrote as the file that it is to be.
-fn keep<'a>(
-    alloc: Global,
-    made: &mut Vec<MadeFile<'a>>,
-    call: &Call<'a>,
-    out: &[u8],
-) -> Result<(), AllocError> {
-    match call.into {
-        Some(name) => {
-            let bytes = Vec::from_slice(alloc, out)?;
-            Ok(made.push(MadeFile { name, bytes })?)
-        }
-        None => Ok(()),
-    }
+fn run_once<'a>(report: &mut Report, scene: &mut Scene<'a>, call: &Call<'a>) {
+    let folder = folder_of(report, scene);
+    run_on(report, scene, call, folder, call.err.as_str());
 }
 
 /// Makes a call for each line of `err`, on the fronts of 0, 1, 2, .. bytes of the file of this name.
-fn run_fronts(
-    rt: &HostRuntime,
-    scene: &Scene<'_>,
-    call: &Call<'_>,
-    made: &[MadeFile<'_>],
-    name: &str,
-) -> Result<bool> {
-    let mut passes = !call.told.is_empty();
-    for (count, line) in call.told.as_str().split_inclusive('\n').enumerate() {
-        let mut folder = folder(rt.alloc(), made, scene.case, call, scene.shared)?;
-        let has = cut(&mut folder, name, count);
-        let as_wanted = run_on(rt, scene, call, folder, line)?;
-        passes = passes && has && as_wanted;
+fn run_fronts<'a>(report: &mut Report, scene: &mut Scene<'a>, call: &Call<'a>, name: &str) {
+    if call.err.is_empty() {
+        report.refuse("no line of err");
     }
-    if !passes {
-        println!(rt; "{}: {}: fronts of {name}", scene.file, scene.case.name)?;
+    for (count, line) in call.err.as_str().split_inclusive('\n').enumerate() {
+        run_front(report, scene, call, name, count, line);
     }
-    Ok(passes)
 }
 
-/// Makes a call on these files, and tells whether it told what it is to, with this text on `err`.
-fn run_on(
-    rt: &HostRuntime,
-    scene: &Scene<'_>,
-    call: &Call<'_>,
+/// Makes a call on so many bytes of the file of this name, which is to tell this on `err`.
+fn run_front<'a>(
+    report: &mut Report,
+    scene: &mut Scene<'a>,
+    call: &Call<'a>,
+    name: &str,
+    count: usize,
+    err: &str,
+) {
+    let folder = front_of(report, scene, name, count);
+    run_on(report, scene, call, folder, err);
+}
+
+/// The files of a scene, with so many bytes of the one of this name.
+fn front_of(report: &mut Report, scene: &Scene<'_>, name: &str, count: usize) -> Folder {
+    let mut folder = folder_of(report, scene);
+    if !cut(&mut folder, name, count) {
+        report.refuse("a front that the file does not have");
+    }
+    folder
+}
+
+/// Makes a call on these files, which is to tell this on `err`.
+fn run_on<'a>(
+    report: &mut Report,
+    scene: &mut Scene<'a>,
+    call: &Call<'a>,
     folder: Folder,
     err: &str,
-) -> Result<bool> {
-    let told = make(rt.alloc(), call, folder)?;
-    check(rt, scene, call, &told, err)
+) {
+    let mut files = MemFiles::new(folder, limits_of(report, call.lines, "files ").fails);
+    if let Some(mut sinks) = sinks_of(report, call.lines) {
+        run_to(report, scene, call, &mut files, &mut sinks, err);
+    }
 }
 
-/// Whether a call told what is wanted, with this text on `err`; prints it where it did not.
-fn check(
-    rt: &HostRuntime,
-    scene: &Scene<'_>,
-    call: &Call<'_>,
-    told: &Told,
+/// Makes a call on these files and sinks, which is to tell this on `err`.
+fn run_to<'a>(
+    report: &mut Report,
+    scene: &mut Scene<'a>,
+    call: &Call<'a>,
+    files: &mut MemFiles,
+    sinks: &mut Sinks,
     err: &str,
-) -> Result<bool> {
-    let out = text_of(told.out.bytes());
-    let told_err = text_of(told.err.bytes());
-    let out_fits = is_made_of(out, call.first.as_str(), call.later.as_slice());
-    if told.status == call.status && out_fits && told_err == err {
-        return Ok(true);
+) {
+    let status = status_of(report, call, files, sinks);
+    check(
+        report,
+        call,
+        status,
+        sinks.out.bytes(),
+        sinks.err.bytes(),
+        err,
+    );
+    keep(report, scene, call.lines, sinks.out.bytes());
+}
+
+/// Keeps what a call wrote as the file that it is to be.
+fn keep<'a>(report: &mut Report, scene: &mut Scene<'a>, lines: &[&'a str], out: &[u8]) {
+    if let Some(name) = said(lines, "into ") {
+        let bytes = report.copy(out);
+        put_file(report, scene, name, Body::Bytes(bytes));
     }
-    println!(rt; "{}: {}", scene.file, scene.case.name)?;
-    println!(rt; "$ {}", call.line)?;
-    println!(rt; "status {}", told.status)?;
+}
+
+/// Refuses what a call told where it is not what is wanted, with this text on `err`.
+fn check(report: &mut Report, call: &Call<'_>, status: u8, out: &[u8], told: &[u8], err: &str) {
+    let out = text_of(out);
+    let told = text_of(told);
+    let out_fits = is_made_of(report, out, call.out.as_str());
+    if status == call.status && out_fits && told == err {
+        return;
+    }
+    report.refuse("the call told something else");
+    print_call(&mut report.text, call.line.as_str(), status);
     if !out_fits {
-        print_lines(rt, '>', out)?;
+        print_lines(&mut report.text, "> ", out);
     }
-    print_lines(rt, '!', told_err)?;
-    Ok(false)
+    print_lines(&mut report.text, "! ", told);
 }
 
 fn text_of(bytes: &[u8]) -> &str {
     str::from_utf8(bytes).unwrap_or("no UTF-8")
 }
 
-/// Prints the lines of a text, as a file of cases would have it.
-fn print_lines(rt: &HostRuntime, mark: char, text: &str) -> Result<()> {
-    for line in text.lines() {
-        println!(rt; "{mark} {line}")?;
+fn print_call(text: &mut Draft, line: &str, status: u8) {
+    text.add("$ ");
+    text.add(line);
+    text.add("\nstatus ");
+    text.add_number(status as u64);
+    text.add("\n");
+}
+
+/// Tells the lines of a text, as a file of cases would have it.
+fn print_lines(text: &mut Draft, mark: &str, lines: &str) {
+    for line in lines.lines() {
+        text.add(mark);
+        text.add(line);
+        text.add("\n");
     }
-    Ok(())
 }

@@ -1,9 +1,11 @@
 -- What a command comes to over known files is how its call ends.
 use Rattle.std.proofs.Common.{◌≡◌, ◌≤◌, ◌++◌, ℕ, Bool, List, [], ◌∷◌, drop, Option, Some, None, Result, refl, sym, ap, ◌∙◌, inl, inr, subst, arith}
-use Rattle.prl_app.specs.Vocabulary.{Ending, IsAnswerOf, IsAnswerStop, Status, Answers, Outside, Ends, IsEndOf, IsExact, IsOverrunOf, IsTold, Means, NoFault, NoneFailed, ran_of}
-use Rattle.prl_app.specs.Vocabulary.{status_of, line_of, IsWrittenBy, line_is}
+use Rattle.prl_endings.specs.Vocabulary.{IsAnswerOf, IsAnswerStop, IsTold, line_of, ran_of, status_of}
+use Rattle.prl_endings.specs.declared.endings.Ending.{Ending}
+use Rattle.prl_endings.specs.declared.endings.Status.{Status}
+use Rattle.prl_app.specs.Vocabulary.{Answers, Outside, Ends, IsEndOf, IsExact, IsOverrunOf, IsWrittenBy, Means, NoFault, NoneFailed, line_is}
 use Rattle.prl_app.specs.code.Performed.{Performs}
-use Rattle.prl_app.specs.declared.endings.Ending.TheVariants as endings
+use Rattle.prl_endings.specs.declared.endings.Ending.TheVariants as endings
 use Rattle.prl_stages.specs.Vocabulary.{Folder, Given, IsContent, IsGiven, IsGivenIn, IsGivenTo, content_of, file_of, Comes, stages_of, HasOverrun}
 use Rattle.prl_stages.specs.declared.faults.Fault.{Fault}
 use Rattle.prl_stages.specs.declared.faults.InputFile.{InputFile}

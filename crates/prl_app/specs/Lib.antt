@@ -1,8 +1,4 @@
--- The lines on err.
-pub mod ErrorLines
--- What comes of a command before its text is written.
-pub mod Answers
--- Statuses, endings, and what a call says.
+-- What a call of the command says.
 pub mod Endings
 -- What private functions say to one another.
 pub mod code

@@ -1,3 +1,1 @@
-pub mod Modes
 pub mod Performed
-pub mod Pieces

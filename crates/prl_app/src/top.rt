@@ -4,14 +4,13 @@ ghost use Rattle.std.specs.Prelude.{map, IfNone, IfSome, Some, ◌≡◌, ◌≤
 ghost use Rattle.std.specs.Bool.{OnFalse, OnTrue};
 ghost use Rattle.std.specs.String.{string_bytes};
 ghost use Rattle.prl_arguments.specs.Arguments.{AreInRange, command_of};
-ghost use Rattle.prl_app.specs.Endings.{Answers, AsksForThreads, IsTold, Outside, ran_of, status_of};
-ghost use Rattle.prl_app.specs.ErrorLines.{line_of};
+ghost use Rattle.prl_endings.specs.ErrorLines.{line_of};
+ghost use Rattle.prl_endings.specs.Statuses.{IsTold, ran_of, status_of};
+ghost use Rattle.prl_app.specs.Endings.{Answers, AsksForThreads, Outside};
 ghost use Rattle.prl_app.specs.code.Performed.{IsWrittenBy, Performs, line_is};
 
-use crate::endings::{Ending, Status, status_of};
-use crate::lines::tell;
-use crate::pipeline::{answer, answer_threads};
 use prl_arguments::{Command, Mode, WordsFault, read_words};
+use prl_endings::{Ending, Status, answer, answer_threads, status_of, tell};
 use prl_executions::Outcome;
 use prl_io::{Files, Probe, Sink, write_all};
 use prl_stages::{Ran, Stop, stages_end_one_way};

@@ -1,5 +1,4 @@
 mod TurnSteps
-mod Rises
 mod Cuts
 mod EdgeNumbers
 mod EdgeCells

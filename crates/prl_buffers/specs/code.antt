@@ -1,5 +1,4 @@
 -- What private functions say to one another.
 pub mod Turns
-pub mod Counts
 pub mod Edges
 pub mod Tables

@@ -6,9 +6,9 @@ ghost use Rattle.prl_plan.specs.declared.tables.Window.{Window};
 ghost use Rattle.prl_buffers.specs.code.Edges.{IsPlanned, jobs_of, ReleasesFit, AreReleases, EndsFit, AreEnds, IsCutOf, HasLeastCount, HasTaskCells, HasEdgeCells};
 ghost use Rattle.prl_buffers.specs.code.Turns.{IsTurn};
 
-use crate::counts::least_count;
 use crate::turns::{Turn, sums_of, turn_of};
 use prl_base::{Clock, Seq, TaskNo};
+use prl_numbers::least_count;
 use prl_plan::{Dates, Edge, Producer, TaskGraph, Used, Word, shortest_repeat};
 use std::alloc::{AllocError, Global};
 

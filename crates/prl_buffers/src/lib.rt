@@ -2,7 +2,6 @@
 //! them in turn. It stands on the words and the encoded dates of the graph, as `prl_plan` keeps them.
 #![tactic(auto)]
 
-mod counts;
 mod edges;
 mod laws;
 mod tables;

@@ -17,6 +17,7 @@ use crate::numbers::{jobs_before, jobs_of};
 use crate::rounds::{round, rounds};
 use crate::runs::push_times;
 use prl_base::TaskNo;
+use prl_deadlines::above_in;
 use prl_plan::TaskGraph;
 use std::alloc::{AllocError, Global};
 
@@ -58,23 +59,6 @@ pub(crate) fn first_table(
         )?;
     }
     Ok(table)
-}
-
-/// The first of `count` places from an index on at which one table is above the other.
-fn above_in(high: &[u64], low: &[u64], first: u64, count: u64) -> Option<u64>
-    requires high { first + count ≤ length high.now }
-    requires low { first + count ≤ length low.now }
-    ensures { MatchOption result ((p : ℕ) → p < count → slice_index high.now (first + p) ≤ slice_index low.now (first + p))
-        (λ n. (n < count) × (slice_index low.now (first + n) < slice_index high.now (first + n))
-        × ((p : ℕ) → p < n → slice_index high.now (first + p) ≤ slice_index low.now (first + p))) }
-{
-    for p in 0..count {
-        let index = (first + p) as usize;
-        if high[index] > low[index] {
-            return Some(p);
-        }
-    }
-    None
 }
 
 /// The lowest job at which one table is above the other.

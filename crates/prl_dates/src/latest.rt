@@ -7,6 +7,7 @@ ghost use Rattle.prl_dates.specs.code.Tables.{Leaves, LeaveAll, AreUpperDates};
 
 use crate::lanes::Lane;
 use crate::numbers::wcet_of;
+use prl_deadlines::latest_end;
 use prl_plan::TaskGraph;
 
 /// Lowers the deadlines of the lane's earlier task to what its later one asks for; whether one was
@@ -27,7 +28,7 @@ fn lower(graph: &TaskGraph, lane: &Lane, floor: &[u64], dates: &mut [u64]) -> bo
     let mut lowered = false;
     for k in 0..links.len() {
         let from = links[k].from as usize;
-        let limit = dates[first + k] + links[k].gap - wcet;
+        let limit = latest_end(dates[first + k], links[k].gap, wcet);
         if limit < dates[from] {
             dates[from] = limit;
             lowered = true;

@@ -1,12 +1,13 @@
 -- The least end of an overloaded interval is the earliest deadline that a run by earliest deadline first misses.
 use Rattle.prl_base.proofs.Standard.{◌≡◌, ◌-◌, ◌≤◌, ◌⊎◌, ℕ, Option, inl, inr, refl, sym, subst, arith, cases_lt}
 use Rattle.prl_plan.specs.Vocabulary.{IsJob, HasPlanFacts, RunConstants}
-use Rattle.prl_edf.specs.Vocabulary.{cost_within, demand, IsOverloaded, IsFirstOverload, units_before, IsTimedRun, AreUnits, IsEdfRun, MissesWindow, IsFirstMiss}
+use Rattle.prl_demand.specs.Vocabulary.{cost_within, demand, IsGreatest, IsOverloaded, IsFirstOverload}
+use Rattle.prl_demand.proofs.Sums.{jobs_rise, jobs_none}
+use Rattle.prl_demand.proofs.Within.{inside, inside_or_not, cost_inside, cost_outside}
+use Rattle.prl_edf.specs.Vocabulary.{units_before, IsTimedRun, AreUnits, IsEdfRun, MissesWindow, IsFirstMiss}
 use Rattle.prl_edf.proofs.Best.{none_or_least}
 use Rattle.prl_edf.proofs.Feasible.{missed_overloads}
 use Rattle.prl_edf.proofs.Overloaded.{met_fits}
-use Rattle.prl_edf.proofs.Sums.{jobs_rise, jobs_none}
-use Rattle.prl_edf.proofs.Units.{inside, inside_or_not, cost_inside, cost_outside}
 
 module _ (c : RunConstants) (cost : ℕ → ℕ → ℕ) where
   -- no interval that is overloaded ends before a deadline up to which all are met
@@ -88,3 +89,27 @@ one_first_overload c cost from to other end x y =
     let up = x.greatest j.0 j.1 j.2 (subst (λ (t : ℕ). IsOverloaded c cost t to) j.3 at_y) in
     let down = y.greatest i.0 i.1 i.2 (subst (λ (t : ℕ). IsOverloaded c cost t end) i.3 at_x) in
     (omega (arith, up, down, i.3, j.3), same)
+
+module _ (c : RunConstants) (cost : ℕ → ℕ → ℕ) (b : ℕ) where
+  -- the greatest beginning of an overloaded interval that ends at a first miss
+  pub greatest_is_first : HasPlanFacts c → (run : ℕ → Option (ℕ × ℕ)) → AreUnits c cost cost → IsEdfRun c cost run → (i n : ℕ) → IsFirstMiss c cost run i n → b ≡ c.deadline i n →
+      (a asked : ℕ) → IsGreatest c cost b a asked → IsFirstOverload c cost a b
+  greatest_is_first facts run are edf i n miss ends a asked is =
+      let told = first_overload c facts cost run are edf i n miss in
+      let over : IsOverloaded c cost a b = (let o = is.over in omega (arith, o, is.asked_is)) in
+      let none_later : (x : ℕ) → IsOverloaded c cost x b → x ≤ b → x ≤ a = (λ x o within. elim (cases_lt a x) [
+        | inr past ↦ past
+        | inl later ↦ absurd (let h = is.greatest x later within in omega (arith, h, o, within))
+      ]) in
+      let job = begins_with_a_job c cost a b over in
+      let at_job : c.release job.0 job.1 ≤ a = none_later (c.release job.0 job.1) job.4 (let due = job.5 in let w = facts.window job.0 job.1 job.2 in omega (arith, due, w)) in
+      record {
+        overloaded = over;
+        least_end = λ x y o. (let h = told.1.least_end x y o in omega (arith, h, ends));
+        begins = (job.0, job.1, job.2, omega (arith, job.3, at_job));
+        greatest = λ j k at o. none_later (c.release j k) o (elim (cases_lt b (c.release j k)) [
+          | inr within ↦ within
+          | inl past ↦ absurd (let late = begins_with_a_job c cost (c.release j k) b o in
+              let f = late.3 in let due = late.5 in let w = facts.window late.0 late.1 late.2 in omega (arith, past, f, due, w))
+        ]);
+      }

@@ -1,12 +1,8 @@
 -- Runs in which each job has all that it costs.
-use Rattle.prl_base.proofs.Standard.{◌≡◌, ◌<◌, ◌≤◌, ◌^◌, ℕ, List, [], length, get_or, replicate, Option, sym, ap, ◌∙◌, arith, get_or-replicate, length-replicate}
-use Rattle.prl_plan.specs.Vocabulary.{IsJob, task_at, PlanView, IsPlan, RunConstants}
-use Rattle.prl_plan.proofs.RoundPeriods.{task_is}
+use Rattle.prl_base.proofs.Standard.{◌≡◌, ◌<◌, ◌≤◌, ℕ, List, [], length, get_or, replicate, Option, sym, ap, ◌∙◌, arith, get_or-replicate, length-replicate}
+use Rattle.prl_plan.specs.Vocabulary.{IsJob, RunConstants}
 use Rattle.prl_edf.specs.Vocabulary.{Outcome, ComesTo, run_of, IsReady, IsEdfRun, IsPlainRun, IsFirstMiss, MeetsAllWindows, AreFullLists}
 use Rattle.prl_edf.specs.declared.runs.Outcome.TheVariants as outcomes
-
-pub wcet_bounds : (plan : PlanView) → IsPlan plan → (i : ℕ) → i < length plan.graph.tasks → (1 ≤ (task_at plan.graph i).wcet) × ((task_at plan.graph i).wcet < 2 ^ 31)
-wcet_bounds plan is i inside = (task_is plan.graph is.graph i inside).wcet
 
 module _ (c : RunConstants) (cost : ℕ → ℕ → ℕ) (lists : List (List ℕ)) where
   pub full_lists : (by_task : ℕ → ℕ) → length lists ≡ c.tasks → ((i n : ℕ) → cost i n ≡ by_task i) → ((i : ℕ) → i < c.tasks → 1 ≤ by_task i) →

@@ -1,4 +1,3 @@
-mod Sums
 mod Units
 mod Busy
 mod Feasible
@@ -12,7 +11,6 @@ mod PieceLists
 mod Going
 mod OneRun
 mod Making
-mod Starts
 mod SomeRun
 mod FullUnits
 mod Misses

@@ -1,7 +1,7 @@
 -- How the units of a job rise, tick by tick.
-use Rattle.prl_base.proofs.Standard.{◌≡◌, ◌+◌, ◌≤◌, ℕ, zero, suc, Option, Some, None, true, false, ◌⊎◌, inl, inr, refl, sym, ap, ◌∙◌, arith, cases_lt, nat_tests}
+use Rattle.prl_base.proofs.Standard.{◌≡◌, ◌+◌, ◌≤◌, ℕ, zero, suc, Option, Some, None, ◌⊎◌, inl, inr, refl, sym, ap, ◌∙◌, arith, cases_lt, nat_tests}
 use Rattle.prl_plan.specs.Runs.{RunConstants}
-use Rattle.prl_edf.specs.Vocabulary.{is_within, cost_within, unit_of, units_before, IsTimedRun}
+use Rattle.prl_edf.specs.Vocabulary.{unit_of, units_before, IsTimedRun}
 
 pub unit_here : (i n : ℕ) → unit_of (Some (i, n)) i n ≡ 1
 unit_here i n = grind (arith, nat_tests)
@@ -69,23 +69,4 @@ module _ (c : RunConstants) (units : ℕ → ℕ → ℕ) (run : ℕ → Option 
   none_yet (suc t) h = elim (gets_or_not (run t) i n) [
     | inl gets ↦ absurd (let ready = timed.ready t i n gets in let released = ready.released in omega (arith, released, h))
     | inr without ↦ (let rest = none_yet t (omega (arith, h)) in omega (arith, rest, without))
-  ]
-
-module _ (c : RunConstants) (a b : ℕ) where
-  pub inside : (i n : ℕ) → a ≤ c.release i n → c.deadline i n ≤ b → is_within c a b i n ≡ true
-  inside i n late early = grind (arith, nat_tests)
-
-  pub inside_or_not : (i n : ℕ) → ((a ≤ c.release i n) × (c.deadline i n ≤ b) × (is_within c a b i n ≡ true)) ⊎ (is_within c a b i n ≡ false)
-  inside_or_not i n = grind (arith, nat_tests)
-
-  pub cost_inside : (f : ℕ → ℕ → ℕ) (i n : ℕ) → is_within c a b i n ≡ true → cost_within c f a b i n ≡ f i n
-  cost_inside f i n is = rw is refl
-
-  pub cost_outside : (f : ℕ → ℕ → ℕ) (i n : ℕ) → is_within c a b i n ≡ false → cost_within c f a b i n ≡ 0
-  cost_outside f i n is = rw is refl
-
-  pub cost_rises : (f g : ℕ → ℕ → ℕ) (i n : ℕ) → f i n ≤ g i n → cost_within c f a b i n ≤ cost_within c g a b i n
-  cost_rises f g i n h = elim (inside_or_not i n) [
-    | inl is ↦ (let e = cost_inside f i n is.2 in let d = cost_inside g i n is.2 in omega (arith, e, d, h))
-    | inr is ↦ (let e = cost_outside f i n is in omega (arith, e))
   ]

@@ -1,5 +1,3 @@
--- demand of intervals
-pub mod Demand
 -- timed runs, those by earliest deadline first, and the windows that they meet
 pub mod TimedRuns
 pub mod MetWindows

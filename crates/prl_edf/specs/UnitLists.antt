@@ -1,17 +1,11 @@
 -- Units as lists: by task, and by job.
 use Rattle.std.specs.Prelude.{◌≡◌, ◌<◌, ℕ, List, [], length, slice_index, slice_index_or}
-use Rattle.prl_plan.specs.Jobs.{task_at}
-use Rattle.prl_plan.specs.Plans.{PlanView}
 use Rattle.prl_plan.specs.Runs.{RunConstants}
 use Rattle.prl_edf.specs.TimedRuns.{AreUnits}
 
 -- the units of job n of task i
 abbrev pub units_of : List (List ℕ) → ℕ → ℕ → ℕ
 units_of lists i n = slice_index (slice_index_or lists i []) n
-
--- what a job of the plan costs
-abbrev pub wcets_of : PlanView → ℕ → ℕ → ℕ
-wcets_of plan i n = (task_at plan.graph i).wcet
 
 -- one list for each task, with one number for each horizon job, from 1 to what it costs
 pub record AreUnitLists (c : RunConstants) (cost : ℕ → ℕ → ℕ) (lists : List (List ℕ)) : Type 0 where

@@ -1,6 +1,6 @@
-//! Feasibility on one processor: the demand of intervals, timed runs by earliest deadline first,
-//! and whether the WCETs of a plan's jobs fit into their windows, with a run or an overloaded
-//! interval as the witness. It stands on plans, and on routes for the actions of jobs.
+//! Feasibility on one processor: timed runs by earliest deadline first, and whether the WCETs of a
+//! plan's jobs fit into their windows, with a run or an overloaded interval as the witness. It
+//! stands on plans, on the demand of intervals, and on routes for the actions of jobs.
 #![tactic(auto)]
 
 mod analysis;

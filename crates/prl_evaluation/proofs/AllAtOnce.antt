@@ -93,7 +93,7 @@ module _ (s : Setting) (given : IsSet s) (flows : List (List Value)) (x : FlowNo
         h.front j m there.0 there.1)
         ∙ sym (h.fixed x.0 flow found n (early n less))
 
-    pub set_under_way : UnderWay s (set flows x.0 xs) runs
+    set_under_way : UnderWay s (set flows x.0 xs) runs
     set_under_way = record {
       table = h.table;
       fixed = h.fixed;
@@ -122,7 +122,7 @@ module _ (s : Setting) (given : IsSet s) (flows : List (List Value)) (x : FlowNo
           (omega (arith, old.0, same), omega (arith, old.1, same));
     }
 
-    pub set_whole : AreWhole s flows → AreWhole s (set flows x.0 xs)
+    set_whole : AreWhole s flows → AreWhole s (set flows x.0 xs)
     set_whole whole j below = elim (cases_eq j x.0) [
       | inl same ↦
           let full : IsFull s (set flows x.0 xs) x.0 = ap length own ∙ size ∙ sym dates in
@@ -132,3 +132,6 @@ module _ (s : Setting) (given : IsSet s) (flows : List (List Value)) (x : FlowNo
         | inr none ↦ inr (ap length (other j apart) ∙ none)
       ]
     ]
+
+    pub set_both : AreWhole s flows → UnderWay s (set flows x.0 xs) runs × AreWhole s (set flows x.0 xs)
+    set_both whole = (set_under_way, set_whole whole)

@@ -1,6 +1,6 @@
 -- Groups of flows that are filled together, and what is left then.
 use Rattle.prl_base.proofs.Standard.{◌≡◌, ◌≢◌, ◌+◌, ◌<◌, ◌≤◌, inl, inr, ℕ, zero, suc, Bool, true, false, List, [], ◌∷◌, length, IfSome, Option, None, Some, slice_get, slice_index_or, refl, sym, ◌∙◌}
-use Rattle.prl_base.proofs.Standard.{ap, subst, arith, cond, not, cases_Bool, cases_eq, cases_order, eq-eqb, eqb-true, same_Some, slice_get_read, slice_get_within}
+use Rattle.prl_base.proofs.Standard.{ap, subst, arith, cond, not, cases_Bool, cases_eq, cases_order, eq-eqb, eqb-true, get_or_default, same_Some, slice_get_read, slice_get_within}
 use Rattle.std.specs.List.{filter}
 use Rattle.prl_base.specs.Clocks.{IsClock, date_at}
 use Rattle.prl_base.specs.declared.numbers.FlowNo.{FlowNo}
@@ -14,7 +14,7 @@ use Rattle.prl_flow.specs.declared.programs.Def.TheVariants as definitions
 use Rattle.prl_flow.proofs.ClockDates.{dates_before_number}
 use Rattle.prl_solutions.specs.Tables.{Reads}
 use Rattle.prl_solutions.proofs.Earlier.{reads_earlier}
-use Rattle.prl_evaluation.specs.Vocabulary.{AreAt, IsFull, IsRest, CanGrow, HasGrown, IsSet, UnderWay, len, AreWhole, IsFilling, IsGroup, Names, is_full, Run, Setting}
+use Rattle.prl_evaluation.specs.Vocabulary.{AreAt, IsFull, IsPlain, IsRest, CanGrow, HasGrown, IsSet, UnderWay, len, AreWhole, IsFilling, IsGroup, Names, is_full, Run, Setting}
 use Rattle.prl_evaluation.proofs.Orders.{order_once, order_within}
 
 -- what is read is used
@@ -27,6 +27,15 @@ names_of_reads p (definitions.Op op of) n j m reads = reads.0
 
 same_apply : (j o k out : ℕ) → definitions.Apply j o ≡ definitions.Apply k out → (j ≡ k) × (o ≡ out)
 same_apply j o k out e = (cc, cc)
+
+-- flow `i` has this definition
+abbrev IsDefined : FlatProgram → ℕ → Def → Type 0
+IsDefined p i def = (f : Flow) × (slice_get p.flows i ≡ Some f) × (f.def ≡ def)
+
+pub defined_so : (p : FlatProgram) (i : ℕ) → i < length p.flows → (flows : List Flow) → flows ≡ p.flows → (f : Flow) → f ≡ slice_index_or flows i f → (def : Def) → (slice_index_or flows i f).def ≡ def
+    → IsDefined p i def
+defined_so p i within flows same f read def is =
+    (f, slice_get_read p.flows (length p.flows) i f refl within (read ∙ ap (λ (fs : List Flow). slice_index_or fs i f) same), ap (λ (g : Flow). g.def) read ∙ is)
 
 module _ (s : Setting) (set : IsSet s) where
   pub clock_there : (i : ℕ) → i < length s.flat.now.flows → IsClock (clock_of s.clocks.now i)
@@ -141,32 +150,37 @@ module _ (s : Setting) (set : IsSet s) where
           ];
         }
 
+  -- the number of its dates
+  dates_read : (i number : ℕ) (flow : Flow) → slice_get s.flat.now.flows i ≡ Some flow → number ≡ dates_before s.until (slice_index_or s.clocks.now i (record { period = 0; start = 0 }))
+      → number ≡ dates_before s.until (clock_of s.clocks.now i)
+  dates_read i number flow found is =
+      is ∙ ap (dates_before s.until) (get_or_default s.clocks.now i _ _ (omega (arith, slice_get_within s.flat.now.flows i flow found, set.agree.count)))
+
   -- a flow that is no output, alone
-  pub group_alone : (i number : ℕ) (flow : Flow) (flows : List (List Value)) → slice_get s.flat.now.flows i ≡ Some flow → number ≡ dates_before s.until (clock_of s.clocks.now i)
-      → ((k out : ℕ) → flow.def ≡ definitions.Apply k out → ⊥) → ((j : ℕ) → Names s.flat.now flow.def j → IsFull s flows j)
-      → IsGroup s (record { 0 = i } ∷ []) number flows
-  group_alone i number flow flows found is plain full = record {
+  pub group_alone : (i number : ℕ) (def : Def) (flows : List (List Value)) → IsDefined s.flat.now i def → number ≡ dates_before s.until (slice_index_or s.clocks.now i (record { period = 0; start = 0 }))
+      → IsPlain def → ((j : ℕ) → Names s.flat.now def j → IsFull s flows j) → IsGroup s (record { 0 = i } ∷ []) number flows
+  group_alone i number def flows (flow, found, own) is plain full = record {
     within = λ b x at. subst (λ (z : FlowNo). z.0 < length s.flat.now.flows) (only b x at) (slice_get_within s.flat.now.flows i flow found);
-    dates = λ b x at. subst (λ (z : FlowNo). dates_before s.until (clock_of s.clocks.now z.0) ≡ number) (only b x at) (sym is);
-    uses = λ b j x g at there names. full j (subst (λ (h : Flow). Names s.flat.now h.def j) (same b x g at there) names);
-    outs = λ b k out o x f g app at there applies applied output. absurd (plain k out (ap (λ (h : Flow). h.def) (sym (same b x g at there)) ∙ applies));
+    dates = λ b x at. subst (λ (z : FlowNo). dates_before s.until (clock_of s.clocks.now z.0) ≡ number) (only b x at) (sym (dates_read i number flow found is));
+    uses = λ b j x g at there names. full j (subst (λ d. Names s.flat.now d j) (same b x g at there) names);
+    outs = λ b k out o x f g app at there applies applied output. absurd (subst IsPlain (sym (same b x g at there) ∙ applies) plain);
   }
     where
       only : (b : ℕ) (x : FlowNo) → slice_get (record { 0 = i } ∷ []) b ≡ Some x → record { 0 = i } ≡ x
       only zero x at = same_Some (record { 0 = i }) x at
       only (suc b) x at = absurd (cc)
 
-      same : (b : ℕ) (x : FlowNo) (g : Flow) → slice_get (record { 0 = i } ∷ []) b ≡ Some x → slice_get s.flat.now.flows x.0 ≡ Some g → g ≡ flow
-      same b x g at there = same_Some g flow (sym there ∙ ap (λ (z : FlowNo). slice_get s.flat.now.flows z.0) (sym (only b x at)) ∙ found)
+      same : (b : ℕ) (x : FlowNo) (g : Flow) → slice_get (record { 0 = i } ∷ []) b ≡ Some x → slice_get s.flat.now.flows x.0 ≡ Some g → g.def ≡ def
+      same b x g at there = ap (λ (h : Flow). h.def) (same_Some g flow (sym there ∙ ap (λ (z : FlowNo). slice_get s.flat.now.flows z.0) (sym (only b x at)) ∙ found)) ∙ own
 
   -- the outputs of an application
-  pub group_outs : (i number k out : ℕ) (flow : Flow) (app : App) (flows : List (List Value)) → slice_get s.flat.now.flows i ≡ Some flow → flow.def ≡ definitions.Apply k out
-      → slice_get s.flat.now.apps k ≡ Some app → number ≡ dates_before s.until (clock_of s.clocks.now i)
+  pub group_outs : (i number k out : ℕ) (app : App) (flows : List (List Value)) → IsDefined s.flat.now i (definitions.Apply k out) → slice_get s.flat.now.apps k ≡ Some app
+      → number ≡ dates_before s.until (slice_index_or s.clocks.now i (record { period = 0; start = 0 }))
       → ((j : ℕ) (arg : Arg) → slice_get app.args j ≡ Some arg → IsFull s flows arg.flow.0)
       → IsGroup s app.outs number flows
-  group_outs i number k out flow app flows found applies applied is full = record {
+  group_outs i number k out app flows (flow, found, applies) applied is full = record {
     within = λ b x at. let (g, there, defined) = (set.flat.apps k app applied).outs b x at in slice_get_within s.flat.now.flows x.0 g there;
-    dates = λ b x at. ap (dates_before s.until) ((set.agree.apps k app applied).outs b x at ∙ sym ((set.agree.apps k app applied).outs out (record { 0 = i }) own_out)) ∙ sym is;
+    dates = λ b x at. ap (dates_before s.until) ((set.agree.apps k app applied).outs b x at ∙ sym ((set.agree.apps k app applied).outs out (record { 0 = i }) own_out)) ∙ sym (dates_read i number flow found is);
     uses = λ b j x g at there names. argument_full j (subst (λ d. Names s.flat.now d j) (output_def b x g at there) names);
     outs = λ b l o_own o x f g a at there by applied_by output.
         let numbers = same_apply k b l o_own (sym (output_def b x g at there) ∙ by) in
@@ -307,9 +321,9 @@ module _ (s : Setting) (set : IsSet s) (flows : List (List Value)) (whole : AreW
   rest_few = let le = filter_shorter (is_left s flows) s.order.now in omega (arith, le, set.is_order.count)
 
 -- the application that a flow is an output of
-pub applied_app : (p : FlatProgram) → IsFlat p → (i k out : ℕ) (flow : Flow) → slice_get p.flows i ≡ Some flow → flow.def ≡ definitions.Apply k out → (apps : List App) → apps ≡ p.apps
+pub applied_app : (p : FlatProgram) → IsFlat p → (i k out : ℕ) → IsDefined p i (definitions.Apply k out) → (apps : List App) → apps ≡ p.apps
     → (app : App) → app ≡ slice_index_or apps k app → slice_get p.apps k ≡ Some app
-applied_app p flat i k out flow found applies apps same app read =
+applied_app p flat i k out (flow, found, applies) apps same app read =
     let (own, applied, output) = subst (IsWellDefined p i flow.ty) applies (flat.flows i flow found) in
     slice_get_read p.apps (length p.apps) k app refl (slice_get_within p.apps k own applied) (read ∙ ap (λ (us : List App). slice_index_or us k app) same)
 

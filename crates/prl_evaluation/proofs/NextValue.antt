@@ -64,28 +64,32 @@ module _ (s : Setting) (setting : IsSet s) (flows : List (List Value)) (runs : L
     args_own : args ≡ app.args
     args_own = args_is ∙ ap (λ (u : App). u.args) (sym app_read)
 
-    pub output_within : out < length (slice_index_or runs k run).outputs.items
+    output_within : out < length (slice_index_or runs k run).outputs.items
     output_within =
         subst (λ (r : Run). out < length r.outputs.items) run_read
         (grown.out_within s.flat.now setting.flat s.clocks.now setting.agree s.bodies.now s.sensors.now s.until flows runs h i flow found can.before ready k out applies_own setting.have app applied run there)
 
-    pub arguments : HaveArguments flows args n
+    arguments : HaveArguments flows args n
     arguments =
         subst (HaveArguments flows args) (sym n_is) (subst (λ (us : List Arg). HaveArguments flows us (len flows i)) (sym args_own)
         (grown.have_arguments s.flat.now setting.flat s.clocks.now setting.agree s.bodies.now s.sensors.now s.until flows runs h i flow found can.before ready k out applies_own app applied))
 
-    pub few : n < 2 ^ 63
+    few : n < 2 ^ 63
     few =
         let small = grown.few_instances s.flat.now setting.flat s.clocks.now setting.agree s.bodies.now s.sensors.now s.until flows runs h i flow found can.before ready k out applies_own setting.have app applied run there setting.early in
         omega (arith, small, n_is)
 
-    pub may_step : (slice_index_or runs k run).steps ≡ n → MayStep (slice_index_or runs k run) args (inputs_of (table_of flows) args n)
+    may_step : (slice_index_or runs k run).steps ≡ n → MayStep (slice_index_or runs k run) args (inputs_of (table_of flows) args n)
     may_step same =
         let steps : run.steps ≡ len flows i = ap (λ (r : Run). r.steps) run_read ∙ same ∙ n_is in
         let may = grown.may_step s.flat.now setting.flat s.clocks.now setting.agree s.bodies.now s.sensors.now s.until flows runs h i flow found can.before ready k out applies_own setting.have app applied run there setting.early steps in
         subst (λ (r : Run). MayStep r args (inputs_of (table_of flows) args n)) run_read
         (subst (λ (us : List Arg). MayStep run us (inputs_of (table_of flows) us n)) (sym args_own)
         (subst (λ t. MayStep run app.args (inputs_of (table_of flows) app.args t)) (sym n_is) may))
+
+    pub output_ready : (out < length (slice_index_or runs k run).outputs.items) × HaveArguments flows args n × (n < 2 ^ 63)
+        × ((slice_index_or runs k run).steps ≡ n → MayStep (slice_index_or runs k run) args (inputs_of (table_of flows) args n))
+    output_ready = (output_within, arguments, few, may_step)
 
     pub output_grows : (new : Run) (x : Value)
         → ((slice_index_or runs k run).steps ≡ n → HasStepped (slice_index_or runs k run) new (inputs_of (table_of flows) args n))

@@ -187,10 +187,12 @@ fn fill_ready<'a>(
     let number = dates_before(setting.until, setting.clocks[flow.0 as usize]) as usize;
     let def = setting.flat.flows()[flow.0 as usize].def;
     match def {
-        Def::Sensor(_) => fill_alone(alloc, setting, flow, def, number, flows, runs),
-        Def::Const(_) => fill_alone(alloc, setting, flow, def, number, flows, runs),
-        Def::Copy(of) => fill_after(alloc, setting, of, flow, def, number, flows, runs),
-        Def::Op { of, .. } => fill_after(alloc, setting, of, flow, def, number, flows, runs),
+        Def::Sensor(_) | Def::Const(_) => {
+            fill_alone(alloc, setting, flow, def, number, flows, runs)
+        }
+        Def::Copy(of) | Def::Op { of, .. } => {
+            fill_after(alloc, setting, of, flow, def, number, flows, runs)
+        }
         Def::Apply { app, .. } => {
             let app = &setting.flat.apps()[app as usize];
             fill_outputs(setting, app, number, flows, runs)

@@ -24,7 +24,7 @@ use Rattle.prl_stages.specs.declared.ran.Ran.TheVariants as runs
 use Rattle.prl_schedules.specs.Vocabulary.{text_of_reads, schedule_of, task_names}
 use Rattle.prl_track.specs.declared.seen.Seen.{Seen}
 use Rattle.prl_tables.specs.Vocabulary.{IsGood, entries_of}
-use Rattle.prl_tables.specs.declared.tables.Entry.{Entry}
+use Rattle.prl_overlaps.specs.declared.entries.Entry.{Entry}
 use Rattle.prl_executions.specs.declared.ready.Ready.{Ready}
 use Rattle.prl_executions.specs.Ready.{IsReady, IsTextOf, ready_of}
 

@@ -10,7 +10,7 @@ use Rattle.prl_stages.specs.declared.stages.Stage.TheVariants as stages
 use Rattle.prl_stages.specs.declared.stages.Stop.TheVariants as stops
 use Rattle.prl_tables.specs.TableTexts.{after_line, entries_from, entries_of, is_header, next_entry, no_more, or_line, tells_hyper}
 use Rattle.prl_tables.specs.declared.reading.TableFault.{TableFault}
-use Rattle.prl_tables.specs.declared.tables.Entry.{Entry}
+use Rattle.prl_overlaps.specs.declared.entries.Entry.{Entry}
 use Rattle.prl_tables.specs.declared.reading.TableFault.TheVariants as checking
 use Rattle.prl_executions.specs.code.Faults.{AreOfTask}
 use Rattle.prl_calls.specs.Stops.{StopsAt}

@@ -7,7 +7,7 @@ use Rattle.prl_plan.specs.declared.graphs.TaskGraph.{TaskGraph}
 use Rattle.prl_clashes.specs.declared.clashes.Clash.{Clash}
 use Rattle.prl_clashes.specs.ClashTexts.{clash_text}
 use Rattle.prl_clashes.specs.ClockWays.{IsClash}
-use Rattle.prl_counts.specs.Counted.{IsCounted}
+use Rattle.prl_spots.specs.Counted.{IsCounted}
 use Rattle.prl_ways.specs.declared.chains.Chain.{Chain}
 use Rattle.prl_ways.specs.declared.rounds.Round.{Round}
 use Rattle.prl_ways.specs.Chains.{IsChainTo, IsCircle}

@@ -3,7 +3,7 @@ use Rattle.std.specs.Prelude.{◌≡◌, ◌++◌, ℕ, Bool, false, List, [], �
 use Rattle.std.specs.Bool.{OnFalse}
 use Rattle.std.specs.Str.{bytes_eq}
 use Rattle.prl_base.specs.Decimals.{decimal_of}
-use Rattle.prl_counts.specs.Counted.{IsCounted}
+use Rattle.prl_spots.specs.Counted.{IsCounted}
 use Rattle.prl_io.specs.Views.{FolderView, SinkView}
 use Rattle.prl_companions.specs.declared.endings.Stop.{Stop}
 use Rattle.prl_companions.specs.declared.endings.Stop.TheVariants as stops

@@ -22,7 +22,8 @@ use Rattle.prl_graph.specs.Vocabulary.{InputPort, ports_of, task_count, IsGraphF
 use Rattle.prl_graph.specs.Vocabulary.{node_task, sensor, node, actuator}
 use Rattle.prl_graph.specs.declared.faults.GraphFault.TheVariants as faults
 use Rattle.prl_graph.specs.Edges as ways
-use Rattle.prl_graph.proofs.Multiples.{divides_both, take_get, to_dvd}
+use Rattle.prl_graph.proofs.Multiples.{take_get}
+use Rattle.prl_numbers.proofs.LeastMultiples.{divides_both, to_dvd}
 use Rattle.prl_graph.proofs.TaskFacts.{actuator_found, node_found, sensor_found}
 use Rattle.prl_graph.proofs.Ways.{same_flow}
 

@@ -18,13 +18,15 @@ use Rattle.prl_plan.specs.declared.graphs.Producer.TheVariants as producers
 use Rattle.prl_graph.specs.Vocabulary.{GraphFault, AllowsDue, AreDuesAllowed, BindsApplication, CopiesOutput, NotesDue, input, output, copy, AreEdges, IsEdgeOf, LeadsBack, IsHyperperiod}
 use Rattle.prl_graph.specs.Vocabulary.{IsPastHyperperiod, InputPort, actuator_no, node_no, ports_of, sensor_no, task_count, HasDues, IsGraphFault, IsGraphOf, IsOfProgram, jobs_within, told, AreTasks}
 use Rattle.prl_graph.specs.Vocabulary.{IsTaskOf, actuator_task, application_clock, node_task, sensor, node, actuator, sensor_task, IsLabelOf, IsLeastOfFirst, IsMisplaced, IsPlaced, IsRanged}
-use Rattle.prl_graph.specs.Vocabulary.{IsUnranged, IsLeastMultiple, HasProducer, StepsBack}
+use Rattle.prl_graph.specs.Vocabulary.{IsUnranged, HasProducer, StepsBack}
+use Rattle.prl_numbers.specs.Multiples.{IsLeastMultiple}
 use Rattle.prl_graph.specs.declared.faults.GraphFault.TheVariants as faults
 use Rattle.prl_graph.specs.code.Steps as steps
 use Rattle.prl_graph.proofs.DueFacts.{all_placed, all_ranged, no_due, non_task, nowhere_allowed, of_noted, one_copied, out_of_range}
 use Rattle.prl_graph.proofs.LeastDues.{least_more, least_of_all}
 use Rattle.prl_graph.proofs.Lists.{equal_or_not, push_cases}
-use Rattle.prl_graph.proofs.Multiples.{hyper_all, hyper_more, hyper_none, least_multiple_is, past_hyper}
+use Rattle.prl_graph.proofs.Multiples.{hyper_all, hyper_more, hyper_none, past_hyper}
+use Rattle.prl_numbers.proofs.LeastMultiples.{least_multiple_is}
 use Rattle.prl_graph.proofs.Ports.{port_within}
 use Rattle.prl_graph.proofs.Walks.{copied_within, few_steps, one_copy, one_operator, operand_within, produced_by, way_of}
 use Rattle.prl_graph.proofs.Ways.{same_flow}

@@ -20,7 +20,7 @@ pub use Rattle.prl_graph.specs.code.Made.{MakesNode, MakesSensor}
 pub use Rattle.prl_graph.specs.code.Marks.{AreLeastDues, HasClock, IsBinding, IsLabelOf}
 pub use Rattle.prl_graph.specs.code.Marks.{IsLeastOfFirst, IsMarked, IsMisplaced, IsPlaced}
 pub use Rattle.prl_graph.specs.code.Marks.{IsRanged, IsUnranged}
-pub use Rattle.prl_graph.specs.code.Multiples.{HaveSmallPeriods, IsLeastMultiple}
+pub use Rattle.prl_graph.specs.code.Multiples.{HaveSmallPeriods}
 pub use Rattle.prl_graph.specs.code.Steps.{AddsEdges, AreArgumentsOf, EndsAt, GivesValues}
 pub use Rattle.prl_graph.specs.code.Steps.{HasProducer, StepsBack}
 pub use Rattle.prl_graph.specs.declared.faults.GraphFault.{GraphFault}

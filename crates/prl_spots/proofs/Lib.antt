@@ -1,2 +1,3 @@
 mod Here
 mod Two
+mod Named

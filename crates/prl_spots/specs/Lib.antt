@@ -8,3 +8,5 @@ pub mod Spots
 pub mod Twice
 -- what stands where something else has to
 pub mod Unexpected
+-- how many inputs and outputs a node declares
+pub mod Counted

@@ -17,7 +17,7 @@ use Rattle.prl_table.specs.declared.making.MakeFault.{MakeFault}
 use Rattle.prl_table.specs.declared.making.MakeFault.TheVariants as making
 use Rattle.prl_tables.specs.Vocabulary.{IsFault, IsGood, entries_of}
 use Rattle.prl_tables.specs.declared.reading.TableFault.{TableFault}
-use Rattle.prl_tables.specs.declared.tables.Entry.{Entry}
+use Rattle.prl_overlaps.specs.declared.entries.Entry.{Entry}
 use Rattle.prl_tables.specs.declared.reading.TableFault.TheVariants as checking
 use Rattle.prl_stages.specs.declared.faults.CoresRefusal.TheVariants as bad_cores
 use Rattle.prl_stages.specs.declared.faults.Fault.TheVariants as faults

@@ -4,7 +4,7 @@ use Rattle.prl_plan.specs.Plans.{PlanView, IsPlan}
 use Rattle.prl_plan.specs.declared.graphs.TaskGraph.{TaskGraph}
 use Rattle.prl_tables.specs.Vocabulary.{IsFault, IsGood, entries_of}
 use Rattle.prl_tables.specs.declared.reading.TableFault.{TableFault}
-use Rattle.prl_tables.specs.declared.tables.Entry.{Entry}
+use Rattle.prl_overlaps.specs.declared.entries.Entry.{Entry}
 use Rattle.prl_tables.specs.declared.reading.TableFault.TheVariants as checking
 use Rattle.prl_table.specs.MakeFaults.{IsMade, IsMakeFault}
 use Rattle.prl_table.specs.declared.making.MakeFault.{MakeFault}

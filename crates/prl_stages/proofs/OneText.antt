@@ -18,7 +18,7 @@ use Rattle.prl_rule.specs.declared.views.Gate.{Gate}
 use Rattle.prl_schedules.specs.Vocabulary.{IsDispatched, text_of_reads, schedule_of, task_names, text_of_events}
 use Rattle.prl_table.specs.MakeFaults.{IsMade}
 use Rattle.prl_tables.specs.TableTexts.{text_of as table_text}
-use Rattle.prl_tables.specs.declared.tables.Entry.{Entry}
+use Rattle.prl_overlaps.specs.declared.entries.Entry.{Entry}
 use Rattle.prl_track.specs.declared.seen.Seen.{Seen}
 use Rattle.prl_stages.specs.declared.faults.InputFile.TheVariants as parts
 use Rattle.prl_stages.specs.Vocabulary.{IsEdfText, HasClocks, Given, text_of, HasPlacement, IsCoresText, Lists, HasPlan, accepted_line, IsCycleText, IsRunText, IsSummary, sum_of, summary_line}

@@ -25,7 +25,7 @@ use Rattle.prl_rule.specs.declared.views.Gate.TheVariants as gates
 use Rattle.prl_schedules.specs.Vocabulary.{IsDispatched, text_of_reads, schedule_of, task_names}
 use Rattle.prl_replay.specs.Replays.{AreFlowsBelow, IsTrace, after_all}
 use Rattle.prl_replay.proofs.Ends.{ended_all, flows_up_to}
-use Rattle.prl_tables.specs.declared.tables.Entry.{Entry}
+use Rattle.prl_overlaps.specs.declared.entries.Entry.{Entry}
 use Rattle.prl_values.specs.Vocabulary.{HaveTaskBodies, HaveTypedRows, job_values}
 use Rattle.prl_stages.specs.declared.faults.InputFile.TheVariants as parts
 use Rattle.prl_stages.specs.Vocabulary.{Given, text_of, IsFlattened, AreBodies, IsMain, HasGraph, HasPlan, IsCoresText, IsPlacedRun, HasRun, IsCycleText, IsRunOf, IsRunText, IsSummary, sum_of}

@@ -43,7 +43,7 @@ use Rattle.prl_stages.specs.Vocabulary.{IsReplayText, ReadFlows, HasRows, meant_
 use Rattle.prl_stages.specs.declared.ran.Ran.{Ran}
 use Rattle.prl_stages.specs.declared.ran.Ran.TheVariants as runs
 use Rattle.prl_behaviours.specs.Behaviours.{Satisfies, state_in}
-use Rattle.prl_tables.specs.declared.tables.Entry.{Entry}
+use Rattle.prl_overlaps.specs.declared.entries.Entry.{Entry}
 use Rattle.prl_stages.proofs.Inputs.{enough_rows, typed_rows}
 use Rattle.prl_stages.proofs.Meaning as meaning
 use Rattle.prl_stages.proofs.SmallClocks.{small_clocks}

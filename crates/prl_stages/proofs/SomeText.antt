@@ -13,7 +13,7 @@ use Rattle.prl_plantext.specs.PlanTexts.{plan_text}
 use Rattle.prl_print.specs.Printing.{printed}
 use Rattle.prl_table.specs.Made.{IsSteadyRun, cut_from, cut_to, run_until}
 use Rattle.prl_tables.specs.Vocabulary.{IsGood, text_of as table_text}
-use Rattle.prl_tables.specs.declared.tables.Entry.{Entry}
+use Rattle.prl_overlaps.specs.declared.entries.Entry.{Entry}
 use Rattle.prl_rule.specs.declared.views.Gate.{Gate}
 use Rattle.prl_stages.specs.Vocabulary.{Stage, Given, AreBodies, HasPlan, accepted_line, meant_flows, HasHorizon, IsScheduleText, Comes, Holds, IsText, front, graphed, planned, stages_after}
 use Rattle.prl_stages.specs.Vocabulary.{IsCycleText, IsRunText, IsSummary, HasMadeTable, HasTable, PartLaws, WholeLaws}

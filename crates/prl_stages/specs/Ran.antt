@@ -34,7 +34,7 @@ use Rattle.prl_stages.specs.Replayed.{Execution}
 use Rattle.prl_stages.specs.Runs.{meant_flows}
 use Rattle.prl_stages.specs.Stages.{IsText}
 use Rattle.prl_stages.specs.Tabled.{HasTable}
-use Rattle.prl_tables.specs.declared.tables.Entry.{Entry}
+use Rattle.prl_overlaps.specs.declared.entries.Entry.{Entry}
 use Rattle.prl_tables.specs.Tables.{last_unit}
 use Rattle.prl_tables.specs.Unrolled.{unrolled}
 

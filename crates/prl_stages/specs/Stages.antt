@@ -36,7 +36,7 @@ use Rattle.prl_stages.specs.Replayed.{IsReplayText, IsWholeRun, RefusesSchedule}
 use Rattle.prl_stages.specs.Runs.{HasRows, HasFewValues, IsFlowsText, RefusesRows, RefusesValues}
 use Rattle.prl_stages.specs.Scheduled.{HasHorizon, IsScheduleText, RefusesHorizon}
 use Rattle.prl_stages.specs.Tabled.{HasMadeTable, HasTable, IsTableText, RefusesMade, RefusesTable}
-use Rattle.prl_tables.specs.declared.tables.Entry.{Entry}
+use Rattle.prl_overlaps.specs.declared.entries.Entry.{Entry}
 
 -- a stage finds what it looks for
 abbrev pub Holds : Given → Stage → Type 0

@@ -5,7 +5,7 @@ use Rattle.prl_plan.specs.Jobs.{task_at}
 use Rattle.prl_plan.specs.Plans.{PlanView}
 use Rattle.prl_tables.specs.declared.reading.TableFault.{TableFault}
 use Rattle.prl_tables.specs.declared.reading.TableFault.TheVariants as checking
-use Rattle.prl_tables.specs.declared.tables.Entry.{Entry}
+use Rattle.prl_overlaps.specs.declared.entries.Entry.{Entry}
 use Rattle.prl_tables.specs.Checks.{IsFault}
 use Rattle.prl_tables.specs.Tables.{IsGood}
 use Rattle.prl_tables.specs.TableTexts.{entries_of, text_of as table_text}

@@ -3,7 +3,7 @@ use Rattle.prl_base.proofs.Standard.{◌≡◌, ◌≢◌, ◌==◌, ◌+◌, �
 use Rattle.prl_base.proofs.Standard.{sym, ◌∙◌, ap, subst, arith, slice_get, mul-le-mul_right, cases_eq, cases_lt, nat_tests}
 use Rattle.prl_plan.specs.Vocabulary.{sum_below, PlanView, IsPlan, release_at}
 use Rattle.prl_tables.specs.Tables.{classes, is_of, units_of}
-use Rattle.prl_tables.specs.declared.tables.Entry.{Entry}
+use Rattle.prl_overlaps.specs.declared.entries.Entry.{Entry}
 use Rattle.prl_table.specs.Vocabulary.{cut_to, goes, is_job, is_same, last_of, lengthened, longer, unit_at, units_in, with_tick, IsCut, IsCutFrom, IsRun, HaveAtMost}
 use Rattle.prl_table.proofs.MadeTables.{sum_none, sum_one}
 use Rattle.prl_tables.proofs.Ordering.{one_division}

@@ -8,7 +8,7 @@ use Rattle.prl_plan.specs.declared.graphs.Task.{Task}
 use Rattle.prl_plan.specs.declared.horizons.Horizon.{Horizon}
 use Rattle.prl_edf.specs.Vocabulary.{IsEdfRun, wcets_of}
 use Rattle.prl_tables.specs.Vocabulary.{comes_after, AreOrdered, classes, IsGood}
-use Rattle.prl_tables.specs.declared.tables.Entry.{Entry}
+use Rattle.prl_overlaps.specs.declared.entries.Entry.{Entry}
 use Rattle.prl_tables.proofs.OrderLaws.{release_later}
 use Rattle.prl_tables.proofs.Shifts.{split}
 use Rattle.prl_table.specs.Vocabulary.{greatest_start, AreOfPlan, HasTicks}

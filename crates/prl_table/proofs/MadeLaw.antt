@@ -8,13 +8,13 @@ use Rattle.prl_plan.proofs.DatePeriods.{jobs_are}
 use Rattle.prl_plan.proofs.RoundPeriods.{task_is}
 use Rattle.prl_edf.specs.Vocabulary.{IsEdfRun, MeetsAllWindows, wcets_of}
 use Rattle.prl_tables.specs.Tables.{classes, is_of, units_of, IsGood}
-use Rattle.prl_tables.specs.declared.tables.Entry.{Entry}
+use Rattle.prl_overlaps.specs.declared.entries.Entry.{Entry}
 use Rattle.prl_table.specs.Made.{Run, cut_from, cut_to, goes, greatest_start, hypers_before, later, run_until, IsCut, IsCutFrom, IsRun}
 use Rattle.prl_table.proofs.Cuts.{cut_is}
 use Rattle.prl_table.proofs.Edf.{edf_is_run}
 use Rattle.prl_table.proofs.MadeRuns.{earliest, start_below, steady, timed}
 use Rattle.prl_table.proofs.MadeTables.{made_is_good}
-use Rattle.prl_tables.proofs.Swaps.{at_place, one_place}
+use Rattle.prl_overlaps.proofs.Swaps.{at_place, one_place}
 
 no_entry : Entry
 no_entry = record { at = 0; task = record { 0 = 0 }; job = 0; units = 0 }

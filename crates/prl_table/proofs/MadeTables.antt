@@ -6,8 +6,9 @@ use Rattle.prl_plan.specs.Vocabulary.{ComesFrom, Precedes}
 use Rattle.prl_plan.proofs.DatePeriods.{jobs_are, least_repeat, greatest_repeat}
 use Rattle.prl_plan.proofs.Periods.{plus_mul}
 use Rattle.prl_plan.proofs.RoundPeriods.{task_is}
-use Rattle.prl_tables.specs.Tables.{classes, Overlap, IsGood}
-use Rattle.prl_tables.specs.declared.tables.Entry.{Entry}
+use Rattle.prl_overlaps.specs.Overlaps.{Overlap}
+use Rattle.prl_tables.specs.Tables.{classes, IsGood}
+use Rattle.prl_overlaps.specs.declared.entries.Entry.{Entry}
 use Rattle.prl_table.specs.Made.{Run, units_in, IsRun, IsSteady, IsCutFrom, IsCut}
 use Rattle.prl_table.proofs.Units.{units_none, units_join, units_same}
 use Rattle.prl_tables.proofs.Shifts.{shifted, preceding_shifted, some_classes}

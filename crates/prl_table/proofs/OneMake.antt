@@ -8,7 +8,7 @@ use Rattle.prl_edf.specs.declared.runs.Timed.{Timed}
 use Rattle.prl_edf.specs.declared.analysis.Verdict.TheVariants as verdicts
 use Rattle.prl_plan.specs.Vocabulary.{HasPlanFacts, IsHorizon, IsPastLimit, constants_of, PlanView, IsPlan, RunConstants}
 use Rattle.prl_plan.specs.declared.horizons.Horizon.{Horizon}
-use Rattle.prl_tables.specs.declared.tables.Entry.{Entry}
+use Rattle.prl_overlaps.specs.declared.entries.Entry.{Entry}
 use Rattle.prl_table.specs.Vocabulary.{MakeFault, run_until, IsFirstUnsteady, IsLongRun, IsMade, IsMakeFault, IsUnsteadyAt, job_in}
 use Rattle.prl_table.specs.declared.making.MakeFault.TheVariants as faults
 

@@ -6,7 +6,7 @@ use Rattle.prl_edf.specs.declared.runs.Timed.{Timed}
 use Rattle.prl_plan.specs.Vocabulary.{constants_of, PlanView, IsPlan}
 use Rattle.prl_plan.specs.declared.horizons.Horizon.{Horizon}
 use Rattle.prl_tables.specs.Vocabulary.{IsGood, AreOrdered, comes_after}
-use Rattle.prl_tables.specs.declared.tables.Entry.{Entry}
+use Rattle.prl_overlaps.specs.declared.entries.Entry.{Entry}
 use Rattle.prl_table.specs.Vocabulary.{IsSteadyRun, cut_from, cut_to, run_until, IsMade}
 use Rattle.prl_table.proofs.OneMake.{Laws, one_run}
 

@@ -13,7 +13,7 @@ use Rattle.prl_plan.specs.declared.horizons.Horizon.{Horizon}
 use Rattle.prl_plan.proofs.RoundPeriods.{task_is}
 use Rattle.prl_plan.proofs.Searches.{all_or_least}
 use Rattle.prl_tables.specs.TableTexts.{AreOrdered, comes_after, keeps_order}
-use Rattle.prl_tables.specs.declared.tables.Entry.{Entry}
+use Rattle.prl_overlaps.specs.declared.entries.Entry.{Entry}
 use Rattle.prl_table.specs.Vocabulary.{MakeFault, cut_from, cut_to, later, run_until, IsSteadyRun, IsLongRun, IsMade, IsMakeFault, IsUnsteadyAt, job_in}
 use Rattle.prl_table.specs.declared.making.MakeFault.TheVariants as faults
 

@@ -6,7 +6,7 @@ use Rattle.prl_plan.specs.declared.graphs.TaskGraph.{TaskGraph}
 use Rattle.prl_plan.specs.Horizons.{sum_below}
 use Rattle.prl_plan.specs.Jobs.{task_at, IsHorizonJob}
 use Rattle.prl_plan.specs.Plans.{PlanView, release_at, deadline_at}
-use Rattle.prl_tables.specs.declared.tables.Entry.{Entry}
+use Rattle.prl_overlaps.specs.declared.entries.Entry.{Entry}
 use Rattle.prl_tables.specs.Tables.{classes, units_of}
 
 -- by tick, task and job: the tick goes to the job

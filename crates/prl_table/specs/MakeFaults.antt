@@ -9,11 +9,11 @@ use Rattle.prl_edf.specs.declared.analysis.Verdict.TheVariants as verdicts
 use Rattle.prl_edf.specs.declared.runs.Timed.{Timed}
 use Rattle.prl_edf.specs.Outcomes.{IsFeasibleRun}
 use Rattle.prl_edf.specs.Pieces.{run_of}
-use Rattle.prl_edf.specs.UnitLists.{wcets_of}
+use Rattle.prl_demand.specs.Demand.{wcets_of}
 use Rattle.prl_edf.specs.Verdicts.{IsVerdict}
 use Rattle.prl_table.specs.declared.making.MakeFault.{MakeFault}
 use Rattle.prl_table.specs.declared.making.MakeFault.TheVariants as faults
-use Rattle.prl_tables.specs.declared.tables.Entry.{Entry}
+use Rattle.prl_overlaps.specs.declared.entries.Entry.{Entry}
 use Rattle.prl_table.specs.Made.{cut_from, cut_to, later, run_until, IsSteadyRun}
 use Rattle.prl_tables.specs.TableTexts.{AreOrdered}
 

@@ -7,7 +7,7 @@ ghost use Rattle.prl_plan.specs.Vocabulary.{release_at};
 ghost use Rattle.prl_plan.specs.declared.horizons.Horizon.{Horizon};
 ghost use Rattle.prl_edf.specs.Vocabulary.{IsEdfRun, MeetsAllWindows, wcets_of};
 ghost use Rattle.prl_tables.specs.Tables.{classes, IsGood};
-ghost use Rattle.prl_tables.specs.declared.tables.Entry.{Entry as AnyEntry};
+ghost use Rattle.prl_overlaps.specs.declared.entries.Entry.{Entry as AnyEntry};
 ghost use Rattle.prl_table.specs.declared.making.MakeFault.{MakeFault as AnyFault};
 ghost use Rattle.prl_table.specs.declared.making.MakeFault.TheVariants as faults;
 ghost use Rattle.prl_table.specs.MakeFaults.{IsMade, IsMakeFault};

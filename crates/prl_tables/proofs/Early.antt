@@ -1,9 +1,9 @@
 -- Classes are released early, and pieces are short.
-use Rattle.prl_base.proofs.Standard.{◌≡◌, ◌+◌, ◌*◌, ◌<◌, ◌≤◌, ◌^◌, ℕ, length, arith, pos, ◌≤ℤ◌, pos-*ℤ-pos, mul-le-mul_right, ints}
+use Rattle.prl_base.proofs.Standard.{◌≡◌, ◌+◌, ◌*◌, ◌<◌, ◌≤◌, ◌^◌, ℕ, List, length, arith, pos, ◌≤ℤ◌, pos-*ℤ-pos, mul-le-mul_right, ints}
 use Rattle.prl_plan.specs.Vocabulary.{encoded_deadline, task_at, deadline_of, IsHorizonJob, PlanView, IsPlan, release_at, deadline_at}
 use Rattle.prl_plan.proofs.DatePeriods.{jobs_are}
 use Rattle.prl_plan.proofs.RoundPeriods.{task_is}
-use Rattle.prl_tables.specs.Vocabulary.{Entry, classes, IsPiece}
+use Rattle.prl_tables.specs.Vocabulary.{AreShort, Entry, classes, IsPiece, ArePieces}
 use Rattle.prl_tables.proofs.Shifts.{some_classes}
 
 pub class_is_early : (plan : PlanView) → IsPlan plan → (i c : ℕ) → i < length plan.graph.tasks → c < classes plan.graph i →
@@ -37,3 +37,10 @@ piece_is_short plan is entry piece =
 
 pub some_period : (plan : PlanView) → IsPlan plan → (i : ℕ) → i < length plan.graph.tasks → 1 ≤ (task_at plan.graph i).clock.period
 some_period plan is i inside = (task_is plan.graph is.graph i inside).period.0
+
+pub pieces_short : (plan : PlanView) → IsPlan plan → (entries : List Entry) → ArePieces plan entries →
+    ((entry : Entry) → IsPiece plan entry → entry.units ≤ plan.graph.hyper) → AreShort plan.graph.hyper entries
+pieces_short plan is entries pieces long k entry at = record {
+  long = (is.graph.hyper, (let few = is.graph.few_ticks in omega (arith, few)));
+  units = ((pieces k entry at).units, long entry (pieces k entry at));
+}

@@ -13,7 +13,8 @@ use Rattle.prl_plan.proofs.Searches.{IsLeastSuch, all_or_least}
 use Rattle.prl_tables.specs.Vocabulary.{TableFault, Entry, AreApart, IsEarlier, IsFault, classes, units_of, IsPiece, ArePieces, IsWhole, AreWhole, KeepsOrder, IsGood, next_entry, or_line, no_more}
 use Rattle.prl_tables.specs.Vocabulary.{entries_from, after_line, is_header, tells_hyper, entries_of, spot_of, Meet, Meets, AreShort, sums_of, IsBefore}
 use Rattle.prl_tables.specs.declared.reading.TableFault.TheVariants as faults
-use Rattle.prl_tables.proofs.Spotted.{meet_of_clash, clash_of_meet, turned, pieces_short}
+use Rattle.prl_overlaps.proofs.Spotted.{meet_of_clash, clash_of_meet, turned}
+use Rattle.prl_tables.proofs.Early.{pieces_short}
 
 -- a table, or a fault of the text
 abbrev IsTold : {A : Type 0} → Result A TableFault → Type 0

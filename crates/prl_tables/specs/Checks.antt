@@ -1,10 +1,12 @@
 -- Why a table is not good. Entry k stands in line k + 3 of its text.
-use Rattle.std.specs.Prelude.{◌≡◌, ◌+◌, ◌<◌, ◌≤◌, ◌⊎◌, ℕ, List, Some, length, slice_get}
+use Rattle.std.specs.Prelude.{◌≡◌, ◌+◌, ◌<◌, ◌⊎◌, ℕ, List, Some, length, slice_get}
 use Rattle.prl_plan.specs.Plans.{PlanView, edge_at}
+use Rattle.prl_overlaps.specs.FirstClashes.{IsFirstClash}
+use Rattle.prl_overlaps.specs.Overlaps.{AreApart}
+use Rattle.prl_overlaps.specs.declared.entries.Entry.{Entry}
 use Rattle.prl_tables.specs.declared.reading.TableFault.{TableFault}
 use Rattle.prl_tables.specs.declared.reading.TableFault.TheVariants as faults
-use Rattle.prl_tables.specs.declared.tables.Entry.{Entry}
-use Rattle.prl_tables.specs.Tables.{classes, Clash, IsPiece, ArePieces, IsWhole, AreWhole, KeepsOrder}
+use Rattle.prl_tables.specs.Tables.{classes, IsPiece, ArePieces, IsWhole, AreWhole, KeepsOrder}
 
 -- the line's entry is no piece of its job, and those before it are
 pub record IsFirstNoPiece (plan : PlanView) (entries : List Entry) (line : ℕ) : Type 0 where
@@ -26,16 +28,6 @@ pub record IsFirstNotWhole (plan : PlanView) (entries : List Entry) (i c : ℕ) 
   pub not_whole : IsWhole plan entries i c → ⊥
   pub before : (j d : ℕ) → j < length plan.graph.tasks → d < classes plan.graph j → IsEarlier j d i c → IsWhole plan entries j d
 
--- these lines clash, the lower one first; no pair with a lower first line does, and none with this one and a lower second line
-pub record IsFirstClash (hyper : ℕ) (entries : List Entry) (first second : ℕ) : Type 0 where
-  pub k : ℕ
-  pub l : ℕ
-  pub first_line : first ≡ k + 3
-  pub second_line : second ≡ l + 3
-  pub ordered : k ≤ l
-  pub clash : Clash hyper entries k l
-  pub least : (m n : ℕ) → m ≤ n → Clash hyper entries m n → (k ≤ m) × (m ≡ k → l ≤ n)
-
 -- on the edge the class of the consumer does not keep the order, and what comes before does
 pub record IsFirstDisorder (plan : PlanView) (entries : List Entry) (e c : ℕ) : Type 0 where
   pub edge : e < length plan.graph.edges
@@ -43,9 +35,6 @@ pub record IsFirstDisorder (plan : PlanView) (entries : List Entry) (e c : ℕ) 
   pub disorder : KeepsOrder plan entries e c → ⊥
   pub before : (f d : ℕ) → f < length plan.graph.edges → d < classes plan.graph (edge_at plan.graph f).to.0 → IsEarlier f d e c →
       KeepsOrder plan entries f d
-
-abbrev pub AreApart : ℕ → List Entry → Type 0
-AreApart hyper entries = (k l : ℕ) → Clash hyper entries k l → ⊥
 
 -- what a check of a table of the plan tells, each where what comes before it holds; want of memory is free
 abbrev pub IsFault : PlanView → List Entry → TableFault → Type 0

@@ -10,7 +10,7 @@ use Rattle.prl_base.specs.Lines.{lines_of}
 use Rattle.prl_base.specs.Reading.{◌>>=◌}
 use Rattle.prl_tables.specs.declared.reading.TableFault.{TableFault}
 use Rattle.prl_tables.specs.declared.reading.TableFault.TheVariants as faults
-use Rattle.prl_tables.specs.declared.tables.Entry.{Entry}
+use Rattle.prl_overlaps.specs.declared.entries.Entry.{Entry}
 
 -- the line of an entry, without its end
 abbrev pub entry_line : Entry → List ℕ

@@ -4,7 +4,8 @@ use Rattle.prl_plan.specs.declared.graphs.TaskGraph.{TaskGraph}
 use Rattle.prl_plan.specs.Jobs.{task_at}
 use Rattle.prl_plan.specs.Plans.{PlanView, edge_at, release_at, deadline_at}
 use Rattle.prl_plan.specs.Precedence.{preceding, ComesFrom}
-use Rattle.prl_tables.specs.declared.tables.Entry.{Entry}
+use Rattle.prl_overlaps.specs.Overlaps.{Clash}
+use Rattle.prl_overlaps.specs.declared.entries.Entry.{Entry}
 use Rattle.prl_tables.specs.Unrolled.{Placing}
 
 -- how many jobs of a task there are in a hyperperiod: its classes
@@ -28,22 +29,6 @@ end_of (entry ∷ entries) i c = if is_of i c entry then max (entry.at + entry.u
 -- the tick of the last unit of each job: that of its class, moved by the hyperperiods before it
 abbrev pub last_unit : TaskGraph → List Entry → Placing
 last_unit graph entries i n = end_of entries i (n % classes graph i) - 1 + n / classes graph i * graph.hyper
-
--- the entry, moved by a hyperperiods, and the other one, moved by b, have a tick in common
-pub record Overlap (hyper : ℕ) (one other : Entry) (a b : ℕ) : Type 0 where
-  pub starts : one.at + a * hyper < other.at + b * hyper + other.units
-  pub ends : other.at + b * hyper < one.at + a * hyper + one.units
-
--- entries k and l have a tick in common after some shifts by hyperperiods; an entry with itself after two that differ
-pub record Clash (hyper : ℕ) (entries : List Entry) (k l : ℕ) : Type 0 where
-  pub one : Entry
-  pub other : Entry
-  pub first : slice_get entries k ≡ Some one
-  pub second : slice_get entries l ≡ Some other
-  pub a : ℕ
-  pub b : ℕ
-  pub overlap : Overlap hyper one other a b
-  pub differ : k ≡ l → a ≡ b → ⊥
 
 -- the entry is of a class and has units, and lies in the window of its job
 pub record IsPiece (plan : PlanView) (entry : Entry) : Type 0 where

@@ -5,7 +5,7 @@ ghost use Rattle.prl_plan.specs.Vocabulary.{HasPlanFacts, IsHorizon, constants_o
 ghost use Rattle.prl_plan.specs.Vocabulary.{IsHorizonJob, PlanView, IsPlan, release_at, IsComplete};
 ghost use Rattle.prl_plan.specs.Vocabulary.{IsGated, RunConstants, opening, after_events};
 ghost use Rattle.prl_plan.specs.declared.horizons.Horizon.{Horizon};
-ghost use Rattle.prl_tables.specs.declared.tables.Entry.{Entry as AnyEntry};
+ghost use Rattle.prl_overlaps.specs.declared.entries.Entry.{Entry as AnyEntry};
 ghost use Rattle.prl_edf.specs.Unrolled.{HaveOneEnd};
 ghost use Rattle.prl_tables.specs.Tables.{classes, end_of, last_unit, IsGood, IsPiece};
 ghost use Rattle.prl_tables.specs.TableTexts.{entries_of, text_of, AreOrdered, FitsEntry};
@@ -51,21 +51,6 @@ pub fn unrolled_table_is_gated()
 pub fn table_texts_are_read_back()
     ensures { (hyper : ℕ) (entries : List AnyEntry) → hyper < 2 ^ 64 → All FitsEntry entries → AreOrdered None entries →
         entries_of hyper (text_of hyper entries) ≡ Ok entries }
-{}
-
-/// In order of place, four tests tell whether a stretch meets another one.
-pub fn four_tests_tell_clashes()
-    ensures seen { (hyper count : ℕ) (place end : ℕ → ℕ) → ((p q : ℕ) → p ≤ q → q < count → place p ≤ place q) →
-        ((p : ℕ) → p < count → (place p < end p) × (end p ≤ place p + hyper) × (place p < hyper)) →
-        (p q : ℕ) → p < count → q < count → q ≢ p →
-        (((place p < end q) × (place q < end p)) ⊎ ((place p + hyper < end q) ⊎ (place q + hyper < end p))) →
-        ((r : ℕ) × (r < p) × (place p < end r)) ⊎ (((p + 1 < count) × (place (p + 1) < end p))
-        ⊎ ((place 0 + hyper < end p) ⊎ ((r : ℕ) × (r < count) × (place p + hyper < end r)))) }
-    ensures other { (hyper count : ℕ) (place end : ℕ → ℕ) → ((p q : ℕ) → p ≤ q → q < count → place p ≤ place q) →
-        ((p : ℕ) → p < count → (place p < end p) × (end p ≤ place p + hyper) × (place p < hyper)) → (p : ℕ) → p < count →
-        (((r : ℕ) × (r < p) × (place p < end r)) ⊎ (((p + 1 < count) × (place (p + 1) < end p))
-        ⊎ ((place 0 + hyper < end p) ⊎ ((r : ℕ) × (r < count) × (place p + hyper < end r))))) →
-        (q : ℕ) × (q < count) × (q ≢ p) × (((place p < end q) × (place q < end p)) ⊎ ((place p + hyper < end q) ⊎ (place q + hyper < end p))) }
 {}
 
 /// Each task has a class, and a class is a job of the horizon up to 2^31 ticks after a hyperperiod.

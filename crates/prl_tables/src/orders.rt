@@ -7,8 +7,9 @@ ghost use Rattle.prl_plan.specs.Vocabulary.{preceding, ComesFrom};
 ghost use Rattle.prl_plan.specs.declared.limits.TheConstants.{MAX_PREFIX};
 ghost use Rattle.prl_plan.specs.declared.walks.Operand.TheVariants as operands;
 ghost use Rattle.prl_tables.specs.declared.reading.TableFault.TheVariants as faults;
-ghost use Rattle.prl_tables.specs.declared.tables.Entry.{Entry as AnyEntry};
-ghost use Rattle.prl_tables.specs.Checks.{IsFault, AreApart};
+ghost use Rattle.prl_overlaps.specs.declared.entries.Entry.{Entry as AnyEntry};
+ghost use Rattle.prl_overlaps.specs.Overlaps.{AreApart};
+ghost use Rattle.prl_tables.specs.Checks.{IsFault};
 ghost use Rattle.prl_tables.specs.Tables.{classes, ArePieces, AreWhole, KeepsOrder};
 ghost use Rattle.prl_tables.specs.code.Sums.{sums_of, AreSums, IsBefore, IsFirstDisorderOn};
 
@@ -16,8 +17,8 @@ use crate::laws::{classes_are_early, pieces_are_short};
 use crate::pieces::classes;
 use crate::reading::TableFault;
 use crate::sums::Sums;
-use crate::tables::Entry;
 use prl_base::{EdgeNo, TaskNo};
+use prl_overlaps::Entry;
 use prl_plan::{
     MAX_PREFIX, Operand, Plan, Producer, encoded_dates_keep_order, look_ups_fit, operands_precede,
 };

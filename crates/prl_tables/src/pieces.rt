@@ -8,8 +8,8 @@ ghost use Rattle.prl_tables.specs.Tables.{classes, ArePieces, IsPiece};
 
 use crate::laws::classes_are_early;
 use crate::reading::TableFault;
-use crate::tables::Entry;
 use prl_base::TaskNo;
+use prl_overlaps::Entry;
 use prl_plan::{Plan, look_ups_fit};
 
 /// The period of a task, in ticks.

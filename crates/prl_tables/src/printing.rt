@@ -5,8 +5,9 @@ ghost use Rattle.std.specs.Fmt.{decimal};
 ghost use Rattle.std.specs.List.{flat_map};
 ghost use Rattle.prl_tables.specs.TableTexts.{entry_text, text_of};
 
-use crate::tables::{Entry, Table};
+use crate::tables::Table;
 use prl_base::push_number;
+use prl_overlaps::Entry;
 use prl_plan::Plan;
 use std::alloc::{AllocError, Global};
 

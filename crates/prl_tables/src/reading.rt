@@ -9,9 +9,10 @@ ghost use Rattle.prl_tables.specs.declared.reading.TableFault.TheVariants as fau
 ghost use Rattle.prl_tables.specs.TableTexts.{after_line, comes_after, entries_from, entries_of, entry_if, entry_of, field, is_blank};
 ghost use Rattle.prl_tables.specs.TableTexts.{is_header, keeps_order, last_field, next_entry, number_of, or_line, tells_hyper};
 
-use crate::tables::{Entry, Table};
+use crate::tables::Table;
 use itoa::Buffer;
 use prl_base::{EdgeNo, Seq, TaskNo, cut_line, decimal_of, len_before};
+use prl_overlaps::Entry;
 use prl_plan::Plan;
 use std::alloc::{AllocError, AllocFailed, Global};
 

@@ -3,7 +3,7 @@
 ghost use Rattle.std.specs.Prelude.{◌≡◌, ◌+◌, ◌<◌, ◌^◌, ℕ, List, ◌∷◌, length, map, vec_items, IfErr, IfOk, OnOk};
 ghost use Rattle.prl_plan.specs.Jobs.{task_at};
 ghost use Rattle.prl_tables.specs.declared.reading.TableFault.TheVariants as faults;
-ghost use Rattle.prl_tables.specs.declared.tables.Entry.{Entry as AnyEntry};
+ghost use Rattle.prl_overlaps.specs.declared.entries.Entry.{Entry as AnyEntry};
 ghost use Rattle.prl_tables.specs.Checks.{IsFault};
 ghost use Rattle.prl_tables.specs.Tables.{classes, ArePieces, AreWhole, IsPiece, IsWhole};
 ghost use Rattle.prl_tables.specs.code.Sums.{no_sums, with_entry, AreSums, AreTaskSums, HasSums, IsFirstNotWholeOf};
@@ -11,8 +11,8 @@ ghost use Rattle.prl_tables.specs.code.Sums.{no_sums, with_entry, AreSums, AreTa
 use crate::laws::pieces_are_short;
 use crate::pieces::classes;
 use crate::reading::TableFault;
-use crate::tables::Entry;
 use prl_base::TaskNo;
+use prl_overlaps::Entry;
 use prl_plan::Plan;
 use std::alloc::{AllocError, Global};
 

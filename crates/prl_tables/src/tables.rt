@@ -1,16 +1,7 @@
 //! Tables.
 
-use prl_base::{Seq, TaskNo};
-
-/// So many units of a job of the first hyperperiod from a tick on, and of the later jobs of its
-/// class in the later ones.
-#[derive(Clone, Copy)]
-pub struct Entry {
-    pub at: u64,
-    pub task: TaskNo,
-    pub job: u64,
-    pub units: u64,
-}
+use prl_base::Seq;
+use prl_overlaps::Entry;
 
 /// A static cyclic table.
 #[derive(Drop)]

@@ -1,8 +1,5 @@
 -- The event that comes next: the choice of its task, and that it is legal.
-use Rattle.prl_base.proofs.Standard.{◌≡◌, ◌+◌, ◌-◌, ◌<◌, ◌≤◌, ◌⊎◌, ℕ, zero, suc, Option, Some, None, refl, sym, ap, subst, arith, inl, inr, cases_lt, cases_eq, OnFalse, OnTrue, OnFalse_from}
-use Rattle.prl_base.proofs.Standard.{ltb-false, ltb-true}
-use Rattle.std.proofs.lemmas.Bool.{OnTrue_from}
-use Rattle.std.specs.Prelude.{nat_lt}
+use Rattle.prl_base.proofs.Standard.{◌≡◌, ◌+◌, ◌-◌, ◌<◌, ◌≤◌, ◌⊎◌, ℕ, zero, suc, Option, Some, None, refl, sym, ap, subst, arith, inl, inr, cases_lt, cases_eq}
 use Rattle.prl_plan.specs.Vocabulary.{HasPlanFacts, IsJob, first_unfinished, IsUnfinished, HasJob, ActsReleased, KeepsLegal, IsComplete, IsFirstUnfinished, RunConstants, ExecState}
 use Rattle.prl_plan.specs.declared.events.Event.{Event}
 use Rattle.prl_plan.specs.declared.events.Event.TheVariants as events
@@ -188,21 +185,13 @@ module _ (c : RunConstants) (facts : HasPlanFacts c) (s : ExecState) (j : ℕ) w
         let some_ = facts.positive j (first_unfinished s j) (record { task = is.left.task; job = is.left.job }) in
         omega (arith, is.deadline, some_)
 
-    pub overtakes : (processor deadline : ℕ) → c.processor j ≡ processor → first.release ≤ now → OnTrue (nat_lt first.deadline deadline) (Overtakes c s j processor deadline)
-    overtakes processor deadline here released = OnTrue_from (nat_lt first.deadline deadline) (Overtakes c s j processor deadline)
-        (λ before.
-        (let b = ltb-true first.deadline deadline before in
-        (here, is.left, omega (arith, is.release, released, clock), omega (arith, is.deadline, b))))
+    pub overtakes : (processor deadline : ℕ) → c.processor j ≡ processor → first.release ≤ now → first.deadline < deadline → Overtakes c s j processor deadline
+    overtakes processor deadline here released before = (here, is.left, omega (arith, is.release, released, clock), omega (arith, is.deadline, before))
 
-    pub stays_after : (processor deadline : ℕ) → OnFalse (nat_lt first.deadline deadline) (IsNotEarlier c s j processor deadline)
-    stays_after processor deadline = OnFalse_from (nat_lt first.deadline deadline) (IsNotEarlier c s j processor deadline)
-        (λ later n together left at.
-        (let l = ltb-false first.deadline deadline later in
-        omega (arith, (no_earlier c facts s j first is n left).1, l)))
-
-    pub unreleased_after : (processor deadline : ℕ) → now < first.release → IsNotEarlier c s j processor deadline
-    unreleased_after processor deadline early n together left at =
-        absurd (omega (arith, (no_earlier c facts s j first is n left).0, early, clock, at))
+    pub stays_after : (processor deadline : ℕ) → (first.release ≤ now → deadline ≤ first.deadline) → IsNotEarlier c s j processor deadline
+    stays_after processor deadline later n together left at =
+        let early = no_earlier c facts s j first is n left in
+        omega (arith, early.1, later (omega (arith, early.0, clock, at)))
 
     pub due : first.deadline - 1 ≤ now → IsDueFirst c s j
     due by_then = (is.left, omega (arith, is.deadline, by_then, clock))

@@ -18,6 +18,7 @@ use crate::firsts::{Chosen, First};
 use crate::routes::{Cursor, NextAction, Routes};
 use crate::{Acted, Illegal, Unfinished};
 use prl_base::TaskNo;
+use prl_deadlines::{goes_before, is_due};
 use prl_plan::{
     Action, Event, Horizon, Placed, Plan, Rule, SlotNo, look_ups_fit, plan_facts, plan_is_one,
 };
@@ -204,7 +205,7 @@ impl<'a> Track<'a> {
             return false;
         }
         match self.first(j) {
-            Some(first) => first.release <= self.now && first.deadline < deadline,
+            Some(first) => goes_before(first.release, first.deadline, deadline, self.now),
             None => false,
         }
     }
@@ -229,7 +230,7 @@ impl<'a> Track<'a> {
         ensures no { OnFalse result (IsInTime (run_of self.entry.now) self.entry.now.state j.0) }
     {
         match self.first(j) {
-            Some(first) => first.deadline - 1 <= self.now,
+            Some(first) => is_due(first.deadline, self.now),
             None => false,
         }
     }

@@ -7,10 +7,10 @@ use Rattle.prl_plan.specs.Horizons.{IsHorizon, Placement, constants_of}
 use Rattle.prl_plan.specs.Plans.{PlanView, release_at}
 use Rattle.prl_edf.specs.declared.analysis.Verdict.TheVariants as verdicts
 use Rattle.prl_edf.specs.declared.pieces.Piece.{Piece}
-use Rattle.prl_edf.specs.UnitLists.{wcets_of}
+use Rattle.prl_demand.specs.Demand.{wcets_of}
 use Rattle.prl_edf.specs.Verdicts.{IsVerdict}
 use Rattle.prl_cores.specs.Spreads.{IsSpreadOf, LeavesRoom, SpreadView}
-use Rattle.prl_tables.specs.declared.tables.Entry.{Entry}
+use Rattle.prl_overlaps.specs.declared.entries.Entry.{Entry}
 use Rattle.prl_tables.specs.Tables.{IsGood}
 use Rattle.prl_drawing.specs.declared.rows.TheConstants.{GAP}
 use Rattle.prl_drawing.specs.declared.scales.Scale.{Scale}

@@ -1,27 +1,13 @@
 //! How many constants the prefixes of words have, found before any is listed.
 
 ghost use Rattle.std.specs.Prelude.{◌≡◌, ◌<◌, ◌^◌, ℕ, length};
-ghost use Rattle.prl_plan.specs.Vocabulary.{reader_before, first_reader, IsWellFormed, HasFactor};
+ghost use Rattle.prl_plan.specs.Vocabulary.{first_reader, IsWellFormed};
 ghost use Rattle.prl_words.specs.Counts.{HaveCounts};
 ghost use Rattle.prl_words.specs.GraphWords.{constant_reads};
 
 use prl_base::Op;
+use prl_numbers::reader_before;
 use prl_plan::TaskGraph;
-
-/// The first number that the operator takes to `p` or higher.
-fn reader_before(op: &Op, p: u64) -> u64
-    requires factor { HasFactor op.now }
-    requires fits { reader_before op.now p < 2 ^ 64 }
-    ensures { result ≡ reader_before op.now p }
-{
-    match *op {
-        Op::Up(k) => u64::from(k) * p,
-        Op::Down(k) => p.div_ceil(u64::from(k)),
-        Op::Shift(_) => p,
-        Op::Tail => p.saturating_sub(1),
-        Op::Fby(_) | Op::Cons(_) => p + 1,
-    }
-}
 
 /// How many constants the word of these operators has in front.
 fn constants(ops: &[Op]) -> u64

@@ -1,12 +1,12 @@
 -- What private functions say of a command before its line is told.
 use Rattle.std.specs.Prelude.{◌≡◌, ◌⊎◌, ℕ, List, Option}
 use Rattle.prl_io.specs.Views.{Appends, AppendsLess, FolderView, SinkView}
-use Rattle.prl_app.specs.declared.endings.Ending.{Ending}
-use Rattle.prl_app.specs.declared.endings.Ending.TheVariants as endings
+use Rattle.prl_endings.specs.declared.endings.Ending.{Ending}
+use Rattle.prl_endings.specs.declared.endings.Ending.TheVariants as endings
 use Rattle.prl_stages.specs.declared.ran.Ran.{Ran}
 use Rattle.prl_arguments.specs.declared.arguments.Command.{Command}
 use Rattle.prl_arguments.specs.Arguments.{command_of}
-use Rattle.prl_app.specs.ErrorLines.{line_of}
+use Rattle.prl_endings.specs.ErrorLines.{line_of}
 use Rattle.prl_app.specs.Endings.{Ends}
 
 -- the ending has its cause, whatever err is

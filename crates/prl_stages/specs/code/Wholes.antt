@@ -26,7 +26,7 @@ use Rattle.prl_plan.specs.Runs.{ExecState, RunConstants, after_events, opening}
 use Rattle.prl_plan.specs.Spread.{IsSpread}
 use Rattle.prl_schedules.specs.Dispatches.{IsDispatched}
 use Rattle.prl_replay.specs.Replays.{IsTrace}
-use Rattle.prl_tables.specs.declared.tables.Entry.{Entry}
+use Rattle.prl_overlaps.specs.declared.entries.Entry.{Entry}
 use Rattle.prl_tables.specs.Tables.{IsGood}
 use Rattle.prl_values.specs.Fitting.{HaveTaskBodies, HaveTypedRows}
 use Rattle.prl_values.specs.JobValues.{AreJobValues, JobValues, value_on}

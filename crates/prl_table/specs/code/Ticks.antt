@@ -4,7 +4,7 @@ use Rattle.prl_base.specs.declared.numbers.TaskNo.{TaskNo}
 use Rattle.prl_plan.specs.Plans.{PlanView}
 use Rattle.prl_edf.specs.declared.pieces.Piece.{Piece}
 use Rattle.prl_edf.specs.Pieces.{lies_in}
-use Rattle.prl_tables.specs.declared.tables.Entry.{Entry}
+use Rattle.prl_overlaps.specs.declared.entries.Entry.{Entry}
 use Rattle.prl_table.specs.MakeFaults.{job_in}
 use Rattle.prl_tables.specs.Tables.{classes}
 

@@ -2,7 +2,7 @@
 use Rattle.std.specs.Prelude.{◌≡◌, ◌+◌, ◌-◌, ◌*◌, ◌/◌, ◌%◌, ◌<◌, ◌≤◌, ◌^◌, ℕ, List, [], ◌∷◌, Some, length, max, min, slice_get, if◌then◌else◌}
 use Rattle.prl_plan.specs.Plans.{PlanView, edge_at}
 use Rattle.prl_tables.specs.declared.sums.Sums.{Sums}
-use Rattle.prl_tables.specs.declared.tables.Entry.{Entry}
+use Rattle.prl_overlaps.specs.declared.entries.Entry.{Entry}
 use Rattle.prl_tables.specs.Tables.{classes, is_of, IsWhole, KeepsOrder}
 
 -- no units, and the first tick past every other

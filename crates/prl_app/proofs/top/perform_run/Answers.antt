@@ -1,5 +1,6 @@
 use Rattle.prl_base.proofs.Standard.{ℕ, List, map, refl, subst, string_bytes}
-use Rattle.prl_app.specs.Vocabulary.{Outside, IsWrittenBy, IsAnswerOf}
+use Rattle.prl_endings.specs.Answers.{IsAnswerOf}
+use Rattle.prl_app.specs.Vocabulary.{Outside, IsWrittenBy}
 use Rattle.prl_app.proofs.Exact.{overrun_ends, stop_performs, written_ends}
 use Rattle.prl_app.proofs.top.perform_run.Goals as goal
 

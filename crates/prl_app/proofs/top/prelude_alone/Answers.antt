@@ -1,5 +1,6 @@
 use Rattle.prl_base.proofs.Standard.{map, ap, ◌∙◌, string_bytes}
-use Rattle.prl_app.specs.Endings.{Outside, status_of}
+use Rattle.prl_endings.specs.Statuses.{status_of}
+use Rattle.prl_app.specs.Endings.{Outside}
 use Rattle.prl_app.proofs.Exact.{answers_by}
 use Rattle.prl_app.proofs.top.prelude_alone.Goals as goal
 

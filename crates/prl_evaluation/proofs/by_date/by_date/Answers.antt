@@ -1,4 +1,4 @@
-use Rattle.std.proofs.Common.{◌∙◌, ◌≤◌, ℕ, List, Option, subst, sym}
+use Rattle.std.proofs.Common.{◌∙◌, ◌≤◌, ℕ, List, Option, arith, subst, sym}
 use Rattle.prl_base.specs.declared.operators.Clock.{Clock}
 use Rattle.prl_calendar.specs.Calendars.{AreAllClocks, HasDate, Tells}
 use Rattle.prl_evaluation.specs.code.Dates.{AreAt}
@@ -23,3 +23,8 @@ returns-clause-full c =
     at_later c.args.setting.now c.requires.set c.args.rest.now c.loop-due.flows c.loop-due.calendar.from c.args.setting.now.until c.loop-due.invariant.1 c.loop-due.invariant.5
     (λ i u date late. subst (λ t. t ≤ u) c.loop-due.invariant.4 (told.0 i u (subst (λ (cs : List Clock). HasDate cs i u) (sym c.loop-due.invariant.3) date) late)) c.loop-due.invariant.2 in
     full_at c.args.setting.now c.requires.set c.args.rest.now c.loop-due.flows c.loop-due.invariant.1 at
+
+pub loop-due-preserved : goal.loop-due-preserved
+loop-due-preserved c =
+    let told = subst (λ (o : Option ℕ). Tells c.loop-due.calendar o c.next.new.due.items c.next.new.self) c.in-Some.is c.in_ok-date.ensures.told in
+    rw told.2 (c.in_ok-advance_due.ensures.under_way, c.in_ok-advance_due.ensures.rest, c.in_ok-advance_due.ensures.at, c.loop-due.invariant.3, c.loop-due.invariant.4, omega (arith, told.0.before, c.loop-due.invariant.4))

@@ -1,26 +1,13 @@
-use Rattle.prl_evaluation.proofs.NextValue.{arguments, may_step, output_grows, output_within, plain_grows, plain_there}
+use Rattle.prl_evaluation.proofs.NextValue.{output_grows, output_ready, plain_grows, plain_there}
 use Rattle.prl_evaluation.proofs.fronts.next_value.Goals as goal
 
-pub output_value-requires-clause-output : goal.output_value-requires-clause-output
-output_value-requires-clause-output c =
-    output_within c.args.setting.now c.requires.set c.args.flows.now c.args.runs.now c.requires.under_way c.args.i c.requires.ready
+pub output_value-requires : goal.output_value-requires
+output_value-requires c =
+    let (output, there, few, ready) = output_ready c.args.setting.now c.requires.set c.args.flows.now c.args.runs.now c.requires.under_way c.args.i c.requires.ready
     c.flows.result.now c.flows.ensures.flows c.index-flows-i.result c.index-flows-i.is c.count-n.result c.count-n.ensures
     c.in-Apply.app c.in-Apply.out c.in-Apply.is c.apps.result.now c.apps.ensures.apps c.index-apps-app.result c.index-apps-app.is
-    c.as_slice-args.result.now c.as_slice-args.ensures c.index-runs-app.result c.index-runs-app.is
-
-pub output_value-requires-clause-there : goal.output_value-requires-clause-there
-output_value-requires-clause-there c = λ same.
-    arguments c.args.setting.now c.requires.set c.args.flows.now c.args.runs.now c.requires.under_way c.args.i c.requires.ready
-    c.flows.result.now c.flows.ensures.flows c.index-flows-i.result c.index-flows-i.is c.count-n.result c.count-n.ensures
-    c.in-Apply.app c.in-Apply.out c.in-Apply.is c.apps.result.now c.apps.ensures.apps c.index-apps-app.result c.index-apps-app.is
-    c.as_slice-args.result.now c.as_slice-args.ensures c.index-runs-app.result c.index-runs-app.is
-
-pub output_value-requires-clause-ready : goal.output_value-requires-clause-ready
-output_value-requires-clause-ready c =
-    may_step c.args.setting.now c.requires.set c.args.flows.now c.args.runs.now c.requires.under_way c.args.i c.requires.ready
-    c.flows.result.now c.flows.ensures.flows c.index-flows-i.result c.index-flows-i.is c.count-n.result c.count-n.ensures
-    c.in-Apply.app c.in-Apply.out c.in-Apply.is c.apps.result.now c.apps.ensures.apps c.index-apps-app.result c.index-apps-app.is
-    c.as_slice-args.result.now c.as_slice-args.ensures c.index-runs-app.result c.index-runs-app.is
+    c.as_slice-args.result.now c.as_slice-args.ensures c.index-runs-app.result c.index-runs-app.is in
+    record { output = output; there = λ same. there; ready = ready; few = few }
 
 pub plain_value-requires : goal.plain_value-requires
 plain_value-requires c =

@@ -7,13 +7,10 @@ use Rattle.prl_evaluation.proofs.runs.read_arguments.Goals as goal
 abbrev none : Arg
 none = record { flow = record { 0 = 0 }; at = record { at = 0; len = 0 } }
 
-pub value_in-requires-clause-flow : goal.value_in-requires-clause-flow
-value_in-requires-clause-flow c =
-    (c.requires.there c.loop-k.k (slice_index_or c.args.args.now c.loop-k.k none) (slice_get-get_or c.args.args.now c.loop-k.k none c.loop-k-test.true)).0
-
-pub value_in-requires-clause-instance : goal.value_in-requires-clause-instance
-value_in-requires-clause-instance c =
-    (c.requires.there c.loop-k.k (slice_index_or c.args.args.now c.loop-k.k none) (slice_get-get_or c.args.args.now c.loop-k.k none c.loop-k-test.true)).1
+pub value_in-requires : goal.value_in-requires
+value_in-requires c =
+    let there = c.requires.there c.loop-k.k (slice_index_or c.args.args.now c.loop-k.k none) (slice_get-get_or c.args.args.now c.loop-k.k none c.loop-k-test.true) in
+    record { flow = there.0; instance = there.1 }
 
 pub loop-k-preserved : goal.loop-k-preserved
 loop-k-preserved c =

@@ -2,7 +2,7 @@ use Rattle.prl_base.proofs.Standard.{◌∙◌, ap, subst, sym, arith, slice_get
 use Rattle.prl_flow.specs.declared.programs.Def.{Def}
 use Rattle.prl_solutions.specs.Tables.{table_of, value_of}
 use Rattle.prl_evaluation.specs.code.Fronts.{IsPlain, IsThere}
-use Rattle.prl_evaluation.proofs.AllAtOnce.{all_there, set_under_way, set_whole}
+use Rattle.prl_evaluation.proofs.AllAtOnce.{all_there, set_both}
 use Rattle.prl_evaluation.proofs.wholes.fill_alone.Goals as goal
 
 pub plain_values-requires-clause-there : goal.plain_values-requires-clause-there
@@ -17,21 +17,13 @@ bounds-flows-flow c =
     let (f, found, is) = c.requires.flow in
     omega (arith, slice_get_within c.args.setting.now.flat.now.flows c.args.flow.0 f found, c.requires.under_way.count)
 
-pub returns-clause-under_way : goal.returns-clause-under_way
-returns-clause-under_way c =
+pub returns : goal.returns
+returns c =
     let s = c.args.setting.now in
     let flows = c.args.flows.now in
     let (f, found, is) = c.requires.flow in
-    set_under_way s c.requires.set flows c.args.flow c.args.number c.requires.group f found (subst IsPlain (sym is) c.requires.plain) c.args._runs.now c.requires.under_way
+    let both = set_both s c.requires.set flows c.args.flow c.args.number c.requires.group f found (subst IsPlain (sym is) c.requires.plain) c.args._runs.now c.requires.under_way
     c.in_ok-values.values c.in_ok-values.ensures.count
     (λ p bodies n less. c.in_ok-values.ensures.each p bodies n less ∙ ap (λ (d : Def). value_of p bodies s.sensors.now (table_of flows) d n) (sym is))
-
-pub returns-clause-whole : goal.returns-clause-whole
-returns-clause-whole c =
-    let s = c.args.setting.now in
-    let flows = c.args.flows.now in
-    let (f, found, is) = c.requires.flow in
-    set_whole s c.requires.set flows c.args.flow c.args.number c.requires.group f found (subst IsPlain (sym is) c.requires.plain) c.args._runs.now c.requires.under_way
-    c.in_ok-values.values c.in_ok-values.ensures.count
-    (λ p bodies n less. c.in_ok-values.ensures.each p bodies n less ∙ ap (λ (d : Def). value_of p bodies s.sensors.now (table_of flows) d n) (sym is))
-    c.requires.whole
+    c.requires.whole in
+    record { under_way = both.0; whole = both.1 }

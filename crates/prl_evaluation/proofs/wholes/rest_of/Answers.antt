@@ -30,21 +30,14 @@ loop-flow-preserved c =
           ∙ sym (more ∙ ap (λ b. filter (is_left c.args.setting.now c.args.flows.now) (take c.loop-flow.flow-index order) ++ cond b (x ∷ []) []) full ∙ append-nil _)
     ]
 
-pub returns-clause-rest : goal.returns-clause-rest
-returns-clause-rest c =
-    let order : List FlowNo = c.args.setting.now.order.now in
-    let all = c.loop-flow.invariant ∙ ap (filter (is_left c.args.setting.now c.args.flows.now)) (take_all c.loop-flow.flow-index order c.loop-flow-test.false) in
-    subst (λ rest. IsRest c.args.setting.now rest c.args.flows.now) (sym all) (rest_in_order c.args.setting.now c.requires.set c.args.flows.now c.requires.whole)
-
-pub returns-clause-at : goal.returns-clause-at
-returns-clause-at c =
-    let order : List FlowNo = c.args.setting.now.order.now in
-    let all = c.loop-flow.invariant ∙ ap (filter (is_left c.args.setting.now c.args.flows.now)) (take_all c.loop-flow.flow-index order c.loop-flow-test.false) in
-    subst (λ rest. AreAt c.args.setting.now rest c.args.flows.now 0) (sym all) (rest_at_first c.args.setting.now c.requires.set c.args.flows.now c.requires.whole)
-
-pub returns-clause-few : goal.returns-clause-few
-returns-clause-few c =
-    let order : List FlowNo = c.args.setting.now.order.now in
-    let all = c.loop-flow.invariant ∙ ap (filter (is_left c.args.setting.now c.args.flows.now)) (take_all c.loop-flow.flow-index order c.loop-flow-test.false) in
-    let few = rest_few c.args.setting.now c.requires.set c.args.flows.now c.requires.whole in
-    subst (λ (rest : List FlowNo). length rest < 2 ^ 32) (sym all) (omega (arith, few, c.requires.set.flat.few))
+pub returns : goal.returns
+returns c =
+    let s = c.args.setting.now in
+    let flows = c.args.flows.now in
+    let all = c.loop-flow.invariant ∙ ap (filter (is_left s flows)) (take_all c.loop-flow.flow-index s.order.now c.loop-flow-test.false) in
+    let few = rest_few s c.requires.set flows c.requires.whole in
+    record {
+      rest = subst (λ rest. IsRest s rest flows) (sym all) (rest_in_order s c.requires.set flows c.requires.whole);
+      at = subst (λ rest. AreAt s rest flows 0) (sym all) (rest_at_first s c.requires.set flows c.requires.whole);
+      few = subst (λ (rest : List FlowNo). length rest < 2 ^ 32) (sym all) (omega (arith, few, c.requires.set.flat.few));
+    }

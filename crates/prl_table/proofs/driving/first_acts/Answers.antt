@@ -1,7 +1,7 @@
 use Rattle.prl_base.proofs.Standard.{◌≡◌, ℕ, [], ◌∷◌, List, Option, Some, length, length-append, sym, ◌∙◌, ap, subst, arith, slice_get}
 use Rattle.prl_plan.specs.Horizons.{constants_of}
 use Rattle.prl_tables.specs.Tables.{last_unit}
-use Rattle.prl_tables.proofs.Listed.{pushed}
+use Rattle.prl_overlaps.proofs.Listed.{pushed}
 use Rattle.prl_table.specs.code.Driving.{next_act}
 use Rattle.prl_table.proofs.driving.first_acts.Goals as goal
 

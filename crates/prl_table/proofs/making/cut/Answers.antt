@@ -1,7 +1,7 @@
 use Rattle.prl_base.proofs.Standard.{◌≡◌, ◌+◌, ◌<◌, ℕ, suc, List, Option, None, length, get_or, sym, ◌∙◌, ap, subst, arith, slice_get-get_or}
 use Rattle.prl_base.specs.declared.numbers.TaskNo.{TaskNo}
 use Rattle.prl_plan.specs.declared.graphs.TaskGraph.{TaskGraph}
-use Rattle.prl_tables.specs.declared.tables.Entry.{Entry}
+use Rattle.prl_overlaps.specs.declared.entries.Entry.{Entry}
 use Rattle.prl_table.specs.Vocabulary.{cut_from, cut_to, last_of, with_tick, job_in, HaveAtMost}
 use Rattle.prl_table.proofs.Cuts.{few_more}
 use Rattle.prl_table.proofs.making.cut.Goals as goal

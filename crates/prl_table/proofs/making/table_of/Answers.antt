@@ -1,7 +1,7 @@
 use Rattle.prl_base.proofs.Standard.{List, sym, subst, IsPermutation}
 use Rattle.prl_edf.specs.Pieces.{run_of}
 use Rattle.prl_tables.specs.Tables.{IsGood}
-use Rattle.prl_tables.specs.declared.tables.Entry.{Entry}
+use Rattle.prl_overlaps.specs.declared.entries.Entry.{Entry}
 use Rattle.prl_table.specs.MakeFaults.{IsMade}
 use Rattle.prl_table.proofs.MadeCode.{ordered_good}
 use Rattle.prl_table.proofs.making.table_of.Goals as goal

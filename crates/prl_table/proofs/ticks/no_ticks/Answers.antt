@@ -2,7 +2,7 @@ use Rattle.std.proofs.Common.{◌≡◌, ℕ, [], ◌∷◌, Option, None, lengt
 use Rattle.prl_base.specs.declared.numbers.TaskNo.{TaskNo}
 use Rattle.prl_edf.specs.Pieces.{run_of}
 use Rattle.prl_table.specs.Vocabulary.{job_in, HasTicks}
-use Rattle.prl_tables.proofs.Listed.{pushed}
+use Rattle.prl_overlaps.proofs.Listed.{pushed}
 use Rattle.prl_table.proofs.ticks.no_ticks.Goals as goal
 
 abbrev no_tick : Option (TaskNo × ℕ)

@@ -1,6 +1,6 @@
 use Rattle.std.proofs.Common.{arith}
 use Rattle.prl_tables.specs.Tables.{IsPiece}
-use Rattle.prl_tables.proofs.Listed.{so_far, all_so_far}
+use Rattle.prl_overlaps.proofs.Listed.{so_far, all_so_far}
 use Rattle.prl_tables.proofs.pieces.check_pieces.Goals as goal
 
 pub loop-k-preserved : goal.loop-k-preserved

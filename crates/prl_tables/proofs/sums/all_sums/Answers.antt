@@ -1,6 +1,6 @@
 use Rattle.prl_base.proofs.Standard.{◌∙◌, ap, sym, subst, length, length-append, ◌∷◌, [], map, arith, vec_items, List, Some, ◌≡◌, ℕ, slice_get, map_push}
 use Rattle.prl_tables.specs.Vocabulary.{Sums, AreTaskSums}
-use Rattle.prl_tables.proofs.Listed.{pushed}
+use Rattle.prl_overlaps.proofs.Listed.{pushed}
 use Rattle.prl_tables.proofs.sums.all_sums.Goals as goal
 
 pub loop-i-preserved : goal.loop-i-preserved

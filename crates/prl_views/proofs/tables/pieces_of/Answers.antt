@@ -1,6 +1,6 @@
 use Rattle.prl_base.proofs.Standard.{List, subst, sym, slice_index_or, slice_get-get_or}
 use Rattle.prl_tables.specs.Tables.{ArePieces}
-use Rattle.prl_tables.specs.declared.tables.Entry.{Entry}
+use Rattle.prl_overlaps.specs.declared.entries.Entry.{Entry}
 use Rattle.prl_views.proofs.tables.pieces_of.Goals as goal
 
 -- stands where there is no entry

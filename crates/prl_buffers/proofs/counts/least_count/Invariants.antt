@@ -1,9 +1,0 @@
-use Rattle.std.proofs.Common.{◌<◌, ◌^◌}
-use Rattle.prl_buffers.specs.code.Counts.{IsLeastTurn}
-use Rattle.prl_buffers.proofs.counts.least_count.Given as goal
-
-abbrev pub invariant-loop-k : goal.invariant-loop-k
-invariant-loop-k l = record {
-  least : IsLeastTurn l.releases l.hyper l.ends l.k l.count;
-  small : l.count < 2 ^ 51;
-}

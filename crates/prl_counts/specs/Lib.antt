@@ -1,2 +1,0 @@
--- how many inputs and outputs a node declares
-pub mod Counted

@@ -1,0 +1,5 @@
+-- demand of intervals
+pub mod Demand
+-- what private functions say to one another
+pub mod code
+pub mod Vocabulary

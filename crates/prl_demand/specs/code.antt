@@ -1,0 +1,2 @@
+-- demand by tick
+pub mod Starts

@@ -1,0 +1,159 @@
+//! The modes of the command, each as the text or the run that its stages give.
+
+ghost use Rattle.std.specs.Prelude.{◌≡◌, ◌<◌, ◌≤◌, ◌^◌, IfOk, IfErr, length};
+ghost use Rattle.prl_arguments.specs.Arguments.{AreInRange};
+ghost use Rattle.prl_calls.specs.Stops.{given_of, AllHold, StopsIn};
+ghost use Rattle.prl_stages.specs.Vocabulary.{IsMeant, stages_after, IsText};
+ghost use Rattle.prl_endings.specs.Answers.{IsAnswer, IsAnswerOf, IsAnswerStop};
+ghost use Rattle.prl_endings.specs.code.Modes.{HasFiles, KeepsTexts, RunsNothing};
+
+use crate::generated::generated_text;
+use prl_arguments::{Command, Mode};
+use prl_calls::{Request, read_request};
+use prl_executions::{
+    Outcome, accepted_text, cores_text, cycle_text, edf_text, flows_text, made_text, planned_text,
+    print_text, replayed_text, run_outcome, run_text, scheduled_text,
+};
+use prl_io::{Files, Probe};
+use prl_stages::{MAX_BODIES, MAX_PROGRAM, Ran, Stop};
+use std::alloc::Global;
+use std::sync::Wait;
+use std::thread::Threads;
+
+/// The text of a mode that runs nothing and keeps the texts of its files to its end.
+fn kept_text(alloc: Global, mode: Mode, request: &Request) -> Result<Vec<u8>, Stop>
+    requires mode { KeepsTexts mode }
+    requires program { length request.now.texts.program.items ≤ MAX_PROGRAM }
+    requires bodies { length request.now.texts.bodies.items ≤ MAX_BODIES }
+    ensures text { IfOk result (λ text. IsText (given_of request.now) mode text.items) }
+    ensures holds { IfOk result (λ _. AllHold (given_of request.now) (stages_after mode request.now.named)) }
+    ensures stop { IfErr result (StopsIn (given_of request.now) (stages_after mode request.now.named)) }
+{
+    match mode {
+        Mode::Print => print_text(alloc, request),
+        Mode::Plan => planned_text(alloc, request),
+        Mode::Check => accepted_text(alloc, request),
+        Mode::Schedule => scheduled_text(alloc, request),
+        Mode::Replay => replayed_text(alloc, request),
+        Mode::Edf => edf_text(alloc, request),
+        Mode::Cores => cores_text(alloc, request),
+        Mode::Table => made_text(alloc, request),
+        Mode::Run | Mode::Cycle => unreachable!(),
+        Mode::Flows | Mode::Generate => unreachable!(),
+    }
+}
+
+/// The text of a mode that runs nothing.
+fn mode_text(alloc: Global, mode: Mode, request: Request) -> Result<Vec<u8>, Stop>
+    requires mode { RunsNothing mode }
+    requires program { length request.texts.program.items ≤ MAX_PROGRAM }
+    requires bodies { length request.texts.bodies.items ≤ MAX_BODIES }
+    requires until { request.until < 2 ^ 31 }
+    ensures text { IfOk result (λ text. IsText (given_of request) mode text.items) }
+    ensures holds { IfOk result (λ _. AllHold (given_of request) (stages_after mode request.named)) }
+    ensures stop { IfErr result (StopsIn (given_of request) (stages_after mode request.named)) }
+{
+    match mode {
+        Mode::Flows => flows_text(alloc, request),
+        mode => {
+            let text = kept_text(alloc, mode, &request);
+            drop(request);
+            text
+        }
+    }
+}
+
+/// The text of a mode that runs nothing, which has run nothing.
+fn text_alone(alloc: Global, mode: Mode, request: Request) -> Result<(Vec<u8>, Ran), Stop>
+    requires mode { RunsNothing mode }
+    requires program { length request.texts.program.items ≤ MAX_PROGRAM }
+    requires bodies { length request.texts.bodies.items ≤ MAX_BODIES }
+    requires until { request.until < 2 ^ 31 }
+    ensures text { IfOk result (λ made. IsText (given_of request) mode made.0.items) }
+    ensures ran { IfOk result (λ made. made.1 ≡ Ran.Not) }
+    ensures holds { IfOk result (λ _. AllHold (given_of request) (stages_after mode request.named)) }
+    ensures stop { IfErr result (StopsIn (given_of request) (stages_after mode request.named)) }
+{
+    let text = mode_text(alloc, mode, request)?;
+    Ok((text, Ran::Not))
+}
+
+/// The text that a command with files means, with what it has run, by one thread.
+fn requested(alloc: Global, command: &Command, request: Request) -> Result<(Vec<u8>, Ran), Stop>
+    requires mode { HasFiles command.now.mode }
+    requires program { length request.texts.program.items ≤ MAX_PROGRAM }
+    requires bodies { length request.texts.bodies.items ≤ MAX_BODIES }
+    requires until { request.until < 2 ^ 31 }
+    ensures text { IfOk result (λ made. IsMeant (given_of request) command.now made.0.items made.1) }
+    ensures holds { IfOk result (λ _. AllHold (given_of request) (stages_after command.now.mode request.named)) }
+    ensures stop { IfErr result (StopsIn (given_of request) (stages_after command.now.mode request.named)) }
+{
+    match command.mode {
+        Mode::Run => run_text(alloc, &request, command.clock),
+        Mode::Cycle => {
+            let made = cycle_text(alloc, &request);
+            drop(request);
+            made
+        }
+        mode => text_alone(alloc, mode, request),
+    }
+}
+
+/// The text that a command with files means, with what it has run.
+fn answer_files<F: Files>(
+    alloc: Global,
+    files: &mut F,
+    command: &Command,
+) -> Result<(Vec<u8>, Ran), Stop>
+    requires mode { HasFiles command.now.mode }
+    requires until { command.now.until < 2 ^ 31 }
+    ensures text { IfOk result (λ made. IsAnswer (F.seen files.old).folder command.now made.0.items made.1) }
+    ensures stop { IfErr result (IsAnswerStop (F.seen files.old) (F.seen files.new) command.now) }
+    ensures failed { IfOk result (λ _. (F.seen files.new).failed ≡ (F.seen files.old).failed) }
+    ensures kept { (F.seen files.new).folder ≡ (F.seen files.old).folder }
+{
+    let request = read_request(alloc, files, command)?;
+    requested(alloc, command, request)
+}
+
+/// The text that the command asks for: its files are read, or its texts are generated, and its stages give the text, with
+/// what it has run on the way, by one thread.
+pub fn answer<F: Files>(
+    alloc: Global,
+    files: &mut F,
+    command: &Command,
+) -> Result<(Vec<u8>, Ran), Stop>
+    requires { AreInRange command.now.mode command.now.until command.now.workers command.now.size }
+    ensures text { IfOk result (λ made. IsAnswer (F.seen files.old).folder command.now made.0.items made.1) }
+    ensures stop { IfErr result (IsAnswerStop (F.seen files.old) (F.seen files.new) command.now) }
+    ensures failed { IfOk result (λ _. (F.seen files.new).failed ≡ (F.seen files.old).failed) }
+    ensures kept { (F.seen files.new).folder ≡ (F.seen files.old).folder }
+{
+    if command.mode == Mode::Generate {
+        generated_text(alloc, command)
+    } else {
+        answer_files(alloc, files, command)
+    }
+}
+
+/// What a command of mode `run` with several workers comes to: its files are read, and its stages give what is run. It may
+/// wait.
+pub fn answer_threads<R: Threads + Wait + Sync, F: Files, P: Probe>(
+    rt: &R,
+    alloc: Global,
+    files: &mut F,
+    command: &Command,
+    probe: &P,
+) -> Result<Outcome, Stop>
+    requires mode { command.now.mode ≡ Mode.Run }
+    requires range { AreInRange command.now.mode command.now.until command.now.workers command.now.size }
+    ensures outcome { IfOk result (IsAnswerOf (F.seen files.old).folder command.now) }
+    ensures stop { IfErr result (IsAnswerStop (F.seen files.old) (F.seen files.new) command.now) }
+    ensures failed { IfOk result (λ _. (F.seen files.new).failed ≡ (F.seen files.old).failed) }
+    ensures kept { (F.seen files.new).folder ≡ (F.seen files.old).folder }
+{
+    let request = read_request(alloc, files, command)?;
+    let outcome = run_outcome(rt, alloc, &request, command.clock, command.workers, probe);
+    drop(request);
+    outcome
+}

@@ -1,0 +1,2 @@
+pub mod LeastMultiples
+mod Rises

@@ -1,0 +1,4 @@
+mod FourTests
+pub mod Spotted
+pub mod Listed
+pub mod Swaps

@@ -1,0 +1,6 @@
+-- entries that clash, and the first that do
+pub mod Overlaps
+pub mod FirstClashes
+-- what private functions say to one another
+pub mod code
+pub mod Vocabulary

@@ -1,0 +1,2 @@
+-- where entries stand in the hyperperiod
+pub mod Spots

@@ -1,6 +1,0 @@
-use Rattle.prl_tables.specs.code.Spots.{IsHighest}
-use Rattle.prl_tables.proofs.clashes.highest.Given as goal
-
--- the highest end so far
-abbrev pub invariant-loop-spot : goal.invariant-loop-spot
-invariant-loop-spot l = IsHighest l.spots l.spot-index l.high

@@ -1,0 +1,3 @@
+mod EvenUnits
+mod Jobs
+mod Served

@@ -1,0 +1,3 @@
+pub mod Early
+-- what the checks of rows keep
+pub mod Devices

@@ -1,5 +1,0 @@
-use Rattle.test_plans.specs.Devices.{AreInts}
-use Rattle.test_plans.proofs.devices.are_ints.Given as goal
-
-abbrev pub invariant-loop-value : goal.invariant-loop-value
-invariant-loop-value l = AreInts l.value-index l.values

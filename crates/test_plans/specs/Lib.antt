@@ -1,2 +1,0 @@
--- what the checks of rows keep
-pub mod Devices

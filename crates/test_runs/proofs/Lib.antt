@@ -1,2 +1,0 @@
-mod EvenUnits
-mod Jobs

@@ -1,5 +1,0 @@
-use Rattle.prl_track.specs.Machine.{Drives}
-use Rattle.test_runs.proofs.machines.play.Given as goal
-
-abbrev pub invariant-loop-k : goal.invariant-loop-k
-invariant-loop-k l = Drives l.core.plan 1 0
