@@ -121,17 +121,6 @@ pub enum WordsFault {
     Memory,
 }
 
-impl From<AllocError> for WordsFault {
-    ghost use Rattle.std.specs.Prelude.{◌≡◌};
-    ghost use Rattle.prl_arguments.specs.declared.arguments.WordsFault.TheVariants.{Memory};
-
-    ghost from_gives = { λ _ e. e ≡ Memory };
-
-    fn from(_error: AllocError) -> WordsFault {
-        WordsFault::Memory
-    }
-}
-
 /// The values of options, where they are given, in the order of `SETTINGS`.
 #[derive(Clone, Copy)]
 struct Given<'a> {
@@ -560,19 +549,11 @@ fn labels_of(
     Ok((first, second, third))
 }
 
-/// The command that the words of a command line ask for. The first word is the program's own name, which is passed over, and
-/// the second is the mode. After it come the options, in whatever order and none twice: all that the mode needs, and any
-/// of those that it may have. The value of an option stands in the next word, or in its own word after `=`; it is not
-/// empty, and `-` is not its first byte. A number has 1 to 20 digits: a date is at most `MAX_UNTIL`, workers are 1 to
-/// `MAX_WORKERS`, a size is 1 to `MAX_SIZE`, and a seed is below 2^64. A clock is `gated` or `free`.
-pub fn read_words(alloc: Global, words: &[String]) -> Result<Command, WordsFault>
-    ensures found { IfOk result (λ command. command_of (map string_bytes words.now) ≡ Some command) }
-    ensures range { IfOk result (λ command. AreInRange command.mode command.until command.workers command.size) }
-    ensures refused { result ≡ Err WordsFault.Refused → command_of (map string_bytes words.now) ≡ None }
+/// The command of what words give.
+fn commanded(alloc: Global, wanted: Wanted<'_>) -> Result<Command, AllocError>
+    requires { AreInRange wanted.mode wanted.until wanted.workers wanted.size }
+    ensures { IfOk result (λ command. command ≡ wanted_command wanted.entry) }
 {
-    let Some(wanted) = read_command(alloc, words)? else {
-        return Err(WordsFault::Refused);
-    };
     let given = wanted.given;
     let sources = labels_of(
         alloc,
@@ -604,4 +585,24 @@ pub fn read_words(alloc: Global, words: &[String]) -> Result<Command, WordsFault
         seed: wanted.seed,
         size: wanted.size as u32,
     })
+}
+
+/// The command that the words of a command line ask for. The first word is the program's own name, which is passed over, and
+/// the second is the mode. After it come the options, in whatever order and none twice: all that the mode needs, and any
+/// of those that it may have. The value of an option stands in the next word, or in its own word after `=`; it is not
+/// empty, and `-` is not its first byte. A number has 1 to 20 digits: a date is at most `MAX_UNTIL`, workers are 1 to
+/// `MAX_WORKERS`, a size is 1 to `MAX_SIZE`, and a seed is below 2^64. A clock is `gated` or `free`.
+pub fn read_words(alloc: Global, words: &[String]) -> Result<Command, WordsFault>
+    ensures found { IfOk result (λ command. command_of (map string_bytes words.now) ≡ Some command) }
+    ensures range { IfOk result (λ command. AreInRange command.mode command.until command.workers command.size) }
+    ensures refused { result ≡ Err WordsFault.Refused → command_of (map string_bytes words.now) ≡ None }
+{
+    match read_command(alloc, words) {
+        Ok(None) => Err(WordsFault::Refused),
+        Ok(Some(wanted)) => match commanded(alloc, wanted) {
+            Ok(command) => Ok(command),
+            Err(_) => Err(WordsFault::Memory),
+        },
+        Err(_) => Err(WordsFault::Memory),
+    }
 }

@@ -27,7 +27,7 @@ flow_at_place P k (g ∷ fs) zero j f h e at =
     (subst (λ m. AllByRecursion P (flow_rules m g)) number (all_first P (flow_rules k g) (flows_rules (k + 1) fs) h))
 flow_at_place P k (g ∷ fs) (suc i) j f h e at = flow_at_place P (k + 1) fs i j f (all_second P (flow_rules k g) (flows_rules (k + 1) fs) h) e (omega (arith, at))
 
-app_at_place : (P : Rule ℕ ℕ → Type 0) (k : ℕ) (us : List App) (i j : ℕ) (u : App) → AllByRecursion P (apps_rules k us) → slice_get us i ≡ Some u → j ≡ k + i → P (app_rule j u)
+pub app_at_place : (P : Rule ℕ ℕ → Type 0) (k : ℕ) (us : List App) (i j : ℕ) (u : App) → AllByRecursion P (apps_rules k us) → slice_get us i ≡ Some u → j ≡ k + i → P (app_rule j u)
 app_at_place P k [] i j u h e at = absurd (cc)
 app_at_place P k (v ∷ us) zero j u h e at =
     let number : k ≡ j = omega (arith, at) in

@@ -1,7 +1,12 @@
 -- Lists that are built one element after another, and may fail.
-use Rattle.prl_base.proofs.Standard.{◌≡◌, List, [], ◌∷◌, ◌++◌, map, refl, sym, ap, ◌∙◌, append_assoc, Result, Ok, Err, append-nil, map-append}
+use Rattle.prl_base.proofs.Standard.{◌≡◌, ◌<◌, ◌+◌, ℕ, suc, List, [], ◌∷◌, ◌++◌, length, get_or, drop, drop-cons, add-one, map, refl, sym, ap, ◌∙◌, append_assoc, Result, Ok, Err}
+use Rattle.prl_base.proofs.Standard.{append-nil, map-append}
 use Rattle.prl_base.specs.Reading.{◌>>=◌}
 use Rattle.prl_body.specs.declared.faults.BodyFault.{BodyFault}
+
+-- what is left of a list, by its next element
+pub next_of : {A : Type 0} (xs : List A) (k : ℕ) (x : A) → k < length xs → x ≡ get_or xs k x → drop k xs ≡ x ∷ drop (k + 1) xs
+next_of {A} xs k x below is = rw add-one (drop-cons xs k x below ∙ ap (λ (y : A). y ∷ drop (suc k) xs) (sym is))
 
 -- a list, if there is one, after another list
 abbrev pub added_to : {A : Type 0} → List A → Result (List A) BodyFault → Result (List A) BodyFault

@@ -141,18 +141,23 @@ each_there trees (n ∷ ns) u is (suc k) name at =
     let passed = passed_ok (has_body trees n) (all_there trees ns) u (faults.Missing n) is in
     each_there trees ns u passed.1 k name at
 
+-- the bodies that all are, and those that are used are among them
+parts_of_checked : (imports : List Import) (used : List (List ℕ)) (texts : List TextTree) (trees : List BodyTree) → checked imports used texts ≡ Ok trees
+    → (checked_bodies imports [] texts ≡ Ok trees) × ((u : Unit {0}) × (all_there trees used ≡ Ok u))
+parts_of_checked imports used texts trees is =
+    let last : List BodyTree → Unit {0} → Result (List BodyTree) BodyFault = λ ts u. Ok ts in
+    let one = both_ok (checked_bodies imports [] texts) (λ ts. (all_there ts used >>= last ts)) trees is in
+    let two = both_ok (all_there one.first used) (last one.first) trees one.rest in
+    let same : one.first ≡ trees = cc (two.rest) in
+    (subst (λ ts. checked_bodies imports [] texts ≡ Ok ts) same one.is, (two.first, subst (λ ts. all_there ts used ≡ Ok two.first) same two.is))
+
 pub HaveBodiesOf_checked : (imports : List Import) (used : List (List ℕ)) (texts : List TextTree) (bodies : List CheckedBody) →
     checked imports used texts ≡ Ok (map body_tree bodies) → HaveBodiesOf imports used bodies
 HaveBodiesOf_checked imports used texts bodies is k name at =
     let trees = map body_tree bodies in
-    let last : List BodyTree → Unit {0} → Result (List BodyTree) BodyFault = λ ts u. Ok ts in
-    let from_trees : List BodyTree → Result (List BodyTree) BodyFault = λ ts. (all_there ts used >>= last ts) in
-    let one = both_ok (checked_bodies imports [] texts) from_trees trees is in
-    let two = both_ok (all_there one.first used) (last one.first) trees one.rest in
-    let same : one.first ≡ trees = cc (two.rest) in
-    let has = each_there trees used two.first (subst (λ ts. all_there ts used ≡ Ok two.first) same two.is) k name at in
-    let here = found bodies name has in
-    let of_tree = checked_trees imports [] texts trees (subst (λ ts. checked_bodies imports [] texts ≡ Ok ts) same one.is) here.at (body_tree here.body) here.tree in
+    let parts = parts_of_checked imports used texts trees is in
+    let here = found bodies name (each_there trees used parts.1.0 parts.1.1 k name at) in
+    let of_tree = checked_trees imports [] texts trees parts.0 here.at (body_tree here.body) here.tree in
     record {
       body = here.body;
       of = of_tree.of;

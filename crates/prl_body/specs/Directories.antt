@@ -7,8 +7,5 @@ pub record DirectoryView : Type 0 where
   pub imports : List Import
   pub texts : List BodyText
 
-abbrev pub import_names : List Import → List (List ℕ)
-import_names imports = map (λ (i : Import). i.name) imports
-
 abbrev pub text_names : List BodyText → List (List ℕ)
 text_names texts = map (λ (t : BodyText). t.name) texts

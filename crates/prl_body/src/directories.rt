@@ -23,8 +23,10 @@ pub struct Directory<'a> {
 }
 
 impl<'a> Model for Directory<'a> {
+    ghost use Rattle.std.specs.Prelude.{map};
+    ghost use Rattle.prl_ast.specs.declared.declarations.Import.{Import};
     ghost use Rattle.prl_names.specs.Tables.{AreIndices};
-    ghost use Rattle.prl_body.specs.Directories.{DirectoryView, import_names, text_names};
+    ghost use Rattle.prl_body.specs.Directories.{DirectoryView, text_names};
     ghost use Rattle.prl_body.specs.contracts.texts.Expr as expr;
     ghost use Rattle.std.specs.Coded.{codes};
 
@@ -34,7 +36,7 @@ impl<'a> Model for Directory<'a> {
 
     ghost view = { λ d. record { imports = d.imports.now; texts = d.texts.now } };
 
-    ghost invariant = { λ d. AreIndices d.of_imports (import_names d.imports.now) × AreIndices d.of_texts (text_names d.texts.now) };
+    ghost invariant = { λ d. AreIndices d.of_imports (map (λ (i : Import). i.name) d.imports.now) × AreIndices d.of_texts (text_names d.texts.now) };
 }
 
 impl Mentioned for BodyText {

@@ -1,5 +1,8 @@
 //! Why a text of bodies is refused.
 
+ghost use Rattle.std.specs.Prelude.{◌≡◌};
+ghost use Rattle.prl_body.specs.declared.faults.BodyFault.TheVariants.{Memory};
+
 use prl_base::{Limit, Name};
 use std::alloc::{AllocError, AllocFailed};
 
@@ -23,9 +26,6 @@ pub enum BodyFault {
 }
 
 impl From<AllocError> for BodyFault {
-    ghost use Rattle.std.specs.Prelude.{◌≡◌};
-    ghost use Rattle.prl_body.specs.declared.faults.BodyFault.TheVariants.{Memory};
-
     ghost from_gives = { λ _ e. e ≡ Memory };
 
     fn from(_error: AllocError) -> BodyFault {
@@ -34,9 +34,6 @@ impl From<AllocError> for BodyFault {
 }
 
 impl<T: Drop> From<AllocFailed<T>> for BodyFault {
-    ghost use Rattle.std.specs.Prelude.{◌≡◌};
-    ghost use Rattle.prl_body.specs.declared.faults.BodyFault.TheVariants.{Memory};
-
     ghost from_gives = { λ _ e. e ≡ Memory };
 
     fn from(_error: AllocFailed<T>) -> BodyFault {

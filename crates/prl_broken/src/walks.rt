@@ -84,9 +84,7 @@ fn act(walk: &mut Walk, plan: &Plan, task: TaskNo) -> bool
             end(walk, i);
             true
         }
-        Action::ReadConst { .. } => pass(walk, i),
-        Action::Read { .. } => pass(walk, i),
-        Action::Write { .. } => pass(walk, i),
+        Action::ReadConst { .. } | Action::Read { .. } | Action::Write { .. } => pass(walk, i),
     }
 }
 

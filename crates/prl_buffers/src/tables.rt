@@ -2,8 +2,7 @@
 
 ghost use Rattle.std.specs.Prelude.{◌≡◌, ◌+◌, ◌≤◌, ◌<◌, ◌^◌, ◌++◌, ◌∷◌, [], ℕ, Some, length, sum, IfOk, OnOk, MatchResult};
 ghost use Rattle.prl_plan.specs.CellLists.{AreCellLists, AreSums};
-ghost use Rattle.prl_plan.specs.Vocabulary.{AreLeastCells, CellLists, AreEncodedDates};
-ghost use Rattle.prl_plan.specs.Vocabulary.{IsWellFormed, AreShortGaps, AreWords};
+ghost use Rattle.prl_plan.specs.Vocabulary.{AreLeastCells, CellLists, AreEncodedDates, IsWellFormed, AreShortGaps, AreWords};
 ghost use Rattle.prl_plan.specs.declared.limits.TheConstants.{MAX_CELLS};
 ghost use Rattle.prl_buffers.specs.CellFaults.{IsCellFault};
 ghost use Rattle.prl_buffers.specs.code.Tables.{IsDated, AreListed, bases_from};
@@ -19,17 +18,6 @@ pub enum CellFault {
     /// All edges together need more than 4,096 cells.
     Limit(Limit),
     Memory,
-}
-
-impl From<AllocError> for CellFault {
-    ghost use Rattle.std.specs.Prelude.{◌≡◌};
-    ghost use Rattle.prl_buffers.specs.declared.tables.CellFault.TheVariants.{Memory};
-
-    ghost from_gives = { λ _ e. e ≡ Memory };
-
-    fn from(_error: AllocError) -> CellFault {
-        CellFault::Memory
-    }
 }
 
 /// The least number of cells of each edge, its used instances and the sums of their gaps, and how many cells there are.
@@ -148,13 +136,17 @@ pub fn cells(
         (λ c. AreLeastCells graph.now dates.now c.bases c.counts c.used × (sum c.counts ≤ MAX_CELLS) × AreShortGaps c.used)
         (IsCellFault graph.now dates.now) }
 {
-    let list = listed(alloc, graph, words, dates)?;
+    let Ok(list) = listed(alloc, graph, words, dates) else {
+        return Err(CellFault::Memory);
+    };
     if list.total > u64::from(MAX_CELLS) {
         return Err(CellFault::Limit(Limit {
             what: What::Cells,
             found: list.total,
         }));
     }
-    let numbers = numbered(alloc, list.counts.as_slice())?;
-    Ok(joined(numbers, list))
+    match numbered(alloc, list.counts.as_slice()) {
+        Ok(numbers) => Ok(joined(numbers, list)),
+        Err(_) => Err(CellFault::Memory),
+    }
 }

@@ -147,10 +147,8 @@ fn take_first(queue: &mut VecDeque<Turn>, date: u64) -> Option<u32>
         Some(first) if first == date => {}
         _ => return None,
     }
-    match queue.pop_front() {
-        Some(Reverse((_, first))) => Some(first),
-        None => None,
-    }
+    let Reverse((_, first)) = queue.pop_front()?;
+    Some(first)
 }
 
 /// Takes the heap's greatest turn out if its date is this one, where none is earlier.
@@ -166,10 +164,8 @@ fn take_top(heap: &mut BinaryHeap<Turn>, date: u64) -> Option<u32>
         Some(top) if top == date => {}
         _ => return None,
     }
-    match heap.pop() {
-        Some(Reverse((_, first))) => Some(first),
-        None => None,
-    }
+    let Reverse((_, first)) = heap.pop()?;
+    Some(first)
 }
 
 /// The shortest period of the clocks.

@@ -63,21 +63,21 @@ inside_names p (definitions.Op op of) j names = names
 used_by : (p : FlatProgram) (of : Def → Source) (i j : ℕ) (flow : Flow) → slice_get p.flows i ≡ Some flow → Names p (of flow.def) j → UsesBy p (map (λ f. of f.def) p.flows) i j
 used_by p of i j flow found names = record { source = of flow.def; found = to_map (λ f. of f.def) p.flows i flow found; names = names }
 
+-- and such a use tells the flow, which names the other
+use_by : (p : FlatProgram) (of : Def → Source) (i j : ℕ) → UsesBy p (map (λ f. of f.def) p.flows) i j → (flow : Flow) × ((slice_get p.flows i ≡ Some flow) × Names p (of flow.def) j)
+use_by p of i j u = (let at = mapped (λ f. of f.def) p.flows i u.source u.found in (at.0, (at.1, subst (λ s. Names p s j) (sym at.2) u.names)))
+
 by_now : (p : FlatProgram) (i j : ℕ) → UsesNow p i j → UsesBy p (all_undelayed p) i j
 by_now p i j u = used_by p undelayed_of i j u.flow u.found (now_names p u.flow.def j u.names)
 
 now_by : (p : FlatProgram) (i j : ℕ) → UsesBy p (all_undelayed p) i j → UsesNow p i j
-now_by p i j u =
-    let at = mapped (λ f. undelayed_of f.def) p.flows i u.source u.found in
-    record { flow = at.0; found = at.1; names = names_now p at.0.def j (subst (λ s. Names p s j) (sym at.2) u.names) }
+now_by p i j u = (let at = use_by p undelayed_of i j u in record { flow = at.0; found = at.1.0; names = names_now p at.0.def j at.1.1 })
 
 by_inside : (p : FlatProgram) (i j : ℕ) → UsesInside p i j → UsesBy p (all_inside p) i j
 by_inside p i j u = used_by p inside_of i j u.flow u.found (inside_names p u.flow.def j u.names)
 
 inside_by : (p : FlatProgram) (i j : ℕ) → UsesBy p (all_inside p) i j → UsesInside p i j
-inside_by p i j u =
-    let at = mapped (λ f. inside_of f.def) p.flows i u.source u.found in
-    record { flow = at.0; found = at.1; names = names_inside p at.0.def j (subst (λ s. Names p s j) (sym at.2) u.names) }
+inside_by p i j u = (let at = use_by p inside_of i j u in record { flow = at.0; found = at.1.0; names = names_inside p at.0.def j at.1.1 })
 
 -- a flow is on a cycle exactly where a way along either list leads back to it
 pub on_undelayed : (p : FlatProgram) (all : List Source) (i : ℕ) → all ≡ all_undelayed p → Leads (UsesBy p all) i i → IsOnCycle p i

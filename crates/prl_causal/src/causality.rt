@@ -1,17 +1,17 @@
 //! Whether a flat program has a cycle, and an order of its flows where it has none.
 
-ghost use Rattle.std.specs.Prelude.{◌≡◌, ◌<◌, ℕ, IfErr, IfOk, List, MatchOption, false, length, true};
+ghost use Rattle.std.specs.Prelude.{◌≡◌, ◌<◌, ℕ, IfErr, IfNone, IfOk, IfSome, List, MatchOption, false, length, true};
 ghost use Rattle.prl_flow.specs.declared.programs.Flow.{Flow};
 ghost use Rattle.prl_flow.specs.Uses.{HasNoCycle, IsCyclic, IsCycleLabel, IsOnCycle, IsOrder, is_made};
 ghost use Rattle.prl_causal.specs.Cycles.{IsCausalFault, IsFirst, IsFirstNamed, IsLabelOf};
 ghost use Rattle.prl_base.specs.declared.numbers.FlowNo.{FlowNo as AnyFlow};
 ghost use Rattle.prl_causal.specs.code.Parts.{IsWhole};
-ghost use Rattle.prl_causal.specs.code.Sources.{AreSources, UsesBy, all_inside, all_undelayed};
+ghost use Rattle.prl_causal.specs.code.Sources.{AreSources, AreUses, UsesBy};
 ghost use Rattle.prl_causal.specs.code.Ways.{HasWayBack};
 
 use crate::orders::order;
 use crate::searches::leads_back;
-use crate::sources::{Source, inside, undelayed};
+use crate::sources::{Source, sources};
 use prl_base::{Label, Seq};
 use prl_flow::{Flat, Order};
 use std::alloc::{AllocError, Global};
@@ -25,15 +25,12 @@ pub enum CausalFault {
     Memory,
 }
 
-impl From<AllocError> for CausalFault {
-    ghost use Rattle.std.specs.Prelude.{◌≡◌};
-    ghost use Rattle.prl_causal.specs.declared.causality.CausalFault.TheVariants.{Memory};
-
-    ghost from_gives = { λ _ e. e ≡ Memory };
-
-    fn from(_error: AllocError) -> CausalFault {
-        CausalFault::Memory
-    }
+/// A flat program, and what each of its flows uses: undelayed, and through no application.
+#[derive(Clone, Copy)]
+struct Uses<'a> {
+    flat: &'a Flat,
+    undelayed: &'a [Source],
+    inside: &'a [Source],
 }
 
 /// Whether the label is a made one.
@@ -47,42 +44,29 @@ fn is_made(label: &[u8]) -> bool
 }
 
 /// Whether the flow is on a cycle.
-fn is_on_cycle(
-    alloc: Global,
-    flat: &Flat,
-    undelayed: &[Source],
-    inside: &[Source],
-    flow: usize,
-) -> Result<bool, AllocError>
-    requires undelayed { undelayed.now ≡ all_undelayed flat.now }
-    requires inside { inside.now ≡ all_inside flat.now }
-    requires within { flow < length flat.now.flows }
-    ensures on { IfOk result (λ on. on ≡ true → IsOnCycle flat.now flow) }
-    ensures off { IfOk result (λ on. on ≡ false → IsOnCycle flat.now flow → ⊥) }
+fn is_on_cycle(alloc: Global, uses: Uses<'_>, flow: usize) -> Result<bool, AllocError>
+    requires uses { AreUses uses }
+    requires within { flow < length uses.flat.now.flows }
+    ensures on { IfOk result (λ on. on ≡ true → IsOnCycle uses.entry.flat.now flow) }
+    ensures off { IfOk result (λ on. on ≡ false → IsOnCycle uses.entry.flat.now flow → ⊥) }
 {
-    let _flows = flat.flows();
-    if leads_back(alloc, flat, undelayed, flow)? {
+    let _flows = uses.flat.flows();
+    if leads_back(alloc, uses.flat, uses.undelayed, flow)? {
         return Ok(true);
     }
-    leads_back(alloc, flat, inside, flow)
+    leads_back(alloc, uses.flat, uses.inside, flow)
 }
 
 /// The lowest flow on a cycle that has a name.
-fn first_named(
-    alloc: Global,
-    flat: &Flat,
-    undelayed: &[Source],
-    inside: &[Source],
-) -> Result<Option<usize>, AllocError>
-    requires undelayed { undelayed.now ≡ all_undelayed flat.now }
-    requires inside { inside.now ≡ all_inside flat.now }
-    ensures { IfOk result (λ found. MatchOption found ((i : ℕ) (flow : Flow) → IsCyclic flat.now i flow → is_made flow.label ≡ true) (IsFirstNamed flat.now)) }
+fn first_named(alloc: Global, uses: Uses<'_>) -> Result<Option<usize>, AllocError>
+    requires { AreUses uses }
+    ensures { IfOk result (λ found. MatchOption found ((i : ℕ) (flow : Flow) → IsCyclic uses.entry.flat.now i flow → is_made flow.label ≡ true) (IsFirstNamed uses.entry.flat.now)) }
 {
-    for (i, flow) in flat.flows().iter().enumerate() {
+    for (i, flow) in uses.flat.flows().iter().enumerate() {
         if is_made(flow.label.bytes()) {
             continue;
         }
-        if is_on_cycle(alloc, flat, undelayed, inside, i)? {
+        if is_on_cycle(alloc, uses, i)? {
             return Ok(Some(i));
         }
     }
@@ -90,18 +74,12 @@ fn first_named(
 }
 
 /// The lowest flow on a cycle.
-fn first(
-    alloc: Global,
-    flat: &Flat,
-    undelayed: &[Source],
-    inside: &[Source],
-) -> Result<Option<usize>, AllocError>
-    requires undelayed { undelayed.now ≡ all_undelayed flat.now }
-    requires inside { inside.now ≡ all_inside flat.now }
-    ensures { IfOk result (λ found. MatchOption found ((i : ℕ) (flow : Flow) → IsCyclic flat.now i flow → ⊥) (IsFirst flat.now)) }
+fn first(alloc: Global, uses: Uses<'_>) -> Result<Option<usize>, AllocError>
+    requires { AreUses uses }
+    ensures { IfOk result (λ found. MatchOption found ((i : ℕ) (flow : Flow) → IsCyclic uses.entry.flat.now i flow → ⊥) (IsFirst uses.entry.flat.now)) }
 {
-    for i in 0..flat.flows().len() {
-        if is_on_cycle(alloc, flat, undelayed, inside, i)? {
+    for i in 0..uses.flat.flows().len() {
+        if is_on_cycle(alloc, uses, i)? {
             return Ok(Some(i));
         }
     }
@@ -117,34 +95,27 @@ fn label_of(alloc: Global, flat: &Flat, flow: usize) -> Result<Label, AllocError
 }
 
 /// The label that tells of a cycle.
-fn cycle_label(
-    alloc: Global,
-    flat: &Flat,
-    undelayed: &[Source],
-    inside: &[Source],
-) -> Result<Label, AllocError>
-    requires undelayed { undelayed.now ≡ all_undelayed flat.now }
-    requires inside { inside.now ≡ all_inside flat.now }
-    requires cycle { (i : ℕ) × IsOnCycle flat.now i }
-    ensures { IfOk result (IsCycleLabel flat.now) }
+fn cycle_label(alloc: Global, uses: Uses<'_>) -> Result<Label, AllocError>
+    requires uses { AreUses uses }
+    requires cycle { (i : ℕ) × IsOnCycle uses.flat.now i }
+    ensures { IfOk result (IsCycleLabel uses.entry.flat.now) }
 {
-    match first_named(alloc, flat, undelayed, inside)? {
-        Some(flow) => label_of(alloc, flat, flow),
-        None => match first(alloc, flat, undelayed, inside)? {
-            Some(flow) => label_of(alloc, flat, flow),
+    match first_named(alloc, uses)? {
+        Some(flow) => label_of(alloc, uses.flat, flow),
+        None => match first(alloc, uses)? {
+            Some(flow) => label_of(alloc, uses.flat, flow),
             None => unreachable!(),
         },
     }
 }
 
 /// The fault of a program that has a cycle.
-fn cycle_fault(alloc: Global, flat: &Flat, undelayed: &[Source], inside: &[Source]) -> CausalFault
-    requires undelayed { undelayed.now ≡ all_undelayed flat.now }
-    requires inside { inside.now ≡ all_inside flat.now }
-    requires cycle { (i : ℕ) × IsOnCycle flat.now i }
-    ensures { IsCausalFault flat.now result }
+fn cycle_fault(alloc: Global, uses: Uses<'_>) -> CausalFault
+    requires uses { AreUses uses }
+    requires cycle { (i : ℕ) × IsOnCycle uses.flat.now i }
+    ensures { IsCausalFault uses.entry.flat.now result }
 {
-    match cycle_label(alloc, flat, undelayed, inside) {
+    match cycle_label(alloc, uses) {
         Ok(label) => CausalFault::Cycle(label),
         Err(_) => CausalFault::Memory,
     }
@@ -163,27 +134,21 @@ fn has_order(alloc: Global, flat: &Flat, sources: &[Source]) -> Result<bool, All
 }
 
 /// An order of the flows by what they use undelayed, where there is no cycle of either kind.
-fn ordered(
-    alloc: Global,
-    flat: &Flat,
-    undelayed: &[Source],
-    inside: &[Source],
-) -> Result<Order, CausalFault>
-    requires undelayed { undelayed.now ≡ all_undelayed flat.now }
-    requires inside { inside.now ≡ all_inside flat.now }
-    ensures order { IfOk result (λ order. IsOrder flat.now order.flows) }
-    ensures acyclic { IfOk result (λ order. HasNoCycle flat.now) }
-    ensures fault { IfErr result (IsCausalFault flat.now) }
+fn ordered(alloc: Global, uses: Uses<'_>) -> Result<Option<Order>, AllocError>
+    requires { AreUses uses }
+    ensures order { IfOk result (λ found. IfSome found (λ order. IsOrder uses.entry.flat.now order.flows)) }
+    ensures acyclic { IfOk result (λ found. IfSome found (λ _. HasNoCycle uses.entry.flat.now)) }
+    ensures cycle { IfOk result (λ found. IfNone found ((i : ℕ) × IsOnCycle uses.entry.flat.now i)) }
 {
-    let _flows = flat.flows();
-    if !has_order(alloc, flat, inside)? {
-        return Err(cycle_fault(alloc, flat, undelayed, inside));
+    let _flows = uses.flat.flows();
+    if !has_order(alloc, uses.flat, uses.inside)? {
+        return Ok(None);
     }
-    match order(alloc, flat, undelayed)? {
-        Some(flows) => Ok(Order {
+    match order(alloc, uses.flat, uses.undelayed)? {
+        Some(flows) => Ok(Some(Order {
             flows: Seq::new(flows),
-        }),
-        None => Err(cycle_fault(alloc, flat, undelayed, inside)),
+        })),
+        None => Ok(None),
     }
 }
 
@@ -194,7 +159,17 @@ pub fn causal(alloc: Global, flat: &Flat) -> Result<Order, CausalFault>
     ensures acyclic { IfOk result (λ order. HasNoCycle flat.now) }
     ensures fault { IfErr result (IsCausalFault flat.now) }
 {
-    let undelayed = undelayed(alloc, flat)?;
-    let inside = inside(alloc, flat)?;
-    ordered(alloc, flat, undelayed.as_slice(), inside.as_slice())
+    let Ok((undelayed, inside)) = sources(alloc, flat) else {
+        return Err(CausalFault::Memory);
+    };
+    let uses = Uses {
+        flat,
+        undelayed: undelayed.as_slice(),
+        inside: inside.as_slice(),
+    };
+    match ordered(alloc, uses) {
+        Ok(Some(order)) => Ok(order),
+        Ok(None) => Err(cycle_fault(alloc, uses)),
+        Err(_) => Err(CausalFault::Memory),
+    }
 }

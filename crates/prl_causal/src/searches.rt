@@ -2,7 +2,7 @@
 
 ghost use Rattle.std.specs.Prelude.{◌≡◌, ◌<◌, [], IfOk, false, length, true};
 ghost use Rattle.prl_flow.specs.Uses.{IsArgument, Leads};
-ghost use Rattle.prl_causal.specs.code.Searches.{Adds, AreOpened, IsList};
+ghost use Rattle.prl_causal.specs.code.Searches.{Adds, AreOpened, IsList, IsSearch};
 ghost use Rattle.prl_causal.specs.code.Sources.{AreSources, AreWithin, IsAmong, IsSource, Names, UsesBy};
 
 use crate::sources::{Source, arguments};
@@ -45,11 +45,8 @@ fn reach_arguments(
     marks: &mut [bool],
     opened: &mut [bool],
 ) -> Result<(), AllocError>
-    requires list { IsList reached.old.items marks.old }
-    requires len { length marks.old ≡ length flat.now.flows }
+    requires search { IsSearch flat.now reached.old.items marks.old opened.old }
     requires within { app < length flat.now.apps }
-    requires apps { length opened.old ≡ length flat.now.apps }
-    requires opened { AreOpened flat.now marks.old opened.old }
     ensures adds { IfOk result (λ done. Adds (IsArgument flat.now app) reached.old.items reached.new.items marks.old marks.new) }
     ensures opened { IfOk result (λ done. AreOpened flat.now marks.new opened.new) }
 {
@@ -69,11 +66,8 @@ fn reach_used(
     marks: &mut [bool],
     opened: &mut [bool],
 ) -> Result<(), AllocError>
-    requires list { IsList reached.old.items marks.old }
-    requires len { length marks.old ≡ length flat.now.flows }
+    requires search { IsSearch flat.now reached.old.items marks.old opened.old }
     requires there { IsSource flat.now source.now }
-    requires apps { length opened.old ≡ length flat.now.apps }
-    requires opened { AreOpened flat.now marks.old opened.old }
     ensures adds { IfOk result (λ done. Adds (Names flat.now source.now) reached.old.items reached.new.items marks.old marks.new) }
     ensures opened { IfOk result (λ done. AreOpened flat.now marks.new opened.new) }
 {

@@ -21,9 +21,8 @@ fn undelayed_of(def: &Def) -> Source
     ensures { result ≡ undelayed_of def.now }
 {
     match def {
-        Def::Sensor(_) => Source::Nothing,
+        Def::Sensor(_) | Def::Const(_) => Source::Nothing,
         Def::Copy(of) => Source::Flow(*of),
-        Def::Const(_) => Source::Nothing,
         Def::Apply { app, .. } => Source::Arguments(*app),
         Def::Op { op, of } => {
             if op.delays() {
@@ -40,16 +39,13 @@ fn inside_of(def: &Def) -> Source
     ensures { result ≡ inside_of def.now }
 {
     match def {
-        Def::Sensor(_) => Source::Nothing,
-        Def::Copy(of) => Source::Flow(*of),
-        Def::Const(_) => Source::Nothing,
-        Def::Apply { .. } => Source::Nothing,
-        Def::Op { of, .. } => Source::Flow(*of),
+        Def::Sensor(_) | Def::Const(_) | Def::Apply { .. } => Source::Nothing,
+        Def::Copy(of) | Def::Op { of, .. } => Source::Flow(*of),
     }
 }
 
 /// What each flow uses undelayed.
-pub fn undelayed(alloc: Global, flat: &Flat) -> Result<Vec<Source>, AllocError>
+fn undelayed(alloc: Global, flat: &Flat) -> Result<Vec<Source>, AllocError>
     ensures { IfOk result (λ sources. sources.items ≡ all_undelayed flat.now) }
 {
     flat.flows()
@@ -58,14 +54,18 @@ pub fn undelayed(alloc: Global, flat: &Flat) -> Result<Vec<Source>, AllocError>
         .collect(alloc)
 }
 
-/// What each flow uses, delayed or not, and not through an application.
-pub fn inside(alloc: Global, flat: &Flat) -> Result<Vec<Source>, AllocError>
-    ensures { IfOk result (λ sources. sources.items ≡ all_inside flat.now) }
+/// What each flow uses: undelayed, and, delayed or not, not through an application.
+pub fn sources(alloc: Global, flat: &Flat) -> Result<(Vec<Source>, Vec<Source>), AllocError>
+    ensures undelayed { IfOk result (λ both. both.0.items ≡ all_undelayed flat.now) }
+    ensures inside { IfOk result (λ both. both.1.items ≡ all_inside flat.now) }
 {
-    flat.flows()
+    let undelayed = undelayed(alloc, flat)?;
+    let flows = flat.flows();
+    let inside = flows
         .iter()
         .map(|flow| inside_of(&flow.def))
-        .collect(alloc)
+        .collect(alloc)?;
+    Ok((undelayed, inside))
 }
 
 /// The arguments of the application of this number.

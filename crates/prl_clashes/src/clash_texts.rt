@@ -4,21 +4,20 @@ ghost use Rattle.std.specs.Prelude.{◌≡◌, ◌++◌, OnOk};
 ghost use Rattle.prl_clashes.specs.ClashTexts.{clash_text, clock_text, ended_text, from_text, led_text, period_text, rate_in, rate_text, rate_told, route_text, start_text, way_text};
 
 use crate::clashes::Clash;
-use crate::hop_texts::{label_of, push_hops, push_quoted};
+use crate::hop_texts::{label_of, push_factor, push_hops, push_quoted};
 use crate::ways::Way;
 use prl_ast::Rate;
-use prl_base::{push_number, push_ratio};
+use prl_base::push_ratio;
 use prl_clock::Timing;
 use prl_flow::Flat;
 use std::alloc::AllocError;
 
 /// Appends a declared rate.
-#[tactic(auto, unfolding(crate::specs::ClashTexts::rate_text))]
+#[tactic(auto, unfolding(crate::specs::ClashTexts::factor_text, crate::specs::ClashTexts::rate_text))]
 fn push_rate(text: &mut Vec<u8>, rate: Rate) -> Result<(), AllocError>
     ensures { OnOk result (text.new.items ≡ text.old.items ++ rate_text rate) }
 {
-    text.extend_from_slice(b" of rate (")?;
-    push_number(text, u64::from(rate.period))?;
+    push_factor(text, b" of rate (", rate.period)?;
     text.extend_from_slice(b", ")?;
     push_ratio(text, rate.phase)?;
     text.extend_from_slice(b")")

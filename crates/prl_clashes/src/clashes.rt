@@ -17,6 +17,9 @@ pub struct Clash {
     pub other: Way,
 }
 
+/// A clash where one is found, or want of memory.
+type Found = Result<Option<Clash>, AllocError>;
+
 /// A way to a flow by the constraints of a bound.
 fn way_within(
     alloc: Global,
@@ -73,7 +76,7 @@ fn clash_of(flat: &Flat, at: u32, flow: u32, one: Option<Way>, other: Option<Way
 }
 
 /// The clash of a flow's declared rate with the constraints before it.
-fn rate_clash(alloc: Global, flat: &Flat, at: u32, flow: u32) -> Result<Option<Clash>, AllocError>
+fn rate_clash(alloc: Global, flat: &Flat, at: u32, flow: u32) -> Found
     ensures { IfOk result (λ found. IfSome found (IsClash flat.now at)) }
 {
     let bound = Bound {
@@ -87,13 +90,7 @@ fn rate_clash(alloc: Global, flat: &Flat, at: u32, flow: u32) -> Result<Option<C
 }
 
 /// The clash of the constraint by which a flow is over another one with those before it.
-fn link_clash(
-    alloc: Global,
-    flat: &Flat,
-    at: u32,
-    bound: Bound<'_>,
-    operand: u32,
-) -> Result<Option<Clash>, AllocError>
+fn link_clash(alloc: Global, flat: &Flat, at: u32, bound: Bound<'_>, operand: u32) -> Found
     ensures { IfOk result (λ found. IfSome found (IsClash flat.now at)) }
 {
     let one = way_within(alloc, flat, bound, bound.flow)?;
@@ -102,12 +99,7 @@ fn link_clash(
 }
 
 /// The clash of a flow's definition by a copy, an operator or a later output.
-fn operand_clash(
-    alloc: Global,
-    flat: &Flat,
-    at: u32,
-    flow: u32,
-) -> Result<Option<Clash>, AllocError>
+fn operand_clash(alloc: Global, flat: &Flat, at: u32, flow: u32) -> Found
     ensures { IfOk result (λ found. IfSome found (IsClash flat.now at)) }
 {
     let Some(operand) = operand_of(flat, flow) else {
@@ -122,12 +114,7 @@ fn operand_clash(
 }
 
 /// The clash of the first argument at this byte that clashes with those before it.
-fn argument_clash(
-    alloc: Global,
-    flat: &Flat,
-    at: u32,
-    flow: u32,
-) -> Result<Option<Clash>, AllocError>
+fn argument_clash(alloc: Global, flat: &Flat, at: u32, flow: u32) -> Found
     ensures { IfOk result (λ found. IfSome found (IsClash flat.now at)) }
 {
     let args = arguments_of(flat, flow);
@@ -148,7 +135,7 @@ fn argument_clash(
 }
 
 /// The clash of a flow: of its rate, of its definition, or of an argument.
-fn clash_in(alloc: Global, flat: &Flat, at: u32, flow: u32) -> Result<Option<Clash>, AllocError>
+fn clash_in(alloc: Global, flat: &Flat, at: u32, flow: u32) -> Found
     ensures { IfOk result (λ found. IfSome found (IsClash flat.now at)) }
 {
     if let Some(clash) = rate_clash(alloc, flat, at, flow)? {

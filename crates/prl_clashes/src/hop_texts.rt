@@ -39,9 +39,9 @@ pub(crate) fn push_quoted(text: &mut Vec<u8>, front: &[u8], word: &[u8]) -> Resu
     text.extend_from_slice(b"`")
 }
 
-/// Appends an operator with a factor.
+/// Appends words and a number.
 #[tactic(auto, unfolding(crate::specs::ClashTexts::factor_text))]
-fn push_factor(text: &mut Vec<u8>, front: &[u8], factor: u32) -> Result<(), AllocError>
+pub(crate) fn push_factor(text: &mut Vec<u8>, front: &[u8], factor: u32) -> Result<(), AllocError>
     ensures { OnOk result (text.new.items ≡ text.old.items ++ factor_text front.now factor) }
 {
     text.extend_from_slice(front)?;

@@ -93,50 +93,43 @@ left_back : (a b m : ℤ) → up ((b +ℤ pos 0) -ℤ (a +ℤ ((b -ℤ a) -ℤ m
 left_back a b m = omega (arith, ints)
 
 module _ (q : Timing) (link : IsLink q) (x y : Point) (sx : 1 ≤ x.period) (sy : 1 ≤ y.period) where
+  -- the factors of the two points, the starts that they give, and how far these are to be apart
+  abbrev first : ℕ
+  first = link.num * y.period * q.start.den
+
+  abbrev second : ℕ
+  second = q.period.den * x.period * q.start.den
+
+  abbrev one : ℤ
+  one = pos first *ℤ x.start
+
+  abbrev other : ℤ
+  other = pos second *ℤ y.start
+
+  abbrev apart : ℤ
+  apart = q.start.num *ℤ pos (q.period.den * x.period * y.period)
+
+  some_first : 1 ≤ first
+  some_first = positive (link.num * y.period) q.start.den (positive link.num y.period link.some sy) link.parts.start
+
+  some_second : 1 ≤ second
+  some_second = positive (q.period.den * x.period) q.start.den (positive q.period.den x.period link.parts.period sx) link.parts.start
+
+  over_by : (l r : ℤ) → up ((one +ℤ l) -ℤ (other +ℤ r)) + down apart ≡ down ((one +ℤ l) -ℤ (other +ℤ r)) + up apart → IsOver q (scaled first l x) (scaled second r y)
+  over_by l r e =
+      let E : ℕ = q.start.den in
+      let product = product_is q.start.num (pos (q.period.den * x.period * y.period)) in
+      record {
+        period = ap (λ n. n *ℤ pos (second * y.period)) link.is ∙ ap pos (omega arith);
+        start = ratio_in q.start ((one +ℤ l) -ℤ (other +ℤ r)) (second * y.period) (omega (arith, times E _ _ e, times E _ _ product.0, times E _ _ product.1));
+      }
+
   pub bridge : IsBridge q x y
   bridge =
-      let a : ℕ = link.num in
-      let D : ℕ = q.period.den in
-      let E : ℕ = q.start.den in
-      let p : ℕ = a * y.period * E in
-      let k : ℕ = D * x.period * E in
-      let m : ℤ = q.start.num *ℤ pos (D * x.period * y.period) in
-      let A : ℤ = pos p *ℤ x.start in
-      let B : ℤ = pos k *ℤ y.start in
-      record {
-        first = p;
-        second = k;
-        offset = (B -ℤ A) +ℤ m;
-        some_first = positive (a * y.period) E (positive a y.period link.some sy) link.parts.start;
-        some_second = positive (D * x.period) E (positive D x.period link.parts.period sx) link.parts.start;
-        over = record {
-          period = ap (λ n. n *ℤ pos (k * y.period)) link.is ∙ ap pos (omega arith);
-          start =
-              ratio_in q.start ((A +ℤ ((B -ℤ A) +ℤ m)) -ℤ (B +ℤ pos 0)) (k * y.period)
-              (omega (arith, times E _ _ (left_over A B m), times E _ _ (product_is q.start.num (pos (D * x.period * y.period))).0, times E _ _ (product_is q.start.num (pos (D * x.period * y.period))).1));
-        };
-      }
+      let d : ℤ = (other -ℤ one) +ℤ apart in
+      record { first = first; second = second; offset = d; some_first = some_first; some_second = some_second; over = over_by d (pos 0) (left_over one other apart) }
 
   pub bridge_back : IsBridgeBack q x y
   bridge_back =
-      let a : ℕ = link.num in
-      let D : ℕ = q.period.den in
-      let E : ℕ = q.start.den in
-      let p : ℕ = D * x.period * E in
-      let k : ℕ = a * y.period * E in
-      let m : ℤ = q.start.num *ℤ pos (D * x.period * y.period) in
-      let A : ℤ = pos p *ℤ y.start in
-      let B : ℤ = pos k *ℤ x.start in
-      record {
-        first = k;
-        second = p;
-        offset = (B -ℤ A) -ℤ m;
-        some_first = positive (a * y.period) E (positive a y.period link.some sy) link.parts.start;
-        some_second = positive (D * x.period) E (positive D x.period link.parts.period sx) link.parts.start;
-        over = record {
-          period = ap (λ n. n *ℤ pos (p * y.period)) link.is ∙ ap pos (omega arith);
-          start =
-              ratio_in q.start ((B +ℤ pos 0) -ℤ (A +ℤ ((B -ℤ A) -ℤ m))) (p * y.period)
-              (omega (arith, times E _ _ (left_back A B m), times E _ _ (product_is q.start.num (pos (D * x.period * y.period))).0, times E _ _ (product_is q.start.num (pos (D * x.period * y.period))).1));
-        };
-      }
+      let d : ℤ = (one -ℤ other) -ℤ apart in
+      record { first = first; second = second; offset = d; some_first = some_first; some_second = some_second; over = over_by (pos 0) d (left_back other one apart) }

@@ -77,15 +77,15 @@ module _ (cs : List Placed) (st : List Standing) (high low : Standing) (w : Timi
     pub joined_none : high.clock ≡ None → low.clock ≡ None → IsSolved cs mid
     joined_none = moved_solved cs st high low w m shift shift_small composed mid all
 
-    pub joined_past : (c : Timing) → IsSmallTiming c → IsLowClock high low w c → IsOnePast low.root c mid → Passes cs
-    joined_past c small is one =
-        timed_passes cs mid (moved_are cs st high low w m shift shift_small composed mid all) one.flow c (small_parts _ small)
-        (λ s k. let P : ℕ → Type 0 = λ y. IsOver c (s.flow y) (tick s) in subst P (sym one.is) (clock_over c small is s k)) one.past
+    pub joined_past : (c : Timing) → IsSmallTiming c × IsLowClock high low w c → IsOnePast low.root c mid → Passes cs
+    joined_past c its one =
+        timed_passes cs mid (moved_are cs st high low w m shift shift_small composed mid all) one.flow c (small_parts _ its.0)
+        (λ s k. let P : ℕ → Type 0 = λ y. IsOver c (s.flow y) (tick s) in subst P (sym one.is) (clock_over c its.0 its.1 s k)) one.past
 
-    pub joined_some : (c : Timing) → IsSmallTiming c → IsLowClock high low w c → (new : List Standing) → length new ≡ length mid → AreTimed low.root c mid new → IsSolved cs new
-    joined_some c small is new same timed =
+    pub joined_some : (c : Timing) → IsSmallTiming c × IsLowClock high low w c → (new : List Standing) → length new ≡ length mid → AreTimed low.root c mid new → IsSolved cs new
+    joined_some c its new same timed =
         let l : low.root < length mid = let a = m.joint.lower in let b = high_within in omega (arith, a, b, len) in
-        timed_solved cs mid new low.root c (moved_open cs st high low w m shift shift_small composed mid all) small (clock_over c small is)
+        timed_solved cs mid new low.root c (moved_open cs st high low w m shift shift_small composed mid all) its.0 (clock_over c its.0 its.1)
         (timed_everywhere low.root c mid new same l timed)
 
 pub low_none : (high low : Standing) (w : Timing) (o : Option Timing) → o ≡ None → LowClock high low w o → (high.clock ≡ None) × (low.clock ≡ None)

@@ -31,14 +31,14 @@ pub one_less : (old now : List Standing) (i : ℕ) (new : Standing) → ((k : �
     → ((k : ℕ) → i + 1 ≤ k → standing_at (set now i new) k ≡ standing_at old k)
 one_less old now i new left k h = set_other now i k new (omega arith) ∙ left k (omega arith)
 
--- the item that is read, where the standings from it on are as they were
-pub item_was : (old now : List Standing) (i : ℕ) (d : Standing) → i < length now → ((k : ℕ) → i ≤ k → standing_at now k ≡ standing_at old k) → standing_at old i ≡ get_or now i d
-item_was old now i d here left = sym (left i (omega arith)) ∙ item_is now i d here
-
-pub one_past_at : (st : List Standing) (root i : ℕ) (q : Timing) (s : Standing) → i < length st → standing_at st i ≡ s → (s.root ≡ root) × IsComposedPast s.over q → IsOnePast root q st
-one_past_at st root i q s within e past = record {
-  flow = i;
-  within = within;
-  is = ap (λ (x : Standing). x.root) e ∙ past.0;
-  past = let P : Standing → Type 0 = λ x. IsComposedPast x.over q in subst P (sym e) past.1;
-}
+-- the item that is read goes past, where the standings from it on are as they were
+pub one_past_at : (old now : List Standing) (root i : ℕ) (q : Timing) (d : Standing) → i < length old → i < length now → ((k : ℕ) → i ≤ k → standing_at now k ≡ standing_at old k)
+    → ((get_or now i d).root ≡ root) × IsComposedPast (get_or now i d).over q → IsOnePast root q old
+one_past_at old now root i q d within here left past =
+    let was : standing_at old i ≡ get_or now i d = sym (left i (omega arith)) ∙ item_is now i d here in
+    record {
+      flow = i;
+      within = within;
+      is = ap (λ (x : Standing). x.root) was ∙ past.0;
+      past = let P : Standing → Type 0 = λ x. IsComposedPast x.over q in subst P (sym was) past.1;
+    }

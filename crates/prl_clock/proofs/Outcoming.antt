@@ -40,8 +40,8 @@ module _ (cs : List Placed) (st : List Standing) (high low : Standing) (w : Timi
     with_clock : (c : Timing) → IsSmallTiming c → IsLowClock high low w c → ((new : List Standing) × (length new ≡ length st) × IsSolved cs new) ⊎ Passes cs
     with_clock c c_small is =
         elim (timed_total mid mid_parts low.root c (small_parts _ c_small)) [
-          | inr past ↦ inr (joined_past cs st high low w m shift small composed mid len moved c c_small is past)
-          | inl r ↦ inl (r.0, r.1 ∙ len, joined_some cs st high low w m shift small composed mid len moved c c_small is r.0 r.1 r.2)
+          | inr past ↦ inr (joined_past cs st high low w m shift small composed mid len moved c (c_small, is) past)
+          | inl r ↦ inl (r.0, r.1 ∙ len, joined_some cs st high low w m shift small composed mid len moved c (c_small, is) r.0 r.1 r.2)
         ]
 
     finished : ((new : List Standing) × (length new ≡ length st) × IsSolved cs new) ⊎ Passes cs

@@ -85,16 +85,13 @@ module _ (cs : List Placed) where
       (only (pos (s.0.flow i).period) s.0.unit f h s.0.some x.0 y.0, only ((s.0.flow i).start -ℤ pos 0) s.0.unit g k s.0.some x.1 y.1)
 
 -- a clock is whole
-whole_form : (c x u : ℕ) → x ≡ c * u → IsReducedForm (pos x) (pos u) (over_one c)
+pub whole_form : (c x u : ℕ) → x ≡ c * u → IsReducedForm (pos x) (pos u) (over_one c)
 whole_form c x u e = record { positive = omega arith; reduced = (one-dvd c, one-dvd 1, λ d p q. q); equal = ap pos (omega (arith, e)) }
 
-whole_start : (c u : ℕ) (x : ℤ) → x ≡ pos (c * u) → IsReducedForm (x -ℤ pos 0) (pos u) (over_one c)
+pub whole_start : (c u : ℕ) (x : ℤ) → x ≡ pos (c * u) → IsReducedForm (x -ℤ pos 0) (pos u) (over_one c)
 whole_start c u x e =
-    let P : ℤ → Type 0 = λ y. IsReducedForm y (pos u) (over_one c) in
-    subst P (sym (from_zero x ∙ e)) (record { positive = omega arith; reduced = (one-dvd c, one-dvd 1, λ d p q. q); equal = ap pos (omega arith) })
-  where
-    from_zero : (z : ℤ) → z -ℤ pos 0 ≡ z
-    from_zero z = omega (arith, ints)
+    let whole : x -ℤ pos 0 ≡ pos (c * u) = omega (arith, ints, e) in
+    subst (λ (y : ℤ). IsReducedForm y (pos u) (over_one c)) (sym whole) (whole_form c (c * u) u refl)
 
 module _ (p : FlatProgram) (clocks : List Clock) (o : AreOnlyClocks p clocks) where
   given_determined : (i : ℕ) → i < length p.flows → IsDetermined (constraints_of p) i

@@ -1,6 +1,6 @@
 -- Lists of constraints, taken from their front.
 use Rattle.prl_base.proofs.Standard.{◌≡◌, ◌≤◌, ◌<◌, ◌+◌, ◌++◌, ◌∷◌, inl, inr, ℕ, zero, suc, List, [], length, map, take, drop, get_or, Option, Some, Result, Ok, Err, refl, sym, ap, ◌∙◌, subst, arith}
-use Rattle.prl_base.proofs.Standard.{append_assoc, add-one, IfErr, IsErrAnd, OnOk, slice_get, cases_lt, append-nil, take-append_seam}
+use Rattle.prl_base.proofs.Standard.{append_assoc, add-one, slice_get_read, IfErr, IsErrAnd, OnOk, slice_get, cases_lt, append-nil, take-append_seam}
 use Rattle.prl_flow.specs.Programs.{FlatProgram}
 use Rattle.prl_flow.specs.declared.programs.App.{App}
 use Rattle.prl_flow.specs.declared.programs.Flow.{Flow}
@@ -12,6 +12,12 @@ use Rattle.prl_clock.proofs.Fine.{stopped_later, stopped_within}
 pub if_err_same : {T E : Type 0} (r : Result T E) (P : E → Type 0) (f : E) → IsErrAnd r (λ e. e ≡ f) → P f → IfErr r P
 if_err_same (Ok x) P f l p = tt
 if_err_same (Err e) P f l p = subst P (sym l) p
+
+-- an element that is read of a slice of the list stands in the list
+pub found_at : {A : Type 0} (xs ys : List A) (k : ℕ) (x : A) → ys ≡ xs → k < length xs → x ≡ get_or ys k x → slice_get xs k ≡ Some x
+found_at xs ys k x e within is =
+    let here : k < length ys = let l = ap length e in omega (arith, l, within) in
+    subst (λ l. slice_get l k ≡ Some x) e (slice_get_read ys (length ys) k x refl here is)
 
 push_taken : {A B : Type 0} (f : A → B) (xs : List A) (i : ℕ) (d : A) → i < length xs → map f (take (suc i) xs) ≡ map f (take i xs) ++ f (get_or xs i d) ∷ []
 push_taken f [] i d h = absurd (omega arith)

@@ -6,6 +6,7 @@ ghost use Rattle.prl_clock.specs.Outcomes.{AreOnlyClocks, IsClockFault, IsWhole}
 ghost use Rattle.prl_clock.specs.code.Finishing.{IsFirstFree, IsLabelOf, IsWholeClock};
 ghost use Rattle.prl_clock.specs.code.Progress.{IsReached};
 ghost use Rattle.prl_clock.specs.code.Standings.{HasClock};
+ghost use Rattle.prl_clock.specs.declared.calculus.ClockFault.TheVariants.{Memory};
 
 use crate::constraints::solve;
 use crate::standings::Standing;
@@ -34,9 +35,6 @@ pub enum ClockFault {
 }
 
 impl From<AllocError> for ClockFault {
-    ghost use Rattle.std.specs.Prelude.{◌≡◌};
-    ghost use Rattle.prl_clock.specs.declared.calculus.ClockFault.TheVariants.{Memory};
-
     ghost from_gives = { λ _ e. e ≡ Memory };
 
     fn from(_error: AllocError) -> ClockFault {

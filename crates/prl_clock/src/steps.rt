@@ -4,6 +4,7 @@ ghost use Rattle.std.specs.Prelude.{◌≡◌, ◌≢◌, ◌≤◌, ◌<◌, �
 ghost use Rattle.prl_clock.specs.Assignments.{Passes};
 ghost use Rattle.prl_clock.specs.Constraints.{Placed, related};
 ghost use Rattle.prl_clock.specs.code.Standings.{IsLink, IsLowClockPast, IsMerging, IsRefused, IsSolved, LowClock};
+ghost use Rattle.prl_clock.specs.declared.steps.Refusal.TheVariants.{Limit};
 
 use crate::standings::{Standing, move_all, time_all};
 use crate::timings::{Timing, agree, composed, fits, over};
@@ -19,9 +20,6 @@ pub enum Refusal {
 }
 
 impl From<Past> for Refusal {
-    ghost use Rattle.std.specs.Prelude.{◌≡◌};
-    ghost use Rattle.prl_clock.specs.declared.steps.Refusal.TheVariants.{Limit};
-
     ghost from_gives = { λ _ e. e ≡ Limit };
 
     fn from(_past: Past) -> Refusal {

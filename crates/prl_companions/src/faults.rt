@@ -22,9 +22,6 @@ pub enum Fault {
 }
 
 impl From<Stop> for Fault {
-    ghost use Rattle.std.specs.Prelude.{◌≡◌};
-    ghost use Rattle.prl_companions.specs.declared.faults.Fault.TheVariants as faults;
-
     ghost from_gives = { λ stop fault. fault ≡ faults.Stop stop };
 
     fn from(stop: Stop) -> Fault {
@@ -33,10 +30,6 @@ impl From<Stop> for Fault {
 }
 
 impl From<AllocError> for Fault {
-    ghost use Rattle.std.specs.Prelude.{◌≡◌};
-    ghost use Rattle.prl_companions.specs.declared.endings.Stop.TheVariants.{Memory};
-    ghost use Rattle.prl_companions.specs.declared.faults.Fault.TheVariants as faults;
-
     ghost from_gives = { λ _ fault. fault ≡ faults.Stop Memory };
 
     fn from(_error: AllocError) -> Fault {

@@ -2,6 +2,7 @@
 
 ghost use Rattle.std.specs.Prelude.{◌≡◌, ◌≤◌, IfOk, IfErr, IfSome, Some, length};
 ghost use Rattle.prl_companions.specs.Files.{IsFileStop};
+ghost use Rattle.prl_companions.specs.declared.endings.Stop.TheVariants.{Memory};
 
 use crate::endings::Stop;
 use prl_base::Label;
@@ -9,9 +10,6 @@ use prl_io::{FileFault, Files};
 use std::alloc::{AllocError, Global};
 
 impl From<AllocError> for Stop {
-    ghost use Rattle.std.specs.Prelude.{◌≡◌};
-    ghost use Rattle.prl_companions.specs.declared.endings.Stop.TheVariants.{Memory};
-
     ghost from_gives = { λ _ stop. stop ≡ Memory };
 
     fn from(_error: AllocError) -> Stop {

@@ -11,7 +11,7 @@ ghost use Rattle.prl_schedules.specs.Vocabulary.{without_return, task_names};
 use prl_base::{TaskNo, cut_line, len_before};
 use prl_plan::{Plan, plan_is_one};
 use prl_schedules::{TaskNames, without_return};
-use std::alloc::{AllocError, AllocFailed, Global};
+use std::alloc::Global;
 
 /// Why a text does not place the tasks.
 #[derive(Clone, Copy)]
@@ -21,28 +21,6 @@ pub enum CoresFault {
     /// No line is of this task, the lowest such one.
     Missing(TaskNo),
     Memory,
-}
-
-impl From<AllocError> for CoresFault {
-    ghost use Rattle.std.specs.Prelude.{◌≡◌};
-    ghost use Rattle.prl_cores.specs.declared.texts.CoresFault.TheVariants.{Memory};
-
-    ghost from_gives = { λ _ e. e ≡ Memory };
-
-    fn from(_error: AllocError) -> CoresFault {
-        CoresFault::Memory
-    }
-}
-
-impl<T: Drop> From<AllocFailed<T>> for CoresFault {
-    ghost use Rattle.std.specs.Prelude.{◌≡◌};
-    ghost use Rattle.prl_cores.specs.declared.texts.CoresFault.TheVariants.{Memory};
-
-    ghost from_gives = { λ _ e. e ≡ Memory };
-
-    fn from(_error: AllocFailed<T>) -> CoresFault {
-        CoresFault::Memory
-    }
 }
 
 /// The number of a processor, 0 to 15, without leading zeros.
@@ -107,7 +85,9 @@ fn placed(
     ensures long { IfOk result (λ table. length table.items ≡ length names.now) }
     ensures task { IfErr result (IsOfTasks (length names.now)) }
 {
-    let mut table = vec![in alloc; None; count]?;
+    let Ok(mut table) = vec![in alloc; None; count] else {
+        return Err(CoresFault::Memory);
+    };
     let mut rest = text;
     let mut number: u64 = 1;
     while let Some((line, after)) = cut_line(rest) {
@@ -129,10 +109,15 @@ fn all_placed(alloc: Global, table: &[Option<u32>]) -> Result<Vec<u32>, CoresFau
     ensures long { IfOk result (λ processors. length processors.items ≡ length table.now) }
     ensures task { IfErr result (IsOfTasks (length table.now)) }
 {
-    let mut processors = Vec::with_capacity(alloc, table.len())?;
+    let Ok(mut processors) = Vec::with_capacity(alloc, table.len()) else {
+        return Err(CoresFault::Memory);
+    };
     for (i, processor) in table.iter().enumerate() {
         match processor {
-            Some(processor) => processors.push(*processor)?,
+            Some(processor) => match processors.push(*processor) {
+                Ok(()) => {}
+                Err(_) => return Err(CoresFault::Memory),
+            },
             None => return Err(CoresFault::Missing(TaskNo(i as u32))),
         }
     }
@@ -148,7 +133,9 @@ pub fn read_cores(alloc: Global, text: &[u8], plan: &Plan) -> Result<Vec<u32>, C
 {
     plan_is_one(plan);
     let tasks = plan.graph().tasks.as_slice();
-    let names = TaskNames::new(alloc, tasks)?;
+    let Ok(names) = TaskNames::new(alloc, tasks) else {
+        return Err(CoresFault::Memory);
+    };
     let table = placed(alloc, &names, text, tasks.len())?;
     all_placed(alloc, table.as_slice())
 }

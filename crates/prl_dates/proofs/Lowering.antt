@@ -105,10 +105,10 @@ module _ (graph : TaskGraph) (good : IsWellFormed graph) (floor table : List ℕ
     sum_less = omega (arith, sum_by-set (λ (x : ℕ). x) table (link_at lane k).from value 0 from_inside, less)
 
 -- one link more, of the lane's links under another name
-module _ (graph : TaskGraph) (good : IsWellFormed graph) (floor : List ℕ) (lane : Lane) (is : IsLane graph lane)
+module _ {graph : TaskGraph} (good : IsWellFormed graph) {floor : List ℕ} {lane : Lane} (is : IsLane graph lane)
     (floors : (k : ℕ) → k < length lane.links → Leaves lane (task_at graph lane.to.0).wcet floor floor k)
-    (k : ℕ) (old table : List ℕ) (before : Bool) (so_far : IsLowering graph floor lane k old table before) (links : List Link) (same : links ≡ lane.links)
-    (inside : k < length links) (wcet : ℕ) (own : wcet ≡ (task_at graph lane.to.0).wcet) where
+    {k : ℕ} {old table : List ℕ} {before : Bool} (so_far : IsLowering graph floor lane k old table before) {links : List Link} (same : links ≡ lane.links)
+    (inside : k < length links) {wcet : ℕ} (own : wcet ≡ (task_at graph lane.to.0).wcet) where
   at : k < length lane.links
   at = subst (λ (xs : List Link). k < length xs) same inside
 
@@ -124,8 +124,11 @@ module _ (graph : TaskGraph) (good : IsWellFormed graph) (floor : List ℕ) (lan
   pub index_from : (get_or links k no_link).from < length table
   index_from = subst (λ (x : Link). x.from < length table) (sym link_is) (from_inside graph good floor table so_far.dates lane is k at (floors k at))
 
-  pub few_indices : length table ≤ 20000
-  few_indices = omega (arith, so_far.dates.long, good.few_jobs)
+  pub few_to : lane.first + k < 20000
+  few_to = omega (arith, index_to, so_far.dates.long, good.few_jobs)
+
+  pub few_from : (get_or links k no_link).from < 20000
+  few_from = omega (arith, index_from, so_far.dates.long, good.few_jobs)
 
   pub sum_fits : get_or table (lane.first + k) 0 + (get_or links k no_link).gap < 2 ^ 64
   sum_fits =

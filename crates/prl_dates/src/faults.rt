@@ -1,5 +1,8 @@
 //! Why a task graph has no encoded dates.
 
+ghost use Rattle.std.specs.Prelude.{◌≡◌};
+ghost use Rattle.prl_dates.specs.declared.faults.DateFault.TheVariants.{Memory};
+
 use prl_base::TaskNo;
 use std::alloc::AllocError;
 
@@ -26,9 +29,6 @@ pub enum DateFault {
 }
 
 impl From<AllocError> for DateFault {
-    ghost use Rattle.std.specs.Prelude.{◌≡◌};
-    ghost use Rattle.prl_dates.specs.declared.faults.DateFault.TheVariants.{Memory};
-
     ghost from_gives = { λ _ e. e ≡ Memory };
 
     fn from(_error: AllocError) -> DateFault {

@@ -1,46 +1,15 @@
 //! Windows of the jobs of a hyperperiod, as shortest lists that repeat.
 
-ghost use Rattle.std.specs.Prelude.{◌≡◌, ◌+◌, ◌<◌, ◌≤◌, ℕ, length, IfOk, slice_index, slice_index_or};
-ghost use Rattle.prl_plan.specs.Vocabulary.{no_window, IsWellFormed, jobs_in_hyperperiod, task_at};
+ghost use Rattle.std.specs.Prelude.{◌≡◌, ◌+◌, ◌<◌, ◌≤◌, ℕ, length, IfOk, slice_index};
+ghost use Rattle.prl_plan.specs.Vocabulary.{IsWellFormed, jobs_in_hyperperiod, task_at};
 ghost use Rattle.prl_dates.specs.Faults.{jobs_of};
 ghost use Rattle.prl_dates.specs.code.Indices.{jobs_before};
-ghost use Rattle.prl_dates.specs.code.Windows.{window_of, AreWindowsOf, AreWindows};
+ghost use Rattle.prl_dates.specs.code.Windows.{AreWindowsOf, AreWindows};
 
 use crate::numbers::{jobs_before, jobs_of, wcet_of};
 use prl_base::{Seq, TaskNo};
 use prl_plan::{TaskGraph, Window, shortest_repeat};
 use std::alloc::{AllocError, Global};
-
-/// The windows of the task's jobs in a hyperperiod.
-fn all_windows(
-    alloc: Global,
-    graph: &TaskGraph,
-    i: TaskNo,
-    bests: &[u64],
-    tails: &[u64],
-) -> Result<Vec<Window>, AllocError>
-    requires well { IsWellFormed graph.now }
-    requires task { i.0 < length graph.now.tasks }
-    requires bests { length bests.now ≡ jobs_in_hyperperiod graph.now }
-    requires tails { length tails.now ≡ jobs_in_hyperperiod graph.now }
-    requires room { (p : ℕ) → p < jobs_of graph.now i.0 → (task_at graph.now i.0).wcet ≤ slice_index bests.now (jobs_before graph.now i.0 + p) }
-    ensures long { IfOk result (λ v. length v.items ≡ jobs_of graph.now i.0) }
-    ensures each { IfOk result (λ v. (p : ℕ) → p < jobs_of graph.now i.0 →
-        slice_index_or v.items p no_window ≡ window_of graph.now i.0 bests.now tails.now (jobs_before graph.now i.0 + p)) }
-{
-    let first = jobs_before(graph, i.0);
-    let jobs = jobs_of(graph, i);
-    let wcet = u64::from(wcet_of(graph, i));
-    let mut list = Vec::with_capacity(alloc, jobs as usize)?;
-    for p in 0..jobs {
-        let index = (first + p) as usize;
-        list.push(Window {
-            lead: bests[index] - wcet,
-            tail: tails[index],
-        })?;
-    }
-    Ok(list)
-}
 
 /// The shortest list of windows of the task.
 fn windows_of(
@@ -57,7 +26,17 @@ fn windows_of(
     requires room { (p : ℕ) → p < jobs_of graph.now i.0 → (task_at graph.now i.0).wcet ≤ slice_index bests.now (jobs_before graph.now i.0 + p) }
     ensures { IfOk result (AreWindowsOf graph.now bests.now tails.now i.0) }
 {
-    let mut list = all_windows(alloc, graph, i, bests, tails)?;
+    let first = jobs_before(graph, i.0);
+    let jobs = jobs_of(graph, i);
+    let wcet = u64::from(wcet_of(graph, i));
+    let mut list = Vec::with_capacity(alloc, jobs as usize)?;
+    for p in 0..jobs {
+        let index = (first + p) as usize;
+        list.push(Window {
+            lead: bests[index] - wcet,
+            tail: tails[index],
+        })?;
+    }
     let step = shortest_repeat(list.as_slice());
     list.truncate(step);
     Ok(Seq::new(list))

@@ -1,7 +1,7 @@
 //! Rectangles in the colours of tasks, and over the ticks of an interval.
 
 ghost use Rattle.std.specs.Prelude.{◌≡◌, ◌++◌, OnOk};
-ghost use Rattle.prl_drawing.specs.Boxes.{box_text, coloured_text, place_text, sides_text};
+ghost use Rattle.prl_drawing.specs.Boxes.{box_text, coloured_text, sides_text};
 ghost use Rattle.prl_drawing.specs.Scales.{IsScale};
 
 use crate::rows::colour_of;
@@ -12,35 +12,25 @@ use std::alloc::AllocError;
 /// How wide a rectangle over some ticks is at least, in tenths of a pixel.
 pub const LEAST: u64 = 20;
 
-/// Appends where a rectangle stands, and how wide and high it is.
-fn push_sides(
+/// What the rest of a rectangle ends with that tells nothing.
+pub(crate) const CLOSED: &str = "\"/>\n";
+
+/// Appends where a rectangle stands, how wide and high it is, and what comes behind that.
+pub(crate) fn push_place(
     text: &mut Vec<u8>,
     left: u64,
     top: u64,
     width: u64,
     height: u64,
+    tail: &str,
 ) -> Result<(), AllocError>
-    ensures { OnOk result (text.new.items ≡ text.old.items ++ sides_text left top width height) }
+    ensures { OnOk result (text.new.items ≡ text.old.items ++ sides_text left top width height ++ tail.now) }
 {
     push_attribute(text, "\" x=\"", left)?;
     push_attribute(text, "\" y=\"", top)?;
     push_attribute(text, "\" width=\"", width)?;
-    push_attribute(text, "\" height=\"", height)
-}
-
-/// Appends the rest of a rectangle.
-pub fn push_place(
-    text: &mut Vec<u8>,
-    left: u64,
-    top: u64,
-    width: u64,
-    height: u64,
-) -> Result<(), AllocError>
-    ensures { OnOk result (text.new.items ≡ text.old.items ++ place_text left top width height) }
-{
-    push_sides(text, left, top, width, height)?;
-    text.extend_from_slice(b"\"/>\n")?;
-    Ok(())
+    push_attribute(text, "\" height=\"", height)?;
+    push(text, tail)
 }
 
 /// Appends the rest of a rectangle that tells something where the mouse rests on it, up to what it tells.
@@ -51,8 +41,7 @@ pub fn push_telling(
     width: u64,
     height: u64,
 ) -> Result<(), AllocError> {
-    push_sides(text, left, top, width, height)?;
-    push(text, "\"><title>")
+    push_place(text, left, top, width, height, "\"><title>")
 }
 
 /// Appends a rectangle in the colour of a task.
@@ -67,7 +56,7 @@ pub fn push_coloured(
     ensures { OnOk result (text.new.items ≡ text.old.items ++ coloured_text task left top width height) }
 {
     push_attribute(text, "<rect class=\"s t", colour_of(task))?;
-    push_place(text, left, top, width, height)
+    push_place(text, left, top, width, height, CLOSED)
 }
 
 /// Appends a rectangle in the colour of a task over the ticks of an interval, at least so wide that it

@@ -34,12 +34,10 @@ pub fn push_title(
     unit: &Unit,
     left_out: u64,
 ) -> Result<(), AllocError> {
-    let attributes = [
-        ("<text x=\"100\" y=\"190\">hyperperiod ", hyper),
-        (" ticks; jobs that are released from tick ", scale.from),
-        (" on and before tick ", scale.until),
-    ];
-    push_all(text, &attributes, "")?;
+    push_attribute(text, "<text x=\"100\" y=\"190\">hyperperiod ", hyper)?;
+    let front = " ticks; jobs that are released from tick ";
+    push_attribute(text, front, scale.from)?;
+    push_attribute(text, " on and before tick ", scale.until)?;
     if left_out > 0 {
         let tail = " later jobs of the range are not drawn";
         push_all(text, &[("; ", left_out)], tail)?;

@@ -3,7 +3,7 @@
 
 ghost use Rattle.prl_drawing.specs.Scales.{IsScale};
 
-use crate::boxes::push_place;
+use crate::boxes::{CLOSED, push_place};
 use crate::frames::push_processor;
 use crate::marks::push_frame;
 use crate::rows::{TOP, row_of};
@@ -72,17 +72,13 @@ fn push_demand(text: &mut Vec<u8>, row: u32, overload: Overload) -> Result<(), A
     push_all(text, &attributes, "</text>\n")
 }
 
-/// Appends the demand of an overloaded interval in its mark, where that is wide enough.
+/// Appends the demand of an overloaded interval in its mark.
 fn push_inside(
     text: &mut Vec<u8>,
     row: u32,
     left: u64,
-    width: u64,
     overload: Overload,
 ) -> Result<(), AllocError> {
-    if width < WIDE {
-        return Ok(());
-    }
     let attributes = [
         ("<text class=\"k\" x=\"", left.saturating_add(40)),
         ("\" y=\"", row_of(row) + 190),
@@ -110,8 +106,11 @@ pub fn push_overload(
     let left = x_within(scale, overload.from);
     let width = x_within(scale, overload.to).saturating_sub(left);
     push(text, "<rect class=\"b")?;
-    push_place(text, left, TOP, width, row_of(row) + 400 - TOP)?;
-    push_inside(text, row, left, width, overload)
+    push_place(text, left, TOP, width, row_of(row) + 400 - TOP, CLOSED)?;
+    if width < WIDE {
+        return Ok(());
+    }
+    push_inside(text, row, left, overload)
 }
 
 /// Appends a frame round the window of a job that lies within an overloaded interval.

@@ -1,7 +1,7 @@
 //! Marks of jobs: the bars of their WCETs, lines at their own dates, frames round their windows, and
 //! arrows from one to another.
 
-use crate::boxes::{LEAST, push_place};
+use crate::boxes::{CLOSED, LEAST, push_place};
 use crate::rows::{COLOURS, GAP, colour_of, row_of};
 use crate::shapes::Shape;
 use crate::texts::{push, push_all, push_attribute};
@@ -24,7 +24,8 @@ const APART: u64 = 13;
 pub fn push_bar(text: &mut Vec<u8>, shape: &Shape) -> Result<(), AllocError> {
     let width = shape.bar.saturating_sub(shape.left).max(LEAST);
     push_attribute(text, "<rect class=\"v t", colour_of(shape.task))?;
-    push_place(text, shape.left, row_of(shape.row) + 180, width, 80)
+    let top = row_of(shape.row) + 180;
+    push_place(text, shape.left, top, width, 80, CLOSED)
 }
 
 /// Appends a line at an own date of a job.
@@ -48,7 +49,8 @@ pub fn push_own_dates(text: &mut Vec<u8>, shape: &Shape) -> Result<(), AllocErro
 pub fn push_frame(text: &mut Vec<u8>, shape: &Shape) -> Result<(), AllocError> {
     let width = shape.right.saturating_sub(shape.left);
     push(text, "<rect class=\"c")?;
-    push_place(text, shape.left, row_of(shape.row) + GAP, width, HIGH)
+    let top = row_of(shape.row) + GAP;
+    push_place(text, shape.left, top, width, HIGH, CLOSED)
 }
 
 /// Where the arrows from a row go up or down to a window: left of it, the arrows from one row together.

@@ -3,11 +3,7 @@
 ghost use Rattle.std.specs.Prelude.{ℕ, Option, map, vec_items, IfOk};
 ghost use Rattle.prl_plan.specs.Vocabulary.{IsHorizon, constants_of};
 ghost use Rattle.prl_demand.specs.Demand.{wcets_of};
-ghost use Rattle.prl_edf.specs.EdfRuns.{IsPlainRun};
-ghost use Rattle.prl_edf.specs.MetWindows.{IsFirstMiss};
-ghost use Rattle.prl_edf.specs.Outcomes.{ComesTo};
-ghost use Rattle.prl_edf.specs.Verdicts.{IsVerdict};
-ghost use Rattle.prl_edf.specs.code.FullLists.{AreFullLists};
+ghost use Rattle.prl_edf.specs.Vocabulary.{AreFullLists, ComesTo, IsFirstMiss, IsPlainRun, IsVerdict};
 
 use crate::laws::feasibility;
 use crate::runs::{Outcome, Timed, run_units};

@@ -1,8 +1,7 @@
 //! The flows of a flat program.
 
 ghost use Rattle.std.specs.Prelude.{◌≡◌, ◌<◌, ◌≤◌, ◌^◌, ℕ, [], length, slice_get, Some, IfOk, IfErr};
-ghost use Rattle.prl_flow.specs.Vocabulary.{HaveBodies, values_before, AreClocks, HasRows};
-ghost use Rattle.prl_flow.specs.Vocabulary.{clock_of, values_of, IsOrder};
+ghost use Rattle.prl_flow.specs.Vocabulary.{HaveBodies, values_before, AreClocks, HasRows, clock_of, values_of, IsOrder};
 ghost use Rattle.prl_flow.specs.declared.programs.App.{App as AnyApp};
 ghost use Rattle.prl_base.specs.Clocks.{IsClock};
 ghost use Rattle.prl_solutions.specs.Conditions.{AreTypedRows};
@@ -31,17 +30,6 @@ pub enum FlowFault {
     /// The flows have more than 4,000,000 values.
     Limit(Limit),
     Memory,
-}
-
-impl From<AllocError> for FlowFault {
-    ghost use Rattle.std.specs.Prelude.{◌≡◌};
-    ghost use Rattle.prl_evaluation.specs.declared.evaluation.FlowFault.TheVariants.{Memory};
-
-    ghost from_gives = { λ _ e. e ≡ Memory };
-
-    fn from(_error: AllocError) -> FlowFault {
-        FlowFault::Memory
-    }
 }
 
 /// How many values flows on these clocks have before `until`, all together.
@@ -141,6 +129,8 @@ pub fn evaluate<'a>(
             found: values,
         }));
     }
-    let table = solution(alloc, &setting)?;
-    Ok(table)
+    match solution(alloc, &setting) {
+        Ok(table) => Ok(table),
+        Err(_) => Err(FlowFault::Memory),
+    }
 }

@@ -17,13 +17,10 @@ ghost use Rattle.prl_executions.specs.code.Flows.{HasRowsUntil, IsEvaluated, flo
 
 use prl_arguments::Mode;
 use prl_base::FlowNo;
-use prl_behaviours::behaviours_are_of_their_states;
 use prl_calls::{Request, Run, check_types, flat_of, read_bodies, read_program, run_with};
-use prl_clock::clocks_are_unique;
 use prl_evaluation::{FlowTable, evaluate};
-use prl_expand::{behaviours_are_solutions, expansions_have_bodies};
 use prl_sensors::{OutRows, lent_text, rows_are_typed_and_enough};
-use prl_stages::{MAX_BODIES, MAX_PROGRAM, Stage, Stop};
+use prl_stages::{MAX_BODIES, MAX_PROGRAM, Stage, Stop, runs_tell_of_behaviours};
 use prl_types::Typed;
 use std::alloc::{AllocError, Global};
 
@@ -95,10 +92,7 @@ fn flows_of(alloc: Global, until: u32, typed: &Typed<'_>, run: &Run) -> Result<V
     ensures holds { (g : Given) → HasRowsUntil g until run.now → IfOk result (λ _. Holds g Stage.Values) }
     ensures stop { (g : Given) → HasRowsUntil g until run.now → IfErr result (StopsAt g Stage.Values) }
 {
-    behaviours_are_solutions();
-    behaviours_are_of_their_states();
-    expansions_have_bodies();
-    clocks_are_unique();
+    runs_tell_of_behaviours();
     let _main = typed.main();
     let _flows = run.flat.flows();
     let table = values(alloc, until, run)?;

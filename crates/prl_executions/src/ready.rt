@@ -13,25 +13,15 @@ ghost use Rattle.prl_stages.specs.Vocabulary.{HasRows, HasHorizon, front, graphe
 ghost use Rattle.prl_calls.specs.Stops.{given_of, AllHold, StopsIn};
 ghost use Rattle.prl_executions.specs.Ready.{IsReady};
 
-use prl_behaviours::{behaviours_are_of_their_states, solutions_are_of_their_clocks};
 use prl_body::Bodies;
 use prl_calls::{
     Request, Run, check_types, flat_of, make_graphed, make_horizon, make_planned, read_bodies,
     read_program, run_with,
 };
-use prl_clock::clocks_are_unique;
-use prl_expand::{behaviours_are_solutions, expansions_have_bodies};
 use prl_flow::{Clocks, Flat, Order, Sensors};
-use prl_graph::{
-    bodies_and_rows_serve_tasks, ports_have_the_clock_of_their_task, solutions_give_job_values,
-};
 use prl_plan::{Horizon, Plan, TaskGraph, Words, plan_is_one};
-use prl_replay::actuators_get_the_outputs;
-use prl_sensors::rows_are_typed_and_enough;
-use prl_solutions::programs_have_one_solution;
-use prl_stages::{MAX_BODIES, MAX_PROGRAM, Stage, Stop};
+use prl_stages::{MAX_BODIES, MAX_PROGRAM, Stage, Stop, runs_tell_of_behaviours};
 use prl_types::Typed;
-use prl_values::{job_values_are_one, job_values_exist};
 use std::alloc::Global;
 
 /// What a run of the tasks of a program needs: its plan with the horizon, the bodies, and the rows of the sensors.
@@ -56,19 +46,7 @@ fn program_is_ready(request: &Request, typed: &Typed<'_>, run: &Run, plan: &Plan
     requires horizon { HasHorizon (given_of request.now) plan.now horizon }
     ensures { IsReady (given_of request.now) (record { plan = plan.now; bodies = run.now.bodies; sensors = run.now.sensors; horizon = horizon }) }
 {
-    behaviours_are_solutions();
-    behaviours_are_of_their_states();
-    clocks_are_unique();
-    expansions_have_bodies();
-    programs_have_one_solution();
-    solutions_are_of_their_clocks();
-    rows_are_typed_and_enough();
-    bodies_and_rows_serve_tasks();
-    job_values_exist();
-    job_values_are_one();
-    solutions_give_job_values();
-    ports_have_the_clock_of_their_task();
-    actuators_get_the_outputs();
+    runs_tell_of_behaviours();
     let _main = typed.main();
     let _flows = run.flat.flows();
     plan_is_one(plan);

@@ -254,21 +254,7 @@ module _ (p : ProgramTree) (tys : Types) (flat : FlatProgram) where
       root_use k n env found count named d (group (more t ts)) at (notes.group parts) h known arity range_of flow apps s counted =
           all_use k n env found count named (d + 1) (more t ts) parts h known arity (range_of.1, range_of.2) flow apps s counted
       root_use k n env found count named d (group none) at (notes.group parts) h known arity range_of flow apps s counted = absurd range_of
-      root_use k n env found count named d (const v) at notes.name h known arity range_of flow apps s counted = absurd h
-      root_use k n env found count named d (const v) at (notes.import parts x outs) h known arity range_of flow apps s counted = absurd h
-      root_use k n env found count named d (const v) at (notes.node parts x child) h known arity range_of flow apps s counted = absurd h
-      root_use k n env found count named d (const v) at (notes.group parts) h known arity range_of flow apps s counted = absurd h
-      root_use k n env found count named d (var name) at (notes.constant i) h known arity range_of flow apps s counted = absurd h
-      root_use k n env found count named d (var name) at (notes.import parts x outs) h known arity range_of flow apps s counted = absurd h
-      root_use k n env found count named d (var name) at (notes.node parts x child) h known arity range_of flow apps s counted = absurd h
-      root_use k n env found count named d (var name) at (notes.group parts) h known arity range_of flow apps s counted = absurd h
-      root_use k n env found count named d (apply name place args) at (notes.constant i) h known arity range_of flow apps s counted = absurd h
-      root_use k n env found count named d (apply name place args) at notes.name h known arity range_of flow apps s counted = absurd h
-      root_use k n env found count named d (apply name place args) at (notes.group parts) h known arity range_of flow apps s counted = absurd h
-      root_use k n env found count named d (group args) at (notes.constant i) h known arity range_of flow apps s counted = absurd h
-      root_use k n env found count named d (group args) at notes.name h known arity range_of flow apps s counted = absurd h
-      root_use k n env found count named d (group args) at (notes.import parts x outs) h known arity range_of flow apps s counted = absurd h
-      root_use k n env found count named d (group args) at (notes.node parts x child) h known arity range_of flow apps s counted = absurd h
+      root_use k n env found count named d root at core h known arity range_of flow apps s counted = absurd h
 
       all_use : (k : ℕ) (n : NodeTree) (env : List ℕ) → slice_get p.nodes k ≡ Some n → length env ≡ length (params_of n) → AreNamed env → (d : ℕ) (ts : Trees) (qs : Parts ℕ ℕ ℕ)
           → AreParts p ts qs → AreKnown p k ts → all_faults p k ts ≡ [] → ranges.AreTreesInRange d ts → AllByRecursion (HasFlow p tys flat) (all_flows p tys k n env ts qs)

@@ -5,13 +5,13 @@ use Rattle.prl_base.specs.declared.places.Span.{Span}
 use Rattle.prl_base.specs.declared.operators.Op.TheVariants as ops
 use Rattle.prl_base.specs.declared.values.Ty.TheVariants as kinds
 use Rattle.prl_base.specs.declared.values.Value.TheVariants as values
-use Rattle.prl_ast.specs.Trees.{Tree, var, apply, group, none, more, NodeTree, ProgramTree}
+use Rattle.prl_ast.specs.Trees.{Tree, var, apply, group, none, more, EquationTree, NodeTree, ProgramTree}
 use Rattle.prl_ast.specs.declared.declarations.Param.{Param}
 use Rattle.prl_ast.specs.declared.expressions.PlacedOp.{PlacedOp}
 use Rattle.prl_ast.specs.Trees.{tree}
 use Rattle.prl_flow.specs.declared.programs.Def.TheVariants as definitions
 use Rattle.prl_flow.specs.declared.programs.Flow.{Flow}
-use Rattle.prl_behaviours.specs.Annotations.{Entered, entered, Rights, done, next, Part, part}
+use Rattle.prl_behaviours.specs.Annotations.{entered, done, next, part}
 use Rattle.prl_behaviours.specs.Annotations as notes
 use Rattle.prl_expand.specs.Vocabulary.{Expansion, IsExpansion, flat_of}
 
@@ -28,30 +28,24 @@ fby_zero k = record { op = ops.Fby (values.Int (pos 0)); at = token k }
 abbrev use_of : List ℕ → ℕ → Tree
 use_of name k = tree [] (var name) [] (token k)
 
+-- a node of an input, an output and an equation
+abbrev node_of : List ℕ → Param → Param → EquationTree → ℕ → NodeTree
+node_of name input output equation k = record { name = name; ins = input ∷ []; outs = output ∷ []; locals = []; eqs = equation ∷ []; at = token k }
+
 -- node twice (x) returns (y) let y = 0 fby (0 fby x); tel   node main (i) returns (o) let o = twice(i); tel
 abbrev twice : NodeTree
-twice = record {
-  name = codes "twice";
-  ins = variable (codes "x") 3 ∷ [];
-  outs = variable (codes "y") 7 ∷ [];
-  locals = [];
-  eqs = record {
-    lefts = record { name = codes "y"; at = token 10 } ∷ [];
-    right = tree (fby_zero 13 ∷ []) (group (more (tree (fby_zero 16 ∷ []) (var (codes "x")) [] (token 15)) none)) [] (token 12);
-    at = token 10;
-  } ∷ [];
-  at = token 1;
-}
+twice = node_of (codes "twice") (variable (codes "x") 3) (variable (codes "y") 7) (record {
+  lefts = record { name = codes "y"; at = token 10 } ∷ [];
+  right = tree (fby_zero 13 ∷ []) (group (more (tree (fby_zero 16 ∷ []) (var (codes "x")) [] (token 15)) none)) [] (token 12);
+  at = token 10;
+}) 1
 
 abbrev main : NodeTree
-main = record {
-  name = codes "main";
-  ins = variable (codes "i") 24 ∷ [];
-  outs = variable (codes "o") 28 ∷ [];
-  locals = [];
-  eqs = record { lefts = record { name = codes "o"; at = token 31 } ∷ []; right = tree [] (apply (codes "twice") (token 33) (more (use_of (codes "i") 35) none)) [] (token 33); at = token 31 } ∷ [];
-  at = token 22;
-}
+main = node_of (codes "main") (variable (codes "i") 24) (variable (codes "o") 28) (record {
+  lefts = record { name = codes "o"; at = token 31 } ∷ [];
+  right = tree [] (apply (codes "twice") (token 33) (more (use_of (codes "i") 35) none)) [] (token 33);
+  at = token 31;
+}) 22
 
 abbrev program : ProgramTree
 program = record {

@@ -123,33 +123,18 @@ module _ (p : ProgramTree) (tys : Types) (flat : FlatProgram) (sound : IsSound p
         let gs : List ℕ = all_given n env args parts in
         let label : List ℕ = label_of_node name x in
         let argued = argued_right p k name place args arity in
-        let enough = enough_given p k n env found count name args parts child h.0 h.1 h.2 known.1 argued in
         let a : List Numbered = all_flows p tys k n env args parts in
         let b : List Numbered = entered_flows p tys label callee (map copy_of gs) child in
         let met_args = all_first (Met tys) (typing.all_rules p k args) (typing.argument_rules (flows.inputs_of p (callee_of p name)) (flows.placed_flows p k args)) met in
         all_both (IsOfUsed p main flat) (all_apps p n env args parts) (entered_apps p callee child)
         (all_used k n env found expanded count typed args parts h.1 known.1 argued.inner met_args (all_first (HasFlow p tys flat) a b flow)
         (record { named = λ m has. inside.named m (suc has.0, has.1); enters = λ j by. inside.enters j (or_true (is_node j (callee_of p name)) (applied_trees p j args) by) }))
-        (entered_used label callee (map copy_of gs) child h.2 enough
+        (entered_used label callee (map copy_of gs) child h.2 (enough_given p k n env found count name args parts child h.0 h.1 h.2 known.1 argued)
         (inside.enters callee (true_or (is_node callee (callee_of p name)) (applied_trees p callee args) (same_node callee (callee_of p name) (node_call (callee_of p name) h.0))))
         (all_second (HasFlow p tys flat) a b flow))
     root_used k n env found expanded count typed (group args) at (notes.group parts) h known arity met flow inside =
         all_used k n env found expanded count typed args parts h known arity met flow (record { named = inside.named; enters = inside.enters })
-    root_used k n env found expanded count typed (const v) at notes.name h known arity met flow inside = absurd h
-    root_used k n env found expanded count typed (const v) at (notes.import parts x outs) h known arity met flow inside = absurd h
-    root_used k n env found expanded count typed (const v) at (notes.node parts x child) h known arity met flow inside = absurd h
-    root_used k n env found expanded count typed (const v) at (notes.group parts) h known arity met flow inside = absurd h
-    root_used k n env found expanded count typed (var name) at (notes.constant i) h known arity met flow inside = absurd h
-    root_used k n env found expanded count typed (var name) at (notes.import parts x outs) h known arity met flow inside = absurd h
-    root_used k n env found expanded count typed (var name) at (notes.node parts x child) h known arity met flow inside = absurd h
-    root_used k n env found expanded count typed (var name) at (notes.group parts) h known arity met flow inside = absurd h
-    root_used k n env found expanded count typed (apply name place args) at (notes.constant i) h known arity met flow inside = absurd h
-    root_used k n env found expanded count typed (apply name place args) at notes.name h known arity met flow inside = absurd h
-    root_used k n env found expanded count typed (apply name place args) at (notes.group parts) h known arity met flow inside = absurd h
-    root_used k n env found expanded count typed (group args) at (notes.constant i) h known arity met flow inside = absurd h
-    root_used k n env found expanded count typed (group args) at notes.name h known arity met flow inside = absurd h
-    root_used k n env found expanded count typed (group args) at (notes.import parts x outs) h known arity met flow inside = absurd h
-    root_used k n env found expanded count typed (group args) at (notes.node parts x child) h known arity met flow inside = absurd h
+    root_used k n env found expanded count typed root at core h known arity met flow inside = absurd h
 
     all_used : (k : ℕ) (n : NodeTree) (env : List ℕ) → slice_get p.nodes k ≡ Some n → is_expanded p main k ≡ true → length env ≡ length (params_of n) → IsEnvironment p tys flat k env → (ts : Trees) (qs : Parts ℕ ℕ ℕ) → AreParts p ts qs → AreKnown p k ts
         → all_faults p k ts ≡ [] → AllMet tys (typing.all_rules p k ts) → AllByRecursion (HasFlow p tys flat) (all_flows p tys k n env ts qs) → Inside p main n (all_applied ts) (λ j. applied_trees p j ts) → AllUsed (all_apps p n env ts qs)
@@ -194,11 +179,10 @@ module _ (p : ProgramTree) (tys : Types) (flat : FlatProgram) (sound : IsSound p
         let env : List ℕ = (ins ++ outs) ++ locals in
         let is = entered_is p k ins outs locals text.0 in
         let own : IsRightNode p k n = sound.node k n is.found in
-        let node = known_types.node k n is.found in
         let cs : List Def = copies (equated n env n.eqs rights) (n.outs ++ n.locals) in
         let vars : List Numbered = variable_flows label tys (first_of p k) (params_of n) env (sources ++ cs) in
         let others : List Numbered = right_flows p tys k n env n.eqs rights in
-        right_used k n env is.found expanded is.count (entered_environment p tys flat sound label k sources ins outs locals rights text enough flow) n.eqs rights text.1 own.named.known own.arity node.rules
+        right_used k n env is.found expanded is.count (entered_environment p tys flat sound label k sources ins outs locals rights text enough flow) n.eqs rights text.1 own.named.known own.arity (known_types.node k n is.found).rules
         (all_second (HasFlow p tys flat) vars others flow)
         (record { named = λ m h. h; enters = λ j by. expanded_more p main k j expanded (ap (applied_by p j) is.found ∙ by) })
 

@@ -277,21 +277,7 @@ module _ (P : Rule ℕ ℕ → Type 0) where
           (all_tells k n env found count args parts h.1 known.1 argued.inner)
           (entered_tells (label_of_node name x) callee (map copy_of gs) (all_same (inputs_of child) gs) child h.2 enough (definitions_copies (inputs_of child) gs))
       root_tells k n env found count (group args) at (notes.group parts) h known arity = all_tells k n env found count args parts h known arity
-      root_tells k n env found count (const v) at notes.name h known arity = absurd h
-      root_tells k n env found count (const v) at (notes.import parts x outs) h known arity = absurd h
-      root_tells k n env found count (const v) at (notes.node parts x child) h known arity = absurd h
-      root_tells k n env found count (const v) at (notes.group parts) h known arity = absurd h
-      root_tells k n env found count (var name) at (notes.constant i) h known arity = absurd h
-      root_tells k n env found count (var name) at (notes.import parts x outs) h known arity = absurd h
-      root_tells k n env found count (var name) at (notes.node parts x child) h known arity = absurd h
-      root_tells k n env found count (var name) at (notes.group parts) h known arity = absurd h
-      root_tells k n env found count (apply name place args) at (notes.constant i) h known arity = absurd h
-      root_tells k n env found count (apply name place args) at notes.name h known arity = absurd h
-      root_tells k n env found count (apply name place args) at (notes.group parts) h known arity = absurd h
-      root_tells k n env found count (group args) at (notes.constant i) h known arity = absurd h
-      root_tells k n env found count (group args) at notes.name h known arity = absurd h
-      root_tells k n env found count (group args) at (notes.import parts x outs) h known arity = absurd h
-      root_tells k n env found count (group args) at (notes.node parts x child) h known arity = absurd h
+      root_tells k n env found count root at core h known arity = absurd h
 
       pub all_tells : (k : ℕ) (n : NodeTree) (env : List ℕ) → slice_get p.nodes k ≡ Some n → length env ≡ length (params_of n) → (ts : Trees) (qs : Parts ℕ ℕ ℕ) → AreParts p ts qs → AreKnown p k ts
           → all_faults p k ts ≡ [] → Tells (all_flows p tys k n env ts qs) (parts_imports qs) (all_apps p n env ts qs) (all_rules p n env ts qs)

@@ -230,21 +230,7 @@ module _ (p : ProgramTree) (tys : Types) (flat : FlatProgram) where
             call_outputs (callee_of p name) (label_of_node name x) (map copy_of gs) child h.0 h.2 enough
             (all_second HasFlow (all_flows p tys k n env args parts) (entered_flows p tys (label_of_node name x) (node_of (callee_of p name)) (map copy_of gs) child) flow)
         root_typed (group args) at (notes.group parts) h known arity flow = all_typed args parts h known arity flow
-        root_typed (const v) at notes.name h known arity flow = absurd h
-        root_typed (const v) at (notes.import parts x outs) h known arity flow = absurd h
-        root_typed (const v) at (notes.node parts x child) h known arity flow = absurd h
-        root_typed (const v) at (notes.group parts) h known arity flow = absurd h
-        root_typed (var name) at (notes.constant i) h known arity flow = absurd h
-        root_typed (var name) at (notes.import parts x outs) h known arity flow = absurd h
-        root_typed (var name) at (notes.node parts x child) h known arity flow = absurd h
-        root_typed (var name) at (notes.group parts) h known arity flow = absurd h
-        root_typed (apply name place args) at (notes.constant i) h known arity flow = absurd h
-        root_typed (apply name place args) at notes.name h known arity flow = absurd h
-        root_typed (apply name place args) at (notes.group parts) h known arity flow = absurd h
-        root_typed (group args) at (notes.constant i) h known arity flow = absurd h
-        root_typed (group args) at notes.name h known arity flow = absurd h
-        root_typed (group args) at (notes.import parts x outs) h known arity flow = absurd h
-        root_typed (group args) at (notes.node parts x child) h known arity flow = absurd h
+        root_typed root at core h known arity flow = absurd h
 
         pub all_typed : (ts : Trees) (qs : Parts ℕ ℕ ℕ) → AreParts p ts qs → AreKnown p k ts → all_faults p k ts ≡ [] → AllByRecursion HasFlow (all_flows p tys k n env ts qs)
             → AreTyped (all_given n env ts qs) (flows.all_flows p k ts)

@@ -104,21 +104,7 @@ module _ (p : ProgramTree) (tys : Types) (sound : IsSound p) where
         (all_numbered k n env found count args parts h.1 known.1 argued.inner)
         (entered_numbered (label_of_node name x) callee (map copy_of gs) child h.2 enough)
     root_numbered k n env found count (group args) at (notes.group parts) h known arity = all_numbered k n env found count args parts h known arity
-    root_numbered k n env found count (const v) at notes.name h known arity = absurd h
-    root_numbered k n env found count (const v) at (notes.import parts x outs) h known arity = absurd h
-    root_numbered k n env found count (const v) at (notes.node parts x child) h known arity = absurd h
-    root_numbered k n env found count (const v) at (notes.group parts) h known arity = absurd h
-    root_numbered k n env found count (var name) at (notes.constant i) h known arity = absurd h
-    root_numbered k n env found count (var name) at (notes.import parts x outs) h known arity = absurd h
-    root_numbered k n env found count (var name) at (notes.node parts x child) h known arity = absurd h
-    root_numbered k n env found count (var name) at (notes.group parts) h known arity = absurd h
-    root_numbered k n env found count (apply name place args) at (notes.constant i) h known arity = absurd h
-    root_numbered k n env found count (apply name place args) at notes.name h known arity = absurd h
-    root_numbered k n env found count (apply name place args) at (notes.group parts) h known arity = absurd h
-    root_numbered k n env found count (group args) at (notes.constant i) h known arity = absurd h
-    root_numbered k n env found count (group args) at notes.name h known arity = absurd h
-    root_numbered k n env found count (group args) at (notes.import parts x outs) h known arity = absurd h
-    root_numbered k n env found count (group args) at (notes.node parts x child) h known arity = absurd h
+    root_numbered k n env found count root at core h known arity = absurd h
 
     all_numbered : (k : ℕ) (n : NodeTree) (env : List ℕ) → slice_get p.nodes k ≡ Some n → length env ≡ length (params_of n) → (ts : Trees) (qs : Parts ℕ ℕ ℕ) → AreParts p ts qs → AreKnown p k ts
         → all_faults p k ts ≡ [] → numbers_of (all_flows p tys k n env ts qs) ≡ notes.parts_flows qs

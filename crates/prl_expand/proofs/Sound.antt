@@ -142,21 +142,7 @@ module _ {F R N : Type 0} where
       root_length (apply name at args) (notes.import parts r outs) h known = import_length p (callee_of p name) (length outs) h.0
       root_length (apply name at args) (notes.node parts x child) h known = outputs_length p (callee_of p name) child h.0 h.2
       root_length (group args) (notes.group parts) h known = all_length args parts h known
-      root_length (const v) notes.name h known = absurd h
-      root_length (const v) (notes.import parts r outs) h known = absurd h
-      root_length (const v) (notes.node parts x child) h known = absurd h
-      root_length (const v) (notes.group parts) h known = absurd h
-      root_length (var name) (notes.constant f) h known = absurd h
-      root_length (var name) (notes.import parts r outs) h known = absurd h
-      root_length (var name) (notes.node parts x child) h known = absurd h
-      root_length (var name) (notes.group parts) h known = absurd h
-      root_length (apply name at args) (notes.constant f) h known = absurd h
-      root_length (apply name at args) notes.name h known = absurd h
-      root_length (apply name at args) (notes.group parts) h known = absurd h
-      root_length (group args) (notes.constant f) h known = absurd h
-      root_length (group args) notes.name h known = absurd h
-      root_length (group args) (notes.import parts r outs) h known = absurd h
-      root_length (group args) (notes.node parts x child) h known = absurd h
+      root_length root core h known = absurd h
 
       pub all_length : (ts : Trees) (qs : Parts F R N) → AreParts p ts qs → AreKnown p k ts → length (all_given n env ts qs) ≡ length (all_flows p k ts)
       all_length none notes.none h known = refl

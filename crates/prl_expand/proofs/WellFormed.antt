@@ -178,8 +178,8 @@ module _ (p : ProgramTree) (tys : Types) (flat : FlatProgram) where
       part_sound k n env found count typed d (tree pre root post at) (part pres core posts) h known arity range met flow apps =
           let of : List ℕ = root_given n env root core in
           let terms_of : List Term = flows.root_flows p k root in
-          let needed : ℕ = length (flows.root_flows p k root) in
-          let ty : Ty = resolved tys (flows.operand (flows.root_flows p k root)) in
+          let needed : ℕ = length terms_of in
+          let ty : Ty = resolved tys (flows.operand terms_of) in
           let arities = operated_right p k pre root post arity in
           let a : List Numbered = root_flows_of p tys k n env root at core in
           let b : List Numbered = operator_flows ty post posts of in
@@ -247,7 +247,7 @@ module _ (p : ProgramTree) (tys : Types) (flat : FlatProgram) where
           )
       root_sound k n env found count typed d (apply name place args) at (notes.node parts x child) h known arity range met flow apps =
           let o = callee_of p name in
-          let callee = node_of (callee_of p name) in
+          let callee = node_of o in
           let gs : List ℕ = all_given n env args parts in
           let label : List ℕ = label_of_node name x in
           let argued = argued_right p k name place args arity in
@@ -271,21 +271,7 @@ module _ (p : ProgramTree) (tys : Types) (flat : FlatProgram) where
       root_sound k n env found count typed d (group (more t ts)) at (notes.group parts) h known arity range met flow apps =
           all_sound k n env found count typed (d + 1) (more t ts) parts h known arity (range.1, range.2) met flow apps
       root_sound k n env found count typed d (group none) at (notes.group parts) h known arity range met flow apps = absurd range
-      root_sound k n env found count typed d (const v) at notes.name h known arity range met flow apps = absurd h
-      root_sound k n env found count typed d (const v) at (notes.import parts x outs) h known arity range met flow apps = absurd h
-      root_sound k n env found count typed d (const v) at (notes.node parts x child) h known arity range met flow apps = absurd h
-      root_sound k n env found count typed d (const v) at (notes.group parts) h known arity range met flow apps = absurd h
-      root_sound k n env found count typed d (var name) at (notes.constant i) h known arity range met flow apps = absurd h
-      root_sound k n env found count typed d (var name) at (notes.import parts x outs) h known arity range met flow apps = absurd h
-      root_sound k n env found count typed d (var name) at (notes.node parts x child) h known arity range met flow apps = absurd h
-      root_sound k n env found count typed d (var name) at (notes.group parts) h known arity range met flow apps = absurd h
-      root_sound k n env found count typed d (apply name place args) at (notes.constant i) h known arity range met flow apps = absurd h
-      root_sound k n env found count typed d (apply name place args) at notes.name h known arity range met flow apps = absurd h
-      root_sound k n env found count typed d (apply name place args) at (notes.group parts) h known arity range met flow apps = absurd h
-      root_sound k n env found count typed d (group args) at (notes.constant i) h known arity range met flow apps = absurd h
-      root_sound k n env found count typed d (group args) at notes.name h known arity range met flow apps = absurd h
-      root_sound k n env found count typed d (group args) at (notes.import parts x outs) h known arity range met flow apps = absurd h
-      root_sound k n env found count typed d (group args) at (notes.node parts x child) h known arity range met flow apps = absurd h
+      root_sound k n env found count typed d root at core h known arity range met flow apps = absurd h
 
       all_sound : (k : ℕ) (n : NodeTree) (env : List ℕ) → slice_get p.nodes k ≡ Some n → length env ≡ length (params_of n) → IsEnvironment p tys flat k env → (d : ℕ) (ts : Trees) (qs : Parts ℕ ℕ ℕ) → AreParts p ts qs → AreKnown p k ts
           → all_faults p k ts ≡ [] → ranges.AreTreesInRange d ts → AllMet tys (typing.all_rules p k ts) → AllByRecursion (HasFlow p tys flat) (all_flows p tys k n env ts qs)

@@ -2,6 +2,7 @@
 
 ghost use Rattle.std.specs.Prelude.{◌≡◌, ◌≤◌, ◌+◌, IfErr, IfOk, OnOk};
 ghost use Rattle.prl_expand.specs.code.Limits.{IsPast};
+ghost use Rattle.prl_expand.specs.declared.counts.ExpandFault.TheVariants.{Memory};
 
 use prl_base::{Limit, What};
 use std::alloc::AllocError;
@@ -16,9 +17,6 @@ pub enum ExpandFault {
 }
 
 impl From<AllocError> for ExpandFault {
-    ghost use Rattle.std.specs.Prelude.{◌≡◌};
-    ghost use Rattle.prl_expand.specs.declared.counts.ExpandFault.TheVariants.{Memory};
-
     ghost from_gives = { λ _ e. e ≡ Memory };
 
     fn from(_error: AllocError) -> ExpandFault {

@@ -1,9 +1,8 @@
 //! The expansion of a program.
 
-ghost use Rattle.std.specs.Prelude.{◌≡◌, ◌≤◌, ◌<◌, ◌+◌, ℕ, List, length, map, slice_get, IfErr, IfOk};
+ghost use Rattle.std.specs.Prelude.{◌≡◌, ◌≤◌, ◌<◌, ℕ, List, map, IfErr, IfOk};
 ghost use Rattle.std.specs.List.{range_with_len};
-ghost use Rattle.std.specs.Vec.{vec_items};
-ghost use Rattle.prl_ast.specs.Trees.{node_tree, program_tree};
+ghost use Rattle.prl_ast.specs.Trees.{program_tree};
 ghost use Rattle.prl_body.specs.declared.bodies.CheckedBody.{CheckedBody};
 ghost use Rattle.prl_flow.specs.Vocabulary.{Rows, IsSolution};
 ghost use Rattle.prl_behaviours.specs.Behaviours.{Satisfies, state_in};

@@ -6,7 +6,8 @@ use Rattle.prl_companions.specs.declared.endings.Stop.{Stop}
 use Rattle.prl_companions.specs.declared.endings.Stop.TheVariants as stops
 use Rattle.prl_companions.specs.Files.{IsFileStop}
 use Rattle.prl_companions.specs.Pairs.{value_of}
-use Rattle.prl_explain.specs.declared.texts.TheConstants.{MAX_CORES, MAX_PLAN, MAX_PROGRAM, MAX_SENSORS, MAX_SCHEDULE, MAX_TABLE}
+use Rattle.prl_stages.specs.declared.sizes.TheConstants.{MAX_BODIES, MAX_CORES, MAX_PROGRAM, MAX_SENSORS, MAX_SCHEDULE, MAX_TABLE}
+use Rattle.prl_explain.specs.declared.texts.TheConstants.{MAX_PLAN}
 use Rattle.prl_explain.specs.declared.texts.Texts.{Texts}
 use Rattle.prl_sentences.specs.declared.kinds.Part.{Part}
 use Rattle.prl_sentences.specs.declared.kinds.Part.TheVariants as parts
@@ -27,7 +28,7 @@ option_of parts.Plan = codes "--plan"
 
 abbrev pub most_of : Part → ℕ
 most_of parts.Program = MAX_PROGRAM
-most_of parts.Bodies = MAX_PROGRAM
+most_of parts.Bodies = MAX_BODIES
 most_of parts.Sensors = MAX_SENSORS
 most_of parts.Schedule = MAX_SCHEDULE
 most_of parts.Table = MAX_TABLE

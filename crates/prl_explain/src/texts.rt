@@ -10,25 +10,11 @@ use prl_base::Label;
 use prl_companions::{Stop, read_named, value_of};
 use prl_io::Files;
 use prl_sentences::Part;
+use prl_stages::{MAX_BODIES, MAX_CORES, MAX_PROGRAM, MAX_SCHEDULE, MAX_SENSORS, MAX_TABLE};
 use std::alloc::{AllocError, Global};
-
-/// The most bytes of a program or of bodies.
-pub const MAX_PROGRAM: u64 = 1_048_576;
-
-/// The most bytes of sensor rows.
-pub const MAX_SENSORS: u64 = 33_554_432;
-
-/// The most bytes of a schedule.
-pub const MAX_SCHEDULE: u64 = 83_886_080;
 
 /// The most bytes of a plan's text.
 pub const MAX_PLAN: u64 = 33_554_432;
-
-/// The most bytes of a table's text.
-pub const MAX_TABLE: u64 = 16_777_216;
-
-/// The most bytes of a text of processors.
-pub const MAX_CORES: u64 = 65_536;
 
 /// The bytes of the files that the words name, None where they name none; and the name of the node that is to be main.
 #[derive(Drop)]
@@ -48,6 +34,9 @@ type Two = (Option<Vec<u8>>, Option<Vec<u8>>);
 
 /// The bytes of four files.
 type Four = (Two, Two);
+
+/// The bytes of three files.
+type Three = (Two, Option<Vec<u8>>);
 
 /// The option that names a file.
 pub(crate) fn option_of(part: Part) -> &'static [u8]
@@ -70,7 +59,7 @@ fn most_of(part: Part) -> u64
 {
     match part {
         Part::Program => MAX_PROGRAM,
-        Part::Bodies => MAX_PROGRAM,
+        Part::Bodies => MAX_BODIES,
         Part::Sensors => MAX_SENSORS,
         Part::Schedule => MAX_SCHEDULE,
         Part::Table => MAX_TABLE,
@@ -184,11 +173,7 @@ fn read_inputs<F: Files>(alloc: Global, files: &mut F, words: &[String]) -> Resu
 
 /// Reads a table, a text of processors and a plan.
 #[tactic(auto, using(crate::proofs::Stops::stop_from, crate::proofs::Stops::named_from))]
-fn read_plans<F: Files>(
-    alloc: Global,
-    files: &mut F,
-    words: &[String],
-) -> Result<(Two, Option<Vec<u8>>), Stop>
+fn read_plans<F: Files>(alloc: Global, files: &mut F, words: &[String]) -> Result<Three, Stop>
     ensures table { IfOk result (λ t. IsNamed (F.seen files.old).folder (map string_bytes words.now) Part.Table (option_map vec_items t.0.0)) }
     ensures cores { IfOk result (λ t. IsNamed (F.seen files.old).folder (map string_bytes words.now) Part.Cores (option_map vec_items t.0.1)) }
     ensures plan { IfOk result (λ t. IsNamed (F.seen files.old).folder (map string_bytes words.now) Part.Plan (option_map vec_items t.1)) }
@@ -207,7 +192,7 @@ fn read_files<F: Files>(
     alloc: Global,
     files: &mut F,
     words: &[String],
-) -> Result<(Four, (Two, Option<Vec<u8>>)), Stop>
+) -> Result<(Four, Three), Stop>
     ensures program { IfOk result (λ t. IsNamed (F.seen files.old).folder (map string_bytes words.now) Part.Program (option_map vec_items t.0.0.0)) }
     ensures bodies { IfOk result (λ t. IsNamed (F.seen files.old).folder (map string_bytes words.now) Part.Bodies (option_map vec_items t.0.0.1)) }
     ensures sensors { IfOk result (λ t. IsNamed (F.seen files.old).folder (map string_bytes words.now) Part.Sensors (option_map vec_items t.0.1.0)) }

@@ -1,7 +1,7 @@
 //! The rows of the sensors.
 
 ghost use Rattle.std.specs.Prelude.{◌≡◌, ◌<◌, length, slice_get, Some};
-ghost use Rattle.prl_flow.specs.Rows.{rows_of};
+ghost use Rattle.prl_flow.specs.Rows.{Rows, rows_of};
 
 use prl_base::{Seq, Value};
 use std::marker::Model;
@@ -14,9 +14,6 @@ pub struct Sensors {
 }
 
 impl Model for Sensors {
-    ghost use Rattle.std.specs.Prelude.{List};
-    ghost use Rattle.prl_flow.specs.Rows.{Rows};
-
     ghost Value = { Rows };
 
     ghost view = { λ s. s.rows.items };

@@ -1,6 +1,6 @@
 -- The texts of generated programs: a chain of lanes, each with a sensor, an imported node and an
 -- actuator. The program is given line by line, in its printed form.
-use Rattle.std.specs.Prelude.{ℕ, ◌==◌, ◌-◌, ◌/◌, ◌++◌, List, [], length, codes, decimal, nat_lt}
+use Rattle.std.specs.Prelude.{ℕ, ℤ, ◌==◌, ◌-◌, ◌/◌, ◌++◌, List, [], length, codes, decimal, nat_lt}
 use Rattle.std.specs.Prelude.{slice_index, if◌then◌else◌}
 use Rattle.std.specs.Fmt.{signed_decimal}
 use Rattle.prl_gen.specs.Draws.{state_after}
@@ -96,14 +96,13 @@ bodies factors = each (λ lane. body lane (slice_index factors lane)) (length fa
 -- the sensor rows of lanes with these periods, whose values are drawn from a state on
 
 -- `s0,3,-512`
-abbrev pub row : ℕ → ℕ → ℕ → List ℕ
-row lane instance state =
-    codes "s" ++ decimal lane ++ codes "," ++ decimal instance ++ codes ","
-    ++ signed_decimal (value_at state) ++ codes "\n"
+abbrev pub row : ℕ → ℕ → ℤ → List ℕ
+row lane instance value =
+    codes "s" ++ decimal lane ++ codes "," ++ decimal instance ++ codes "," ++ signed_decimal value ++ codes "\n"
 
 abbrev pub rows_of_lane : ℕ → ℕ → ℕ → List ℕ
 rows_of_lane lane period state =
-    each (λ instance. row lane instance (state_after state instance)) (instances period)
+    each (λ instance. row lane instance (value_at (state_after state instance))) (instances period)
 
 abbrev pub sensors : List ℕ → ℕ → List ℕ
 sensors periods state =

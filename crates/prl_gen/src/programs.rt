@@ -5,7 +5,7 @@ ghost use Rattle.prl_gen.specs.Lanes.{ArePositive};
 ghost use Rattle.prl_gen.specs.Texts.{declarations, input, inputs, node, node_head, outputs, program, semicolon_before};
 
 use crate::equations::push_equations;
-use crate::numbered::push_lines;
+use crate::numbered::{push_lines, push_numbered};
 use prl_base::push_number;
 use std::alloc::AllocError;
 
@@ -31,9 +31,7 @@ fn push_semicolon(text: &mut Vec<u8>, lane: usize) -> Result<(), AllocError>
 fn push_input(text: &mut Vec<u8>, lane: usize, period: u64) -> Result<(), AllocError>
     ensures { OnOk result (text.new.items ≡ text.old.items ++ input lane period) }
 {
-    text.extend_from_slice(b"s")?;
-    push_number(text, lane as u64)?;
-    text.extend_from_slice(b": rate (")?;
+    push_numbered(text, b"s", lane as u64, b": rate (")?;
     push_number(text, period)?;
     text.extend_from_slice(b", 0)")
 }

@@ -2,35 +2,28 @@
 //! Each function appends to the text.
 
 ghost use Rattle.std.specs.Prelude.{◌≡◌, ◌++◌, ◌<◌, OnOk, length};
-ghost use Rattle.prl_gen.specs.Draws.{next, state_after};
+ghost use Rattle.prl_gen.specs.Draws.{state_after};
 ghost use Rattle.prl_gen.specs.Lanes.{ArePositive, instances, state_of_lane};
 ghost use Rattle.prl_gen.specs.Texts.{row, rows_of_lane, sensors};
 
 use crate::draws::Draws;
 use crate::lanes::{draw_value, instances};
+use crate::numbered::push_numbered;
 use prl_base::{push_integer, push_number};
 use std::alloc::AllocError;
 
-/// The row of an instance, and its value drawn.
-fn push_row(
-    text: &mut Vec<u8>,
-    draws: &mut Draws,
-    lane: usize,
-    instance: u64,
-) -> Result<(), AllocError>
-    ensures text { OnOk result (text.new.items ≡ text.old.items ++ row lane instance draws.old.state) }
-    ensures state { OnOk result (draws.new.state ≡ next draws.old.state) }
+/// The row of an instance.
+fn push_row(text: &mut Vec<u8>, lane: usize, instance: u64, value: i64) -> Result<(), AllocError>
+    ensures { OnOk result (text.new.items ≡ text.old.items ++ row lane instance value) }
 {
-    text.extend_from_slice(b"s")?;
-    push_number(text, lane as u64)?;
-    text.extend_from_slice(b",")?;
+    push_numbered(text, b"s", lane as u64, b",")?;
     push_number(text, instance)?;
     text.extend_from_slice(b",")?;
-    push_integer(text, draw_value(draws))?;
+    push_integer(text, value)?;
     text.extend_from_slice(b"\n")
 }
 
-/// The rows of a lane.
+/// The rows of a lane, whose values are drawn.
 #[tactic(auto, using(crate::proofs::Steps::each_more, crate::proofs::Steps::state_more))]
 fn push_rows_of_lane(
     text: &mut Vec<u8>,
@@ -43,7 +36,8 @@ fn push_rows_of_lane(
     ensures state { OnOk result (draws.new.state ≡ state_after draws.old.state (instances period)) }
 {
     for instance in 0..instances(period) {
-        push_row(text, draws, lane, instance)?;
+        let value = draw_value(draws);
+        push_row(text, lane, instance, value)?;
     }
     Ok(())
 }

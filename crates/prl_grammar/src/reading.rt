@@ -5,6 +5,7 @@ ghost use Rattle.prl_base.specs.Reading.{Gives};
 ghost use Rattle.prl_grammar.specs.code.Readers.{next_in, place_at, name_at, number_at};
 ghost use Rattle.prl_grammar.specs.code.Stops.{stop_of};
 ghost use Rattle.prl_grammar.specs.Whole.{place_of, place_or};
+ghost use Rattle.prl_grammar.specs.declared.reading.Stop.TheVariants.{Memory};
 
 use crate::terminals::Terminal;
 use prl_base::{Name, Span};
@@ -19,9 +20,6 @@ pub enum Stop {
 }
 
 impl From<AllocError> for Stop {
-    ghost use Rattle.std.specs.Prelude.{◌≡◌};
-    ghost use Rattle.prl_grammar.specs.declared.reading.Stop.TheVariants.{Memory};
-
     ghost from_gives = { λ _ e. e ≡ Memory };
 
     fn from(_error: AllocError) -> Stop {
@@ -30,9 +28,6 @@ impl From<AllocError> for Stop {
 }
 
 impl<T: Drop> From<AllocFailed<T>> for Stop {
-    ghost use Rattle.std.specs.Prelude.{◌≡◌};
-    ghost use Rattle.prl_grammar.specs.declared.reading.Stop.TheVariants.{Memory};
-
     ghost from_gives = { λ _ e. e ≡ Memory };
 
     fn from(_error: AllocFailed<T>) -> Stop {

@@ -1,6 +1,6 @@
 //! From a text to its tree, or to its first fault.
 
-ghost use Rattle.std.specs.Prelude.{◌≡◌, ◌<◌, ◌^◌, length};
+ghost use Rattle.std.specs.Prelude.{◌<◌, ◌^◌, length};
 ghost use Rattle.prl_base.specs.Reading.{GivesBut};
 ghost use Rattle.prl_grammar.specs.code.Texts.{FaultOfStop, tree_of_text, tree_of_tokens};
 
@@ -10,7 +10,7 @@ use crate::reading::{Stop, place_of};
 use crate::syntax::Syntax;
 use crate::terminals::Terminal;
 use prl_lex::{LexFault, lex};
-use std::alloc::{AllocError, Global};
+use std::alloc::Global;
 
 /// Why a text has no tree.
 #[derive(Clone, Copy)]
@@ -22,17 +22,6 @@ pub enum TextFault {
     /// The number at this byte is out of its range.
     NumberRange(u32),
     Memory,
-}
-
-impl From<AllocError> for TextFault {
-    ghost use Rattle.std.specs.Prelude.{◌≡◌};
-    ghost use Rattle.prl_grammar.specs.declared.texts.TextFault.TheVariants.{Memory};
-
-    ghost from_gives = { λ _ e. e ≡ Memory };
-
-    fn from(_error: AllocError) -> TextFault {
-        TextFault::Memory
-    }
 }
 
 /// What is told where a reader stopped, in a text of so many bytes.
@@ -75,6 +64,8 @@ pub fn read_text<S: Syntax>(alloc: Global, text: &[u8]) -> Result<S::Tree, TextF
         Err(LexFault::Memory) => return Err(TextFault::Memory),
         Err(fault) => return Err(TextFault::Lexical(fault)),
     };
-    let terminals = terminals_of::<S>(alloc, text, tokens.as_slice())?;
-    tree_of_tokens::<S>(alloc, terminals.as_slice(), text.len() as u32)
+    match terminals_of::<S>(alloc, text, tokens.as_slice()) {
+        Ok(terminals) => tree_of_tokens::<S>(alloc, terminals.as_slice(), text.len() as u32),
+        Err(_) => Err(TextFault::Memory),
+    }
 }

@@ -1,6 +1,6 @@
 -- Where dues may stand, and what they bind.
 use Rattle.prl_base.proofs.Standard.{◌≡◌, ◌<◌, ◌≤◌, ◌+◌, ℕ, Bool, true, false, List, length, set, slice_get, Some, None, refl, sym, ◌∙◌, ap, subst, arith, ⊎_elim, length-set, cases_lt}
-use Rattle.prl_base.proofs.Standard.{slice_get_within}
+use Rattle.prl_base.proofs.Standard.{slice_get_within, get_or-set_same}
 use Rattle.prl_base.specs.declared.numbers.FlowNo.{FlowNo}
 use Rattle.prl_base.specs.declared.operators.Clock.{Clock}
 use Rattle.prl_flow.specs.declared.programs.Def.TheVariants as definitions
@@ -8,7 +8,7 @@ use Rattle.prl_flow.specs.Vocabulary.{FlatProgram, clock_of}
 use Rattle.prl_flow.specs.declared.programs.Flow.{Flow}
 use Rattle.prl_graph.specs.Dues.{AllowsDue, AreDuesAllowed, AreDuesInRange, CopiesOutput, IsDueOnNonTask, IsDueOutOfRange, IsMainInput, IsMainOutput, IsWithinPeriod, NotesDue, input, output, copy}
 use Rattle.prl_graph.specs.code.Marks.{AreMarked, AreOutputMarks, IsBinding, IsLabelOf, IsMarked, IsMisplaced, IsPlaced, IsRanged, IsUnranged}
-use Rattle.prl_graph.proofs.Lists.{mark_cases, mark_kept, mark_set}
+use Rattle.prl_graph.proofs.Lists.{mark_cases, mark_kept}
 
 -- one output more
 pub one_marked : (p : FlatProgram) (n : ℕ) (marks : List Bool) (flow : FlowNo) → AreMarked p n marks → slice_get p.outs n ≡ Some flow → flow.0 < length p.flows → AreMarked p (n + 1) (set marks flow.0 true)
@@ -25,7 +25,7 @@ one_marked p n marks flow are found below =
           (λ not_less.
           (let last : h.0 ≡ n = omega arith in
           let same : flow ≡ record { 0 = i } = (let e : Some flow ≡ Some (record { 0 = i }) = sym found ∙ ap (slice_get p.outs) (sym last) ∙ h.2 in cc) in
-          subst (λ (f : FlowNo). IsMarked (set marks flow.0 true) f.0) same (mark_set marks flow.0 there)))
+          subst (λ (f : FlowNo). IsMarked (set marks flow.0 true) f.0) same (get_or-set_same marks flow.0 true false there)))
           (cases_lt h.0 n));
     }
 

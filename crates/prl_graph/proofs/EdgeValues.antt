@@ -29,12 +29,8 @@ value_by values (operands.Const c) = Some c
 value_by values (operands.From m) = slice_get values m
 
 denominated : (ty : Ty) (op : Op) → IsOperatorFor ty op → IsDenominated op
-denominated ty (operators.Fby c) fits = tt
-denominated ty (operators.Cons c) fits = tt
-denominated ty operators.Tail fits = tt
-denominated ty (operators.Up k) fits = tt
-denominated ty (operators.Down k) fits = tt
 denominated ty (operators.Shift q) fits = fits.0
+denominated ty _ fits = tt
 
 module _ (p : FlatProgram) (clocks : List Clock) (bodies : List CheckedBody) (rows : Rows) (until : ℕ) (flows : List (List Value))
     (flat : IsFlat p) (are : AreClocks p clocks) (solves : Solves p clocks bodies rows until flows) where

@@ -1,5 +1,5 @@
 -- The least due of each application, flow after flow.
-use Rattle.prl_base.proofs.Standard.{◌≡◌, ◌<◌, ◌≤◌, ◌+◌, ◌≢◌, ◌⊎◌, ℕ, List, [], ◌∷◌, ◌++◌, length, set, get_or, slice_get, Some, sym, ◌∙◌, ap, subst, arith, inl, inr, ⊎_elim, length-set}
+use Rattle.prl_base.proofs.Standard.{◌≡◌, ◌<◌, ◌≤◌, ◌+◌, ◌≢◌, ◌⊎◌, ℕ, List, [], ◌∷◌, ◌++◌, length, set, get_or, slice_get, Some, sym, ◌∙◌, ap, subst, arith, inl, inr, ⊎_elim, length-set, cases_eq}
 use Rattle.prl_base.proofs.Standard.{get_or-set_same, cases_lt, get_or_append_left, get_or_push, slice_get_within, get_or_from_slice_get}
 use Rattle.std.proofs.Common.{get_or-set_other}
 use Rattle.prl_base.specs.declared.numbers.FlowNo.{FlowNo}
@@ -8,7 +8,6 @@ use Rattle.prl_flow.specs.Vocabulary.{FlatProgram, IsFlat, IsWellDefined, AreClo
 use Rattle.prl_flow.specs.declared.programs.App.{App}
 use Rattle.prl_flow.proofs.Lists.{element_at}
 use Rattle.prl_graph.specs.Vocabulary.{BindsApplication, IsLeastDue, application_clock, AreLeastDues, HasClock, IsBinding, IsLeastOfFirst}
-use Rattle.prl_graph.proofs.Lists.{equal_or_not}
 
 -- the first output of an application has a clock
 pub has_clock : (p : FlatProgram) (clocks : List Clock) (k : ℕ) (app : App) → IsFlat p → AreClocks p clocks → slice_get p.apps k ≡ Some app → HasClock clocks app
@@ -95,7 +94,7 @@ module _ (p : FlatProgram) (clocks : List Clock) (dues : List ℕ) (n bound due 
     each = λ k app found. ⊎_elim
         (λ same. (let lower : get_or dues k 0 ≤ due = subst (λ m. get_or dues m 0 ≤ due) (sym same) low in keeps k (application_clock clocks app).period (get_or dues k 0) lower (are.each k app found)))
         (λ apart. others k (application_clock clocks app).period (get_or dues k 0) apart (are.each k app found))
-        (equal_or_not k bound);
+        (cases_eq k bound);
   }
 
   lowered_one : (k period : ℕ) → k ≡ bound → due < get_or dues bound 0 → IsLeastOfFirst p n k period (get_or dues k 0) → IsLeastOfFirst p (n + 1) k period due
@@ -116,7 +115,7 @@ module _ (p : FlatProgram) (clocks : List Clock) (dues : List ℕ) (n bound due 
         (let value : get_or (set dues bound due) k 0 ≡ get_or dues k 0 = get_or-set_other dues bound k due 0 apart in
         subst (λ d. IsLeastOfFirst p (n + 1) k (application_clock clocks app).period d) (sym value)
         (others k (application_clock clocks app).period (get_or dues k 0) apart (are.each k app found))))
-        (equal_or_not k bound);
+        (cases_eq k bound);
   }
 
   pub either_more : (after : List ℕ) → bound < length dues → (due < get_or dues bound 0 → after ≡ set dues bound due) → (get_or dues bound 0 ≤ due → after ≡ dues) → AreLeastDues p clocks (n + 1) after

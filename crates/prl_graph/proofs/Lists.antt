@@ -1,8 +1,7 @@
 -- Lists with one more element, and marks.
-use Rattle.prl_base.proofs.Standard.{◌≡◌, ◌<◌, ◌≢◌, ◌+◌, ◌⊎◌, ℕ, zero, suc, zero-add, Bool, true, false, cond, List, [], ◌∷◌, ◌++◌, length, set, get_or, replicate, slice_get, Some, refl, sym, ◌∙◌, ap}
-use Rattle.prl_base.proofs.Standard.{subst, arith, inl, inr, ⊎_elim, get_or-set_same, count_by, cases_lt, false≢true, slice_get_within, slice_get-get_or, sum_by-set, sum_by-cons}
+use Rattle.prl_base.proofs.Standard.{◌≡◌, ◌<◌, ◌+◌, ◌⊎◌, ℕ, zero, suc, zero-add, Bool, true, false, cond, List, [], ◌∷◌, ◌++◌, length, set, get_or, replicate, slice_get, Some, refl, sym, ◌∙◌, ap}
+use Rattle.prl_base.proofs.Standard.{subst, arith, inl, inr, ⊎_elim, get_or-set_same, count_by, cases_eq, slice_get-get_or, sum_by-set, sum_by-cons}
 use Rattle.std.proofs.Common.{get_or-set_other}
-use Rattle.prl_flow.proofs.Lists.{slice_get_append_left}
 use Rattle.prl_graph.specs.code.Marks.{IsMarked}
 
 -- how many marks are set
@@ -14,9 +13,6 @@ push_cases [] y zero x h = inr (refl, cc)
 push_cases [] y (suc k) x h = cc
 push_cases (z ∷ xs) y zero x h = inl h
 push_cases (z ∷ xs) y (suc k) x h = ⊎_elim (λ a. inl a) (λ b. inr (ap (λ n. suc n) b.0, b.1)) (push_cases xs y k x h)
-
-pub push_keeps : {A : Type 0} (xs : List A) (y : A) (k : ℕ) (x : A) → slice_get xs k ≡ Some x → slice_get (xs ++ y ∷ []) k ≡ Some x
-push_keeps xs y k x h = slice_get_append_left xs (y ∷ []) k (slice_get_within xs k x h) ∙ h
 
 -- an element of two lists is one of the first or of the second
 pub append_cases : {A : Type 0} (xs ys : List A) (k : ℕ) (x : A) → slice_get (xs ++ ys) k ≡ Some x
@@ -32,23 +28,12 @@ append_right (x ∷ xs) ys k =
     let e : suc (length xs) + k ≡ suc (length xs + k) = omega arith in
     ap (slice_get (x ∷ (xs ++ ys))) e ∙ append_right xs ys k
 
-pub marked_within : (marks : List Bool) (i : ℕ) → IsMarked marks i → i < length marks
-marked_within [] i h = absurd (false≢true h)
-marked_within (b ∷ marks) zero h = omega arith
-marked_within (b ∷ marks) (suc i) h = (let below = marked_within marks i h in omega arith)
-
-pub equal_or_not : (i j : ℕ) → (i ≡ j) ⊎ (i ≢ j)
-equal_or_not i j = ⊎_elim (λ a. inr (λ e. omega arith)) (λ b. ⊎_elim (λ c. inr (λ e. omega arith)) (λ d. inl (omega arith)) (cases_lt j i)) (cases_lt i j)
-
-pub mark_set : (marks : List Bool) (i : ℕ) → i < length marks → IsMarked (set marks i true) i
-mark_set marks i below = get_or-set_same marks i true false below
-
 pub mark_kept : (marks : List Bool) (i j : ℕ) → i < length marks → IsMarked marks j → IsMarked (set marks i true) j
 mark_kept marks i j below h =
-    ⊎_elim (λ same. subst (λ x. IsMarked (set marks i true) x) (sym same) (mark_set marks i below)) (λ other. get_or-set_other marks i j true false other ∙ h) (equal_or_not j i)
+    ⊎_elim (λ same. subst (λ x. IsMarked (set marks i true) x) (sym same) (get_or-set_same marks i true false below)) (λ other. get_or-set_other marks i j true false other ∙ h) (cases_eq j i)
 
 pub mark_cases : (marks : List Bool) (i j : ℕ) → IsMarked (set marks i true) j → (j ≡ i) ⊎ IsMarked marks j
-mark_cases marks i j h = ⊎_elim (λ same. inl same) (λ other. inr (sym (get_or-set_other marks i j true false other) ∙ h)) (equal_or_not j i)
+mark_cases marks i j h = ⊎_elim (λ same. inl same) (λ other. inr (sym (get_or-set_other marks i j true false other) ∙ h)) (cases_eq j i)
 
 counted_true : (marks : List Bool) → marked_count (true ∷ marks) ≡ 1 + marked_count marks
 counted_true marks = sum_by-cons (λ b. cond b 1 0) true marks
@@ -58,10 +43,8 @@ counted_false marks = sum_by-cons (λ b. cond b 1 0) false marks ∙ zero-add (m
 
 pub mark_counted : (marks : List Bool) (i : ℕ) → i < length marks → get_or marks i false ≡ false → marked_count (set marks i true) ≡ marked_count marks + 1
 mark_counted marks i below clear =
-    let sums = sum_by-set (λ b. cond b 1 0) marks i true false below in
-    let one : ℕ = 1 in
-    let before : cond (get_or marks i false) one 0 ≡ 0 = rw clear refl in
-    omega (arith, sums, before)
+    let before : ◌≡◌ {A = ℕ} (cond (get_or marks i false) 1 0) 0 = rw clear refl in
+    omega (arith, sum_by-set (λ b. cond b 1 0) marks i true false below, before)
 
 pub count_most : (marks : List Bool) → marked_count marks < length marks + 1
 count_most [] = omega arith

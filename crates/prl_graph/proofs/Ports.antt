@@ -93,9 +93,7 @@ pub find_actuator : (i : ℕ) (flows : List FlowNo) (k : ℕ) (flow : FlowNo) �
     → slice_get (actuator_ports i flows) k ≡ Some (record { task = i + k; port = 0; flow = flow.0 })
 find_actuator i [] k flow h = cc
 find_actuator i (f ∷ flows) zero flow h =
-    let e : i ≡ i + 0 = omega arith in
     let same : f ≡ flow = cc in
-    ap (λ n. Some (record { task = n; port = 0; flow = f.0 })) e ∙ ap (λ (g : FlowNo). Some (record { task = i + 0; port = 0; flow = g.0 })) same
+    (let e : i ≡ i + 0 = omega arith in λ q. Some (record { task = e q; port = 0; flow = (same q).0 }))
 find_actuator i (f ∷ flows) (suc k) flow h =
-    let same : (i + 1) + k ≡ i + suc k = omega arith in
-    find_actuator (i + 1) flows k flow h ∙ ap (λ n. Some (record { task = n; port = 0; flow = flow.0 })) same
+    find_actuator (i + 1) flows k flow h ∙ (let e : (i + 1) + k ≡ i + suc k = omega arith in λ q. Some (record { task = e q; port = 0; flow = flow.0 }))

@@ -1,6 +1,6 @@
 -- A flat program with clocks has a task graph or a fault.
 use Rattle.prl_base.proofs.Standard.{◌≡◌, ◌≢◌, ◌<◌, ◌≤◌, ◌+◌, ◌-◌, ◌*◌, ◌/◌, ◌⊎◌, ℕ, zero, suc, List, [], ◌∷◌, ◌++◌, length, take, slice_get, Some, None, refl, sym, ◌∙◌, ap, subst, arith, inl, inr}
-use Rattle.prl_base.proofs.Standard.{⊎_elim, cases_lt, length_push, IsGcd-from_zero, IsGcd-from_sub, IsGcd-swap, get_or_from_slice_get, slice_get_within, IsGcd}
+use Rattle.prl_base.proofs.Standard.{◌%◌, ⊎_elim, cases_lt, length_push, IsGcd-from_zero, IsGcd-from_mod, mod_below, get_or_from_slice_get, slice_get_within, IsGcd, cases_eq}
 use Rattle.prl_base.specs.declared.limits.What.TheVariants as limits
 use Rattle.prl_base.specs.declared.numbers.FlowNo.{FlowNo}
 use Rattle.prl_base.specs.declared.operators.Clock.{Clock}
@@ -24,7 +24,7 @@ use Rattle.prl_graph.specs.declared.faults.GraphFault.TheVariants as faults
 use Rattle.prl_graph.specs.code.Steps as steps
 use Rattle.prl_graph.proofs.DueFacts.{all_placed, all_ranged, no_due, non_task, nowhere_allowed, of_noted, one_copied, out_of_range}
 use Rattle.prl_graph.proofs.LeastDues.{least_more, least_of_all}
-use Rattle.prl_graph.proofs.Lists.{equal_or_not, push_cases}
+use Rattle.prl_graph.proofs.Lists.{push_cases}
 use Rattle.prl_graph.proofs.Multiples.{hyper_all, hyper_more, hyper_none, past_hyper}
 use Rattle.prl_numbers.proofs.LeastMultiples.{least_multiple_is}
 use Rattle.prl_graph.proofs.Ports.{port_within}
@@ -32,15 +32,12 @@ use Rattle.prl_graph.proofs.Walks.{copied_within, few_steps, one_copy, one_opera
 use Rattle.prl_graph.proofs.Ways.{same_flow}
 
 -- two numbers have a greatest common divisor
-gcd_of : (most a b : ℕ) → a + b ≤ most → (g : ℕ) × IsGcd a b g
+gcd_of : (most a b : ℕ) → b ≤ most → (g : ℕ) × IsGcd a b g
 gcd_of most a zero bound = (a, IsGcd-from_zero a 0 refl)
-gcd_of most zero (suc b) bound = (suc b, IsGcd-swap (suc b) 0 (suc b) (IsGcd-from_zero (suc b) 0 refl))
-gcd_of zero (suc a) (suc b) bound = absurd (omega arith)
-gcd_of (suc most) (suc a) (suc b) bound =
-    elim (cases_lt (suc a) (suc b)) [
-      | inl below ↦ (let rest = gcd_of most (suc b - suc a) (suc a) (omega arith) in (rest.0, IsGcd-swap (suc b) (suc a) rest.0 (IsGcd-from_sub (suc b) (suc a) rest.0 (omega arith) rest.1)))
-      | inr above ↦ (let rest = gcd_of most (suc a - suc b) (suc b) (omega arith) in (rest.0, IsGcd-from_sub (suc a) (suc b) rest.0 above rest.1))
-    ]
+gcd_of zero a (suc b) bound = absurd (omega (arith, bound))
+gcd_of (suc most) a (suc b) bound =
+    let rest = gcd_of most (suc b) (a % suc b) (omega (arith, mod_below a (suc b) (omega arith), bound)) in
+    (rest.0, IsGcd-from_mod a (suc b) rest.0 rest.1)
 
 -- the running least common multiple, or the first that is past the limit
 running : (clocks : List Clock) → ((i : ℕ) (clock : Clock) → slice_get clocks i ≡ Some clock → 1 ≤ clock.period) → (n : ℕ) → n ≤ length clocks
@@ -50,7 +47,7 @@ running clocks periods (suc n) within =
     ⊎_elim
     (λ (hyper, is, few).
     (let at = element_at clocks n (omega arith) in
-    let gcd = gcd_of (hyper + at.0.period) hyper at.0.period (omega arith) in
+    let gcd = gcd_of at.0.period hyper at.0.period (omega arith) in
     let next : IsLeastMultiple hyper at.0.period (hyper / gcd.0 * at.0.period) = least_multiple_is hyper at.0.period gcd.0 is.positive (periods n at.0 at.1) gcd.1 in
     let one : n + 1 ≡ suc n = omega arith in
     ⊎_elim
@@ -70,7 +67,7 @@ among (x ∷ xs) i =
     (λ (k, at). inl (suc k, at))
     (λ none. inr (λ k h. not_here x xs i apart none k h))
     (among xs i))
-    (equal_or_not x.0 i)
+    (cases_eq x.0 i)
   where
     not_here : (x : FlowNo) (xs : List FlowNo) (i : ℕ) → x.0 ≢ i → ((k : ℕ) → slice_get xs k ≡ Some (record { 0 = i }) → ⊥) → (k : ℕ) → slice_get (x ∷ xs) k ≡ Some (record { 0 = i }) → ⊥
     not_here x xs i apart none zero h = apart (let e : x ≡ record { 0 = i } = cc in ap (λ (f : FlowNo). f.0) e)
@@ -203,7 +200,7 @@ binds_or_not p flat k i =
           (λ no_out. inl (due, record { notes = record { flow = at.0; found = at.1; noted = e }; copies = subst (CopiesOutput p i) same c; local = λ out. no_out out.0 out.1 }))
           (among p.outs i))
           (λ apart. inr (λ other b. apart (one_copied p i k l b.copies c)))
-          (equal_or_not l k))
+          (cases_eq l k))
           (λ none. inr (λ other b. none k b.copies))
           (copied p flat i at.0 at.0.def at.1 refl)
     ] refl))

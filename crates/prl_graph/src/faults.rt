@@ -1,5 +1,8 @@
 //! Why a flat program has no task graph.
 
+ghost use Rattle.std.specs.Prelude.{◌≡◌};
+ghost use Rattle.prl_graph.specs.declared.faults.GraphFault.TheVariants.{Memory};
+
 use prl_base::{Label, Limit};
 use std::alloc::AllocError;
 
@@ -23,9 +26,6 @@ pub enum GraphFault {
 }
 
 impl From<AllocError> for GraphFault {
-    ghost use Rattle.std.specs.Prelude.{◌≡◌};
-    ghost use Rattle.prl_graph.specs.declared.faults.GraphFault.TheVariants.{Memory};
-
     ghost from_gives = { λ _ e. e ≡ Memory };
 
     fn from(_error: AllocError) -> GraphFault {

@@ -2,6 +2,7 @@
 
 ghost use Rattle.std.specs.Prelude.{◌≡◌, ◌+◌, ◌≤◌, length};
 ghost use Rattle.prl_lex.specs.Lexing.{token_text};
+ghost use Rattle.prl_lex.specs.declared.tokens.LexFault.TheVariants.{Memory};
 
 use prl_base::{Limit, Span};
 use std::alloc::AllocFailed;
@@ -40,9 +41,6 @@ pub enum LexFault {
 }
 
 impl<T: Drop> From<AllocFailed<T>> for LexFault {
-    ghost use Rattle.std.specs.Prelude.{◌≡◌};
-    ghost use Rattle.prl_lex.specs.declared.tokens.LexFault.TheVariants.{Memory};
-
     ghost from_gives = { λ _ e. e ≡ Memory };
 
     fn from(_error: AllocFailed<T>) -> LexFault {

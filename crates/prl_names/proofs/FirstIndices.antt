@@ -1,8 +1,8 @@
 -- The indices of names in a list that grows.
-use Rattle.prl_base.proofs.Standard.{◌≡◌, ◌<◌, ◌≤◌, ℕ, ◌+◌, suc, true, false, cond, List, [], ◌∷◌, ◌++◌, length, take, get_or, refl, sym, ap, ◌∙◌, subst, Some, None, Option, arith, add-zero, Bor}
+use Rattle.prl_base.proofs.Standard.{◌≡◌, ◌<◌, ◌≤◌, ℕ, ◌+◌, suc, Bool, true, false, cond, List, [], ◌∷◌, ◌++◌, length, take, get_or, refl, sym, ap, ◌∙◌, subst, Some, None, Option, arith, add-zero, Bor}
 use Rattle.prl_base.proofs.Standard.{take_more, map-append, length-take-le, length-map, btree_map_updates_str, BTreeMap, UpdatesBy, slice_cmp, bytes_decides, nat_cmp, bytes_eq}
 use Rattle.std.specs.Option.{is_some}
-use Rattle.prl_names.specs.Vocabulary.{Mention, index_from, index_of, names_in, found, AreIndices}
+use Rattle.prl_names.specs.Vocabulary.{Mention, index_from, index_of, is_among, names_in, found, AreIndices}
 
 abbrev pub either : Option ℕ → Option ℕ → Option ℕ
 either (Some k) other = Some k
@@ -49,19 +49,22 @@ pub names_with : (ms : List Mention) (k : ℕ) (x : Mention) → k < length ms �
 names_with ms k x below item =
     rw (take_more ms k x below, ← item) (map-append (λ (m : Mention). m.name.now) (take k ms) (x ∷ []))
 
+-- the table tells whether a name stands among those before it
+pub among : (table : BTreeMap (Bor (List ℕ)) ℕ) (ms : List Mention) (k : ℕ) (x : Mention) (bs : List ℕ) (b : Bool) → bs ≡ x.name.now → AreIndices table (names_in (take k ms)) →
+    b ≡ is_some (found table bs) → is_among (names_in (take k ms)) x.name.now ≡ b
+among table ms k x bs b bytes indices was = sym (was ∙ ap is_some (indices bs) ∙ ap (is_among (names_in (take k ms))) bytes)
+
 pub step_kept : (table : BTreeMap (Bor (List ℕ)) ℕ) (ms : List Mention) (k : ℕ) (x : Mention) (bs : List ℕ) → k < length ms → x ≡ get_or ms k x → bs ≡ x.name.now →
     AreIndices table (names_in (take k ms)) → true ≡ is_some (found table bs) → AreIndices table (names_in (take (k + 1) ms))
 step_kept table ms k x bs below item bytes indices was = λ q.
-    let there : is_some (index_of (names_in (take k ms)) x.name.now) ≡ true = sym (was ∙ ap is_some (indices bs) ∙ ap (λ n. is_some (index_of (names_in (take k ms)) n)) bytes) in
-    rw (names_with ms k x below item) (indices q ∙ sym (kept (names_in (take k ms)) x.name.now q there))
+    rw (names_with ms k x below item) (indices q ∙ sym (kept (names_in (take k ms)) x.name.now q (among table ms k x bs true bytes indices was)))
 
 pub step_new : (table after : BTreeMap (Bor (List ℕ)) ℕ) (ms : List Mention) (k : ℕ) (x : Mention) (bs : List ℕ) → k < length ms → x ≡ get_or ms k x → bs ≡ x.name.now →
     AreIndices table (names_in (take k ms)) → false ≡ is_some (found table bs) →
     UpdatesBy (λ x y. slice_cmp nat_cmp x.now y.now) (λ y. slice_cmp nat_cmp bs y.now) table after (Some k) → AreIndices after (names_in (take (k + 1) ms))
 step_new table after ms k x bs below item bytes indices absent updates = λ q.
-    let none : is_some (index_of (names_in (take k ms)) x.name.now) ≡ false = sym (absent ∙ ap is_some (indices bs) ∙ ap (λ n. is_some (index_of (names_in (take k ms)) n)) bytes) in
     let within : k ≤ length ms = omega arith in
     let count : length (names_in (take k ms)) ≡ k = length-map (take k ms) (λ (m : Mention). m.name.now) ∙ length-take-le k ms within in
     let changed = btree_map_updates_str bs table after (Some k) updates q in
-    let old = rw (count, ← bytes) at (new (names_in (take k ms)) x.name.now q none) in
+    let old = rw (count, ← bytes) at (new (names_in (take k ms)) x.name.now q (among table ms k x bs false bytes indices absent)) in
     rw (names_with ms k x below item, ← bytes) (changed ∙ ap (cond (bytes_eq bs q) (Some k)) (indices q) ∙ sym old)

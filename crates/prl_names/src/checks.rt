@@ -6,6 +6,7 @@ ghost use Rattle.prl_base.specs.Reading.{GivesBut};
 ghost use Rattle.prl_ast.specs.Trees.{program_tree};
 ghost use Rattle.prl_names.specs.Named.{IsNamed};
 ghost use Rattle.prl_names.specs.Checks.{fault_of, main_of, names_of};
+ghost use Rattle.prl_names.specs.declared.checks.NameFault.TheVariants.{Memory};
 
 use crate::absences::{undefined, without_device};
 use crate::applications::recursive;
@@ -32,9 +33,6 @@ pub enum NameFault {
 }
 
 impl From<AllocError> for NameFault {
-    ghost use Rattle.std.specs.Prelude.{◌≡◌};
-    ghost use Rattle.prl_names.specs.declared.checks.NameFault.TheVariants.{Memory};
-
     ghost from_gives = { λ _ e. e ≡ Memory };
 
     fn from(_error: AllocError) -> NameFault {

@@ -1,6 +1,7 @@
 //! Names where they are declared or defined.
 
 ghost use Rattle.std.specs.Prelude.{◌≡◌, ◌++◌, IfOk, OnOk, map};
+ghost use Rattle.std.specs.List.{flat_map};
 ghost use Rattle.prl_names.specs.Mentions.{all_placed};
 
 use prl_ast::{Device, Import, Node, Param, Placed, Port};
@@ -117,13 +118,25 @@ pub fn push_all<'a, T: Mentioned>(
     Ok(())
 }
 
+/// The mentions of several lists, one after another.
+fn listed<'a, T: Mentioned>(
+    alloc: Global,
+    lists: &[&'a [T]],
+) -> Result<Vec<Mention<'a>>, AllocError>
+    ensures { IfOk result (λ list. all_placed list.items ≡ flat_map (λ all. map T.placed all.now) lists.now) }
+{
+    let mut list = Vec::new(alloc);
+    for all in lists {
+        push_all(&mut list, all)?;
+    }
+    Ok(list)
+}
+
 /// The mentions of these.
 pub fn mentions<T: Mentioned>(alloc: Global, all: &[T]) -> Result<Vec<Mention<'_>>, AllocError>
     ensures { IfOk result (λ list. all_placed list.items ≡ map T.placed all.now) }
 {
-    let mut list = Vec::new(alloc);
-    push_all(&mut list, all)?;
-    Ok(list)
+    listed(alloc, &[all])
 }
 
 /// What has names that share one space.
@@ -147,11 +160,12 @@ impl Spaced for Node {
 
     /// The parameters: inputs, then outputs, then locals.
     fn space(&self, alloc: Global) -> Result<Vec<Mention<'_>>, AllocError> {
-        let mut list = Vec::new(alloc);
-        push_all(&mut list, self.ins.as_slice())?;
-        push_all(&mut list, self.outs.as_slice())?;
-        push_all(&mut list, self.locals.as_slice())?;
-        Ok(list)
+        let lists = [
+            self.ins.as_slice(),
+            self.outs.as_slice(),
+            self.locals.as_slice(),
+        ];
+        listed(alloc, &lists)
     }
 }
 
@@ -162,9 +176,6 @@ impl Spaced for Import {
 
     /// The ports: inputs, then outputs.
     fn space(&self, alloc: Global) -> Result<Vec<Mention<'_>>, AllocError> {
-        let mut list = Vec::new(alloc);
-        push_all(&mut list, self.ins.as_slice())?;
-        push_all(&mut list, self.outs.as_slice())?;
-        Ok(list)
+        listed(alloc, &[self.ins.as_slice(), self.outs.as_slice()])
     }
 }

@@ -4,7 +4,7 @@ ghost use Rattle.std.specs.Prelude.{◌≡◌, ◌<◌, ◌^◌, IfOk, Ok, lengt
 ghost use Rattle.std.specs.String.{string_bytes};
 ghost use Rattle.prl_cores.specs.Spreads.{IsSpreadOf, LeavesRoom};
 ghost use Rattle.prl_cores.specs.Processors.{IsOfTasks};
-ghost use Rattle.prl_picture.specs.Asked.{IsAsked, IsDispatchedList, IsListed, IsPlacedEvents, IsPlacedOrListed, IsPlacedRun, IsSchedule, IsTableOf, IsUpTo, TellsProcessors};
+ghost use Rattle.prl_picture.specs.Asked.{IsAsked, IsDispatchedList, IsListed, IsPlacedEvents, IsPlacedRun, IsSchedule, IsTableOf, IsUpTo, TellsProcessors};
 ghost use Rattle.prl_tables.specs.Vocabulary.{entries_of, IsGood};
 ghost use Rattle.prl_views.specs.Shown.{IsOfPlan};
 
@@ -38,13 +38,14 @@ const TOO_MANY: &str = "too many jobs or events up to the tick of --edf";
 /// Why there is no picture of a run on processors.
 const TOO_MANY_PLACED: &str = "too many jobs or events up to the end of the range";
 
+/// The events of a run, or a fault.
+type Events = Result<Vec<Event>, Fault>;
+
+/// What is drawn beside the windows, or a fault.
+type Drawn = Result<Shown, Fault>;
+
 /// The events of the schedule in the file of this name.
-fn events_in<F: Files>(
-    alloc: Global,
-    files: &mut F,
-    plan: &Plan,
-    name: &[u8],
-) -> Result<Vec<Event>, Fault>
+fn events_in<F: Files>(alloc: Global, files: &mut F, plan: &Plan, name: &[u8]) -> Events
     ensures schedule { IfOk result (λ events. IsSchedule (F.seen files.old).folder plan.now events.items name.now) }
     ensures kept { (F.seen files.new).folder ≡ (F.seen files.old).folder }
 {
@@ -99,7 +100,7 @@ fn spread_in<F: Files>(
 }
 
 /// The dispatched list of the jobs that are released before a tick, on the processors of a spread plan.
-fn dispatched(alloc: Global, plan: &Plan, spread: &Spread, until: u64) -> Result<Vec<Event>, Fault>
+fn dispatched(alloc: Global, plan: &Plan, spread: &Spread, until: u64) -> Events
     requires spread { IsSpreadOf plan.now spread.now }
     requires until { until < 2 ^ 32 }
     ensures { IfOk result (λ events. IsDispatchedList plan.now spread.now.placement until events.items) }
@@ -121,7 +122,7 @@ fn placed_events<F: Files>(
     plan: &Plan,
     spread: &Spread,
     until: u64,
-) -> Result<Vec<Event>, Fault>
+) -> Events
     requires spread { IsSpreadOf plan.now spread.now }
     requires until { until < 2 ^ 32 }
     ensures events { IfOk result (λ events. IsPlacedEvents (F.seen files.old).folder plan.now (map string_bytes words.now) until spread.now.placement events.items) }
@@ -141,7 +142,7 @@ fn placed_run<F: Files>(
     plan: &Plan,
     until: u64,
     name: &[u8],
-) -> Result<Shown, Fault>
+) -> Drawn
     requires until { until < 2 ^ 32 }
     ensures plan { IfOk result (IsOfPlan plan.now) }
     ensures run { IfOk result (λ shown. IsPlacedRun (F.seen files.old).folder plan.now (map string_bytes words.now) until shown name.now) }
@@ -153,7 +154,7 @@ fn placed_run<F: Files>(
 }
 
 /// What the analysis finds of the jobs up to the tick that a word writes.
-fn verdict_of(alloc: Global, word: &[u8], plan: &Plan) -> Result<Shown, Fault>
+fn verdict_of(alloc: Global, word: &[u8], plan: &Plan) -> Drawn
     ensures plan { IfOk result (IsOfPlan plan.now) }
     ensures until { IfOk result (IsUpTo word.now) }
 {
@@ -168,12 +169,7 @@ fn verdict_of(alloc: Global, word: &[u8], plan: &Plan) -> Result<Shown, Fault>
 }
 
 /// What a schedule does: that of the file that the words name, or an empty one.
-fn listed<F: Files>(
-    alloc: Global,
-    words: &[String],
-    files: &mut F,
-    plan: &Plan,
-) -> Result<Shown, Fault>
+fn listed<F: Files>(alloc: Global, words: &[String], files: &mut F, plan: &Plan) -> Drawn
     ensures plan { IfOk result (IsOfPlan plan.now) }
     ensures listed { IfOk result (IsListed (F.seen files.old).folder plan.now (map string_bytes words.now)) }
     ensures kept { (F.seen files.new).folder ≡ (F.seen files.old).folder }
@@ -250,12 +246,7 @@ fn good_table(alloc: Global, source: &[u8], plan: &Plan) -> Result<Table, TableF
 }
 
 /// The table in the file of this name.
-fn table_in<F: Files>(
-    alloc: Global,
-    files: &mut F,
-    plan: &Plan,
-    name: &[u8],
-) -> Result<Shown, Fault>
+fn table_in<F: Files>(alloc: Global, files: &mut F, plan: &Plan, name: &[u8]) -> Drawn
     ensures plan { IfOk result (IsOfPlan plan.now) }
     ensures table { IfOk result (λ shown. IsTableOf (F.seen files.old).folder plan.now shown name.now) }
     ensures kept { (F.seen files.new).folder ≡ (F.seen files.old).folder }
@@ -276,25 +267,6 @@ fn are_apart(words: &[String]) -> bool {
     !(edf && table) && !(edf && placed) && !(table && placed)
 }
 
-/// A run on processors, or a schedule.
-fn placed_or_listed<F: Files>(
-    alloc: Global,
-    words: &[String],
-    files: &mut F,
-    plan: &Plan,
-    until: u64,
-) -> Result<Shown, Fault>
-    requires until { until < 2 ^ 32 }
-    ensures plan { IfOk result (IsOfPlan plan.now) }
-    ensures asked { IfOk result (IsPlacedOrListed (F.seen files.old).folder plan.now (map string_bytes words.now) until) }
-    ensures kept { (F.seen files.new).folder ≡ (F.seen files.old).folder }
-{
-    match value_of(b"--cores", words) {
-        Some(name) => placed_run(alloc, words, files, plan, until, name),
-        None => listed(alloc, words, files, plan),
-    }
-}
-
 /// What the words ask for beside the windows of a range that ends at a tick: the run of one processor,
 /// a table, a run on several processors, or a schedule.
 pub(crate) fn shown<F: Files>(
@@ -303,7 +275,7 @@ pub(crate) fn shown<F: Files>(
     files: &mut F,
     plan: &Plan,
     until: u64,
-) -> Result<Shown, Fault>
+) -> Drawn
     requires until { until < 2 ^ 32 }
     ensures plan { IfOk result (IsOfPlan plan.now) }
     ensures asked { IfOk result (IsAsked (F.seen files.old).folder plan.now (map string_bytes words.now) until) }
@@ -312,9 +284,15 @@ pub(crate) fn shown<F: Files>(
     if !are_apart(words) {
         return Err(Fault::Stop(Stop::Words(FORM)));
     }
-    match (value_of(b"--edf", words), value_of(b"--table", words)) {
-        (Some(word), _) => verdict_of(alloc, word, plan),
-        (None, Some(name)) => table_in(alloc, files, plan, name),
-        (None, None) => placed_or_listed(alloc, words, files, plan, until),
+    let edf = value_of(b"--edf", words);
+    match (
+        edf,
+        value_of(b"--table", words),
+        value_of(b"--cores", words),
+    ) {
+        (Some(word), _, _) => verdict_of(alloc, word, plan),
+        (None, Some(name), _) => table_in(alloc, files, plan, name),
+        (None, None, Some(name)) => placed_run(alloc, words, files, plan, until, name),
+        (None, None, None) => listed(alloc, words, files, plan),
     }
 }

@@ -34,14 +34,14 @@ module _ (graph : TaskGraph) (good : IsWellFormed graph) where
   abbrev moved : (ℕ → ℤ) → ℤ → Family → Family
   moved by ticks date i m = date i (m +ℤ by i) -ℤ ticks
 
-  moved_releases : (by : ℕ → ℤ) (ticks : ℤ) → Moves by ticks → (date : Family) → AreReleases graph date → AreReleases graph (moved by ticks date)
-  moved_releases by ticks moves date is = record {
+  moved_releases : {by : ℕ → ℤ} {ticks : ℤ} → Moves by ticks → (date : Family) → AreReleases graph date → AreReleases graph (moved by ticks date)
+  moved_releases {by} moves date is = record {
     above = λ i m inside. omega (arith, ints, is.above i (m +ℤ by i) inside, moves.release i m inside);
     along = λ before after precedes. omega (arith, ints, is.along (moved_job by before) (moved_job by after) (moves.precede before after precedes));
   }
 
-  moved_deadlines : (by : ℕ → ℤ) (ticks : ℤ) → Moves by ticks → (date : Family) → AreDeadlines graph date → AreDeadlines graph (moved by ticks date)
-  moved_deadlines by ticks moves date is = record {
+  moved_deadlines : {by : ℕ → ℤ} {ticks : ℤ} → Moves by ticks → (date : Family) → AreDeadlines graph date → AreDeadlines graph (moved by ticks date)
+  moved_deadlines {by} moves date is = record {
     below = λ i m inside. omega (arith, ints, is.below i (m +ℤ by i) inside, moves.release i m inside);
     along = λ before after precedes. omega (arith, ints, is.along (moved_job by before) (moved_job by after) (moves.precede before after precedes));
   }
@@ -95,16 +95,14 @@ module _ (graph : TaskGraph) (good : IsWellFormed graph) where
 
   pub least_repeat : (date : Family) → AreLeastReleases graph date → RepeatsByHyper graph date
   least_repeat date is = repeat_each date (λ i m inside back.
-      (let up = is.least (moved (λ i. pos (jobs_of i)) (pos graph.hyper) date) (moved_releases (λ i. pos (jobs_of i)) (pos graph.hyper) moves_up date is.releases) i m inside in
-      let down = is.least (moved (λ i. neg_ℤ (pos (jobs_of i))) (neg_ℤ (pos graph.hyper)) date)
-      (moved_releases (λ i. neg_ℤ (pos (jobs_of i))) (neg_ℤ (pos graph.hyper)) moves_down date is.releases) i (m +ℤ pos (jobs_of i)) inside in
+      (let up = is.least _ (moved_releases moves_up date is.releases) i m inside in
+      let down = is.least _ (moved_releases moves_down date is.releases) i (m +ℤ pos (jobs_of i)) inside in
       omega (arith, ints, up, down, back)))
 
   pub greatest_repeat : (date : Family) → AreGreatestDeadlines graph date → RepeatsByHyper graph date
   greatest_repeat date is = repeat_each date (λ i m inside back.
-      (let up = is.greatest (moved (λ i. pos (jobs_of i)) (pos graph.hyper) date) (moved_deadlines (λ i. pos (jobs_of i)) (pos graph.hyper) moves_up date is.deadlines) i m inside in
-      let down = is.greatest (moved (λ i. neg_ℤ (pos (jobs_of i))) (neg_ℤ (pos graph.hyper)) date)
-      (moved_deadlines (λ i. neg_ℤ (pos (jobs_of i))) (neg_ℤ (pos graph.hyper)) moves_down date is.deadlines) i (m +ℤ pos (jobs_of i)) inside in
+      (let up = is.greatest _ (moved_deadlines moves_up date is.deadlines) i m inside in
+      let down = is.greatest _ (moved_deadlines moves_down date is.deadlines) i (m +ℤ pos (jobs_of i)) inside in
       omega (arith, ints, up, down, back)))
 
   some_jobs : (jobs period : ℕ) → graph.hyper ≡ jobs * period → 1 ≤ jobs

@@ -1,10 +1,11 @@
 -- A free list of events from the opening is no longer than the horizon has actions and ticks.
-use Rattle.prl_base.proofs.Standard.{◌≡◌, ◌≢◌, ◌+◌, ◌<◌, ◌≤◌, ◌++◌, ℕ, zero, suc, List, [], ◌∷◌, length, length-append, length-set, get_or, set, refl, sym, ◌∙◌, ap, subst, arith, inl, inr, cases_lt}
+use Rattle.prl_base.proofs.Standard.{◌≡◌, ◌≢◌, ◌+◌, ◌<◌, ◌≤◌, ◌++◌, ℕ, zero, suc, List, [], ◌∷◌, length, length-append, length-set, get_or, set, refl, sym, ◌∙◌, ap, arith, inl, inr, cases_lt}
 use Rattle.prl_base.proofs.Standard.{cases_eq, get_or-set_at, get_or-set_other, get_or-replicate, length-replicate}
 use Rattle.prl_plan.specs.Vocabulary.{Action, Event, Horizon, IsJob, Placement, sum_below, constants_on, IsHorizon, PlanView, actions_of, reads_of, writes_of, HasJob, IsFree, KeepsFree, RunConstants}
 use Rattle.prl_plan.specs.Vocabulary.{ExecState, opening, action_at, next_action, after_action, after_event, after_events}
 use Rattle.prl_plan.specs.declared.events.Action.TheVariants as actions
 use Rattle.prl_plan.specs.declared.events.Event.TheVariants as events
+use Rattle.prl_plan.proofs.PartsOfSums.{sum_most, sum_grows}
 
 -- the end of a horizon job is the last of its actions
 abbrev pub EndsLast : RunConstants → Type 0
@@ -35,19 +36,6 @@ plan_ends_last plan on h i n job =
       (ap length same ∙ length-append front (actions.End ∷ [])),
       (ap (λ (xs : List Action). get_or xs (length front) actions.End) same ∙ get_after front actions.End),
     )
-
-sum_most : (f g : ℕ → ℕ) (n : ℕ) → ((j : ℕ) → j < n → f j ≤ g j) → sum_below f n ≤ sum_below g n
-sum_most f g zero most = omega arith
-sum_most f g (suc n) most = omega (arith, sum_most f g n (λ j below. most j (omega (arith, below))), most n (omega arith))
-
-sum_grows : (f g : ℕ → ℕ) (i n : ℕ) → i < n → f i < g i → ((j : ℕ) → j ≢ i → f j ≤ g j) → sum_below f n < sum_below g n
-sum_grows f g i zero inside grows most = absurd (omega (arith, inside))
-sum_grows f g i (suc n) inside grows most = elim (cases_eq n i) [
-  | inl last ↦
-      omega (arith, sum_most f g n (λ j below. most j (λ e. omega (arith, e, below, last))), subst (λ (k : ℕ). f k < g k) (sym last) grows)
-  | inr other ↦
-      omega (arith, sum_grows f g i n (omega (arith, inside, other)) grows most, most n other)
-]
 
 sum_none : (f : ℕ → ℕ) (n : ℕ) → ((k : ℕ) → k < n → f k ≡ 0) → sum_below f n ≡ 0
 sum_none f zero each = refl

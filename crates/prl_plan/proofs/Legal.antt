@@ -19,7 +19,6 @@ module _ (c : RunConstants) (facts : HasPlanFacts c) where
       let n : ℕ = get_or s.ended i 0 in
       let place : ℕ = get_or s.places i 0 in
       let reads : ReadsAt c i n place m cell = record { job = record { task = has.task; job = has.job }; action = (port, e, is) } in
-      let upper : get_or s.tags cell 0 ≤ m + 1 = sound.held i n place m cell reads has in
       let before = facts.provided i n place m cell reads in
       let j : ℕ = before.0 in
       let k : ℕ = before.1 in
@@ -27,7 +26,7 @@ module _ (c : RunConstants) (facts : HasPlanFacts c) where
       let early : c.release j k ≤ s.now = omega (arith, provides.release, released) in
       elim (cases_lt k (get_or s.ended j 0)) [
         | inl ended ↦
-            omega (arith, upper, sound.tagged.written j k (before.2) m cell provides.writes (inl ended))
+            omega (arith, sound.held i n place m cell reads has, sound.tagged.written j k (before.2) m cell provides.writes (inl ended))
         | inr left ↦ absurd
             (elim (facts.across i n place m j k (before.2) cell reads provides.writes) [
               | inl together ↦

@@ -89,28 +89,16 @@ preceding_shift ty hyper (operators.Down k ∷ ops) are producer consumer takes 
     ∙ ap (λ (z : ℕ). preceding ops ((pos k *ℤ n) +ℤ pos z)) (sym (times_up hyper div.1.0 c x.period consumer.period k div.0 div.1.1 hc (sym takes.2.1.0)))
     ∙ preceding_shift ty hyper ops (λ j o is. are (suc j) o is) producer x takes.2.2 div.1.0 d div.1.1 hd (pos k *ℤ n)
 preceding_shift ty hyper (operators.Shift q ∷ ops) are producer consumer takes c d hc hd n =
-    let x : Clock = takes.2.0 in
-    let div = clock_divides hyper ops producer x takes.2.2 in
-    ap (λ (z : ℕ). preceding ops (n +ℤ pos z)) (times_same hyper c div.1.0 consumer.period x.period takes.0 hc div.1.1 takes.2.1.0)
-    ∙ preceding_shift ty hyper ops (λ j o is. are (suc j) o is) producer x takes.2.2 div.1.0 d div.1.1 hd n
+    preceding_shift ty hyper ops (λ j o is. are (suc j) o is) producer takes.2.0 takes.2.2 c d (hc ∙ ap (λ (y : ℕ). c * y) takes.2.1.0) hd n
 preceding_shift ty hyper (operators.Tail ∷ ops) are producer consumer takes c d hc hd n =
-    let x : Clock = takes.2.0 in
-    let div = clock_divides hyper ops producer x takes.2.2 in
-    let e : c ≡ div.1.0 = times_same hyper c div.1.0 consumer.period x.period takes.0 hc div.1.1 takes.2.1.0 in
-    ap (λ (z : ℕ). preceding ops (suc_ℤ (n +ℤ pos z))) e ∙ ap (λ (z : ℤ). preceding ops z) (suc_plus n div.1.0)
-    ∙ preceding_shift ty hyper ops (λ j o is. are (suc j) o is) producer x takes.2.2 div.1.0 d div.1.1 hd (suc_ℤ n)
+    ap (λ (z : ℤ). preceding ops z) (suc_plus n c)
+    ∙ preceding_shift ty hyper ops (λ j o is. are (suc j) o is) producer takes.2.0 takes.2.2 c d (hc ∙ ap (λ (y : ℕ). c * y) takes.2.1.0) hd (suc_ℤ n)
 preceding_shift ty hyper (operators.Cons v ∷ ops) are producer consumer takes c d hc hd n =
-    let x : Clock = takes.2.0 in
-    let div = clock_divides hyper ops producer x takes.2.2 in
-    let e : c ≡ div.1.0 = times_same hyper c div.1.0 consumer.period x.period takes.0 hc div.1.1 takes.2.1.0 in
-    ap (λ (z : ℕ). preceding ops (pred_ℤ (n +ℤ pos z))) e ∙ ap (λ (z : ℤ). preceding ops z) (pred_plus n div.1.0)
-    ∙ preceding_shift ty hyper ops (λ j o is. are (suc j) o is) producer x takes.2.2 div.1.0 d div.1.1 hd (pred_ℤ n)
+    ap (λ (z : ℤ). preceding ops z) (pred_plus n c)
+    ∙ preceding_shift ty hyper ops (λ j o is. are (suc j) o is) producer takes.2.0 takes.2.2 c d (hc ∙ ap (λ (y : ℕ). c * y) takes.2.1.0) hd (pred_ℤ n)
 preceding_shift ty hyper (operators.Fby v ∷ ops) are producer consumer takes c d hc hd n =
-    let x : Clock = takes.2.0 in
-    let div = clock_divides hyper ops producer x takes.2.2 in
-    let e : c ≡ div.1.0 = times_same hyper c div.1.0 consumer.period x.period takes.0 hc div.1.1 takes.2.1.0 in
-    ap (λ (z : ℕ). preceding ops (pred_ℤ (n +ℤ pos z))) e ∙ ap (λ (z : ℤ). preceding ops z) (pred_plus n div.1.0)
-    ∙ preceding_shift ty hyper ops (λ j o is. are (suc j) o is) producer x takes.2.2 div.1.0 d div.1.1 hd (pred_ℤ n)
+    ap (λ (z : ℤ). preceding ops z) (pred_plus n c)
+    ∙ preceding_shift ty hyper ops (λ j o is. are (suc j) o is) producer takes.2.0 takes.2.2 c d (hc ∙ ap (λ (y : ℕ). c * y) takes.2.1.0) hd (pred_ℤ n)
 
 -- what holds of the numbers below c, and of each number exactly where it holds c later, holds of all
 pub everywhere : (P : ℤ → Type 0) → (c : ℕ) → 1 ≤ c → ((n : ℕ) → n < c → P (pos n)) → ((m : ℤ) → P m → P (m +ℤ pos c)) → ((m : ℤ) → P (m +ℤ pos c) → P m) →

@@ -78,10 +78,7 @@ module _ (plan : PlanView) (i n : ℕ) where
         | inl next ↦ omega (arith, same (omega (arith, next.0, at)), next.1)
         | inr later ↦ omega (arith, less (omega (arith, later.0, at)), later.1)
       ])
-      (λ under. elim follow.0 [
-        | inl next ↦ less (omega (arith, next.0, under))
-        | inr later ↦ less (omega (arith, later.0, under))
-      ])
+      (λ under. less (elim follow.0 [ inl next ↦ omega (arith, next.0, under) | inr later ↦ omega (arith, later.0, under) ]))
       (λ r. rest_ports (e + 1) y edges follow.1 r)
 
   all_ports : (edges : List Edge) → AreInOrder edges → PortsFrom 0 (reads_of plan i n 0 edges)

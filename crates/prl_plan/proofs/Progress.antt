@@ -36,7 +36,6 @@ module _ (c : RunConstants) (facts : HasPlanFacts c) where
       let place : ℕ = get_or s.places i 0 in
       let has : HasJob c s i = least.job in
       let reads : ReadsAt c i n place m slot = record { job = record { task = has.task; job = has.job }; action = (port, e, is) } in
-      let upper : get_or s.tags slot 0 ≤ m + 1 = sound.held i n place m slot reads has in
       let before = facts.provided i n place m slot reads in
       let j : ℕ = before.0 in
       let k : ℕ = before.1 in
@@ -44,7 +43,7 @@ module _ (c : RunConstants) (facts : HasPlanFacts c) where
       let earlier : c.release j k < c.release i n = provides.release in
       elim (cases_lt k (get_or s.ended j 0)) [
         | inl ended ↦
-            omega (arith, upper, sound.tagged.written j k (before.2) m slot provides.writes (inl ended))
+            omega (arith, sound.held i n place m slot reads has, sound.tagged.written j k (before.2) m slot provides.writes (inl ended))
         | inr left ↦ absurd
             (let unfinished : IsUnfinished c s j k = record { task = provides.writes.job.task; job = provides.writes.job.job; unfinished = left } in
             let first : c.release j (first_unfinished s j) ≤ c.release j k = first_earlier s j k unfinished in

@@ -270,11 +270,7 @@ module _ (c : RunConstants) (facts : HasPlanFacts c) where
   ahead_finished s i inside inside_places j k place ahead =
       elim (finished s i inside inside_places j) [
         | inl own ↦ inl (elim ahead [ inl later ↦ omega (arith, later, own.1) | inr present ↦ omega (arith, present.0, own.1) ])
-        | inr other ↦
-            elim ahead [
-              | inl later ↦ inl (omega (arith, later, other.0))
-              | inr present ↦ inr ((omega (arith, present.0, other.0)), (omega (arith, present.1, other.1)))
-            ]
+        | inr other ↦ rw (other.0, other.1) at ahead
       ]
 
   done_stays_finished : (s : ExecState) (i : ℕ) → i < length s.ended → i < length s.places → (j n place : ℕ) → IsDone s j n place →
@@ -282,11 +278,7 @@ module _ (c : RunConstants) (facts : HasPlanFacts c) where
   done_stays_finished s i inside inside_places j n place done =
       elim (finished s i inside inside_places j) [
         | inl own ↦ inl (elim done [ inl below ↦ omega (arith, below, own.1) | inr here ↦ omega (arith, here.0, own.1) ])
-        | inr other ↦
-            elim done [
-              | inl below ↦ inl (omega (arith, below, other.0))
-              | inr here ↦ inr ((omega (arith, here.0, other.0)), (omega (arith, here.1, other.1)))
-            ]
+        | inr other ↦ rw (other.0, other.1) done
       ]
 
   -- a job ends

@@ -62,6 +62,7 @@ impl Plan {
     }
 
     /// The action at this place among the reads of job `n` of task `i`, or how far the place is past them.
+    #[tactic(auto, using(crate::proofs::ActionLists::read_found))]
     fn read_at(&self, i: TaskNo, n: u64, place: u32) -> Result<Action, u32>
         requires task { i.0 < length self.now.graph.tasks }
         requires small { release_at self.now i.0 n < 2 ^ 63 }
@@ -82,6 +83,7 @@ impl Plan {
     }
 
     /// The action at this place among the writes of job `n` of task `i`, or how far the place is past them.
+    #[tactic(auto, using(crate::proofs::ActionLists::write_found))]
     fn write_at(&self, i: TaskNo, n: u64, place: u32) -> Result<Action, u32>
         requires task { i.0 < length self.now.graph.tasks }
         ensures { MatchResult result (λ action. slice_get (writes_of self.now i.0 n 0 self.now.graph.edges) place ≡ Some action)

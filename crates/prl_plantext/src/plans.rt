@@ -4,7 +4,7 @@ ghost use Rattle.std.specs.Prelude.{◌≡◌, ℕ, List, MatchResult};
 ghost use Rattle.prl_plan.specs.Vocabulary.{IsWellFormed, PlanView, IsPlan};
 ghost use Rattle.prl_plantext.specs.ReadTexts.{IsTextFault, IsTextOf};
 ghost use Rattle.prl_plantext.specs.code.Graphs.{graph_of};
-ghost use Rattle.prl_plantext.specs.code.Planned.{IsGraphFault, IsOtherText};
+ghost use Rattle.prl_plantext.specs.code.Planned.{IsGraphFault, IsOtherText, of_words, of_dates, of_cells};
 
 use crate::checking::is_well_formed;
 use crate::printing::plan_text;
@@ -13,7 +13,7 @@ use prl_buffers::{CellFault, cells};
 use prl_dates::{DateFault, encode, faults_tell_of_narrow_chains};
 use prl_plan::{Plan, TaskGraph, plan_is_unique, words_begin_with_constants};
 use prl_words::{WordFault, words};
-use std::alloc::{AllocError, Global};
+use std::alloc::Global;
 
 /// Why a text gives no plan.
 #[derive(Clone, Copy)]
@@ -23,21 +23,7 @@ pub enum PlanFault {
     Memory,
 }
 
-impl From<AllocError> for PlanFault {
-    ghost use Rattle.std.specs.Prelude.{◌≡◌};
-    ghost use Rattle.prl_plantext.specs.declared.plans.PlanFault.TheVariants.{Memory};
-
-    ghost from_gives = { λ _ e. e ≡ Memory };
-
-    fn from(_error: AllocError) -> PlanFault {
-        PlanFault::Memory
-    }
-}
-
 impl From<WordFault> for PlanFault {
-    ghost use Rattle.std.specs.Prelude.{◌≡◌};
-    ghost use Rattle.prl_plantext.specs.code.Planned.{of_words};
-
     ghost from_gives = { λ fault e. e ≡ of_words fault };
 
     fn from(fault: WordFault) -> PlanFault {
@@ -49,9 +35,6 @@ impl From<WordFault> for PlanFault {
 }
 
 impl From<DateFault> for PlanFault {
-    ghost use Rattle.std.specs.Prelude.{◌≡◌};
-    ghost use Rattle.prl_plantext.specs.code.Planned.{of_dates};
-
     ghost from_gives = { λ fault e. e ≡ of_dates fault };
 
     fn from(fault: DateFault) -> PlanFault {
@@ -64,9 +47,6 @@ impl From<DateFault> for PlanFault {
 }
 
 impl From<CellFault> for PlanFault {
-    ghost use Rattle.std.specs.Prelude.{◌≡◌};
-    ghost use Rattle.prl_plantext.specs.code.Planned.{of_cells};
-
     ghost from_gives = { λ fault e. e ≡ of_cells fault };
 
     fn from(fault: CellFault) -> PlanFault {
@@ -95,7 +75,9 @@ fn planned(alloc: Global, graph: TaskGraph) -> Result<Plan, PlanFault>
 fn plan_of(alloc: Global, text: &[u8]) -> Result<Plan, PlanFault>
     ensures { MatchResult result (λ plan. IsPlan plan × (plan.graph ≡ graph_of text.now)) (IsTextFault text.now) }
 {
-    let graph = graph_of(alloc, text)?;
+    let Ok(graph) = graph_of(alloc, text) else {
+        return Err(PlanFault::Memory);
+    };
     if !is_well_formed(&graph) {
         return Err(PlanFault::NotPlan);
     }
@@ -106,7 +88,9 @@ fn plan_of(alloc: Global, text: &[u8]) -> Result<Plan, PlanFault>
 fn match_text(alloc: Global, plan: &Plan, text: &[u8]) -> Result<(), PlanFault>
     ensures { MatchResult result (λ _. IsTextOf plan.now text.now) (IsOtherText plan.now text.now) }
 {
-    let again = plan_text(alloc, plan)?;
+    let Ok(again) = plan_text(alloc, plan) else {
+        return Err(PlanFault::Memory);
+    };
     if again.as_slice() == text {
         Ok(())
     } else {

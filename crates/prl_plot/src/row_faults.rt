@@ -1,5 +1,8 @@
 //! Why rows are no flows.
 
+ghost use Rattle.std.specs.Prelude.{◌≡◌};
+ghost use Rattle.prl_plot.specs.declared.row_faults.RowFault.TheVariants.{Memory};
+
 use std::alloc::AllocError;
 
 /// Why a text is no rows of flows. A record's number counts the records before it, from 1; a header counts, and empty
@@ -18,9 +21,6 @@ pub enum RowFault {
 }
 
 impl From<AllocError> for RowFault {
-    ghost use Rattle.std.specs.Prelude.{◌≡◌};
-    ghost use Rattle.prl_plot.specs.declared.row_faults.RowFault.TheVariants.{Memory};
-
     ghost from_gives = { λ _ e. e ≡ Memory };
 
     fn from(_error: AllocError) -> RowFault {

@@ -55,11 +55,12 @@ printed_ports ports = separated (codes "; ") (map printed_port ports)
 abbrev pub printed_wcet : ℕ → List ℕ
 printed_wcet wcet = codes " wcet " ++ decimal wcet ++ codes ";\n"
 
-abbrev pub printed_signature : Import → List ℕ
-printed_signature i = codes "imported node " ++ i.name ++ codes "(" ++ printed_ports i.ins ++ codes ") returns (" ++ printed_ports i.outs ++ codes ")"
+-- a keyword, a name, and the texts of what is taken and given
+abbrev pub printed_signature : List ℕ → List ℕ → List (List ℕ) → List (List ℕ) → List ℕ
+printed_signature keyword name ins outs = keyword ++ name ++ codes "(" ++ separated (codes "; ") ins ++ codes ") returns (" ++ separated (codes "; ") outs ++ codes ")"
 
 abbrev pub printed_import : Import → List ℕ
-printed_import i = printed_signature i ++ printed_wcet i.wcet
+printed_import i = printed_signature (codes "imported node ") i.name (map printed_port i.ins) (map printed_port i.outs) ++ printed_wcet i.wcet
 
 abbrev pub printed_device : List ℕ → Device → List ℕ
 printed_device keyword d = keyword ++ d.name ++ printed_wcet d.wcet

@@ -9,7 +9,7 @@ use crate::expressions::push_expr;
 use crate::notes::push_locals;
 use crate::parts::{Part, push_each, push_separated};
 use prl_ast::{Device, Equation, Import, Node, Placed, Port};
-use prl_base::{push_number, push_type};
+use prl_base::{Name, push_number, push_type};
 use std::alloc::AllocError;
 
 impl Part for Port {
@@ -32,16 +32,22 @@ fn push_wcet(text: &mut Vec<u8>, wcet: u32) -> Result<(), AllocError>
     text.extend_from_slice(b";\n")
 }
 
-/// The name of an import, its inputs and its outputs.
-fn push_signature(text: &mut Vec<u8>, import: &Import) -> Result<(), AllocError>
-    ensures { OnOk result (text.new.items ≡ text.old.items ++ printed_signature import.now) }
+/// A keyword with a blank after it, the name of a node, and its inputs and outputs.
+fn push_signature<T: Part>(
+    text: &mut Vec<u8>,
+    keyword: &[u8],
+    name: &Name,
+    ins: &[T],
+    outs: &[T],
+) -> Result<(), AllocError>
+    ensures { OnOk result (text.new.items ≡ text.old.items ++ printed_signature keyword.now name.now (map T.printed ins.now) (map T.printed outs.now)) }
 {
-    text.extend_from_slice(b"imported node ")?;
-    text.extend_from_slice(import.name.bytes())?;
+    text.extend_from_slice(keyword)?;
+    text.extend_from_slice(name.bytes())?;
     text.push(b'(')?;
-    push_separated(text, b"; ", import.ins.as_slice())?;
+    push_separated(text, b"; ", ins)?;
     text.extend_from_slice(b") returns (")?;
-    push_separated(text, b"; ", import.outs.as_slice())?;
+    push_separated(text, b"; ", outs)?;
     text.push(b')')?;
     Ok(())
 }
@@ -52,7 +58,8 @@ impl Part for Import {
     ghost printed = { printed_import };
 
     fn push(&self, text: &mut Vec<u8>) -> Result<(), AllocError> {
-        push_signature(text, self)?;
+        let (ins, outs) = (self.ins.as_slice(), self.outs.as_slice());
+        push_signature(text, b"imported node ", &self.name, ins, outs)?;
         push_wcet(text, self.wcet)
     }
 }
@@ -86,8 +93,7 @@ fn push_lefts(text: &mut Vec<u8>, lefts: &[Placed]) -> Result<(), AllocError>
         [_, _, ..] => {
             text.push(b'(')?;
             push_separated(text, b", ", lefts)?;
-            text.push(b')')?;
-            Ok(())
+            text.extend_from_slice(b")")
         }
     }
 }
@@ -118,13 +124,9 @@ fn push_equations(text: &mut Vec<u8>, equations: &[Equation]) -> Result<(), Allo
 fn push_head(text: &mut Vec<u8>, node: &Node) -> Result<(), AllocError>
     ensures { OnOk result (text.new.items ≡ text.old.items ++ printed_head (node_tree node.now)) }
 {
-    text.extend_from_slice(b"node ")?;
-    text.extend_from_slice(node.name.bytes())?;
-    text.push(b'(')?;
-    push_separated(text, b"; ", node.ins.as_slice())?;
-    text.extend_from_slice(b") returns (")?;
-    push_separated(text, b"; ", node.outs.as_slice())?;
-    text.extend_from_slice(b")\n")?;
+    let (ins, outs) = (node.ins.as_slice(), node.outs.as_slice());
+    push_signature(text, b"node ", &node.name, ins, outs)?;
+    text.push(b'\n')?;
     push_locals(text, node.locals.as_slice())
 }
 

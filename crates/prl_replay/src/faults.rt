@@ -1,9 +1,13 @@
 //! Why a text is no whole run.
 
+ghost use Rattle.std.specs.Prelude.{◌≡◌};
+ghost use Rattle.prl_replay.specs.declared.faults.ReplayFault.TheVariants.{Memory};
+ghost use Rattle.prl_replay.specs.Replays.{schedule_fault};
+
 use prl_base::TaskNo;
 use prl_plan::Rule;
 use prl_schedules::ScheduleFault;
-use std::alloc::{AllocError, AllocFailed};
+use std::alloc::AllocError;
 
 /// Why there is no replay.
 #[derive(Clone, Copy)]
@@ -18,9 +22,6 @@ pub enum ReplayFault {
 }
 
 impl From<AllocError> for ReplayFault {
-    ghost use Rattle.std.specs.Prelude.{◌≡◌};
-    ghost use Rattle.prl_replay.specs.declared.faults.ReplayFault.TheVariants.{Memory};
-
     ghost from_gives = { λ _ e. e ≡ Memory };
 
     fn from(_error: AllocError) -> ReplayFault {
@@ -28,21 +29,7 @@ impl From<AllocError> for ReplayFault {
     }
 }
 
-impl<T: Drop> From<AllocFailed<T>> for ReplayFault {
-    ghost use Rattle.std.specs.Prelude.{◌≡◌};
-    ghost use Rattle.prl_replay.specs.declared.faults.ReplayFault.TheVariants.{Memory};
-
-    ghost from_gives = { λ _ e. e ≡ Memory };
-
-    fn from(_error: AllocFailed<T>) -> ReplayFault {
-        ReplayFault::Memory
-    }
-}
-
 impl From<ScheduleFault> for ReplayFault {
-    ghost use Rattle.std.specs.Prelude.{◌≡◌};
-    ghost use Rattle.prl_replay.specs.Replays.{schedule_fault};
-
     ghost from_gives = { λ f e. e ≡ schedule_fault f };
 
     fn from(fault: ScheduleFault) -> ReplayFault {

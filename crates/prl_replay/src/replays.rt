@@ -23,7 +23,7 @@ use prl_plan::{
     legal_list_is_gated, plan_facts, plan_is_one,
 };
 use prl_schedules::read_schedule;
-use std::alloc::{AllocFailed, Global};
+use std::alloc::{AllocError, Global};
 
 /// What a whole run tells.
 #[derive(Drop)]
@@ -49,14 +49,13 @@ fn is_read(seen: &Seen) -> bool
 }
 
 /// Keeps what was seen, where it is a read.
-fn keep_read(reads: &mut Vec<Seen>, seen: Seen) -> Result<(), AllocFailed<Seen>>
+fn keep_read(reads: &mut Vec<Seen>, seen: Seen) -> Result<(), AllocError>
     ensures { OnOk result (reads.new.items ≡ reads.old.items ++ filter is_read (seen ∷ [])) }
 {
     if is_read(&seen) {
-        reads.push(seen)
-    } else {
-        Ok(())
+        reads.push(seen)?;
     }
+    Ok(())
 }
 
 /// Does the events in order, from the state of the machine on, and tells what their jobs read.

@@ -8,6 +8,7 @@ ghost use Rattle.prl_track.specs.Machine.{IsOfPlan};
 ghost use Rattle.prl_schedules.specs.ScheduleTexts.{task_names};
 ghost use Rattle.prl_schedules.specs.declared.schedules.ScheduleFault.TheVariants as faults;
 ghost use Rattle.prl_schedules.specs.Schedules.{event_of, without_return, or_line, schedule_of, IsOfTasks};
+ghost use Rattle.prl_schedules.specs.declared.schedules.ScheduleFault.TheVariants.{Memory};
 
 use crate::numbers::TaskNames;
 use prl_base::cut_line;
@@ -23,9 +24,6 @@ pub enum ScheduleFault {
 }
 
 impl<T: Drop> From<AllocFailed<T>> for ScheduleFault {
-    ghost use Rattle.std.specs.Prelude.{◌≡◌};
-    ghost use Rattle.prl_schedules.specs.declared.schedules.ScheduleFault.TheVariants.{Memory};
-
     ghost from_gives = { λ _ e. e ≡ Memory };
 
     fn from(_error: AllocFailed<T>) -> ScheduleFault {

@@ -167,6 +167,14 @@ pub fn zeros(alloc: Global, count: usize) -> Result<Vec<u64>, AllocError>
     vec![in alloc; 0; count]
 }
 
+/// The tag of the instance of a job with this number: the number after it.
+fn tag_of_number(number: u64) -> u32
+    requires { number + 1 < 2 ^ 32 }
+    ensures { result ≡ number + 1 }
+{
+    (number + 1) as u32
+}
+
 impl<'a> Board<'a> {
     /// The board of a run at its opening, with the one seat that has all parts.
     pub fn open(
@@ -368,24 +376,24 @@ impl<'a> Board<'a> {
         place + 1
     }
 
-    /// The number after that of a horizon job, which is the tag of its instance.
+    /// The tag of the instance of a horizon job.
     pub fn tag_of(&self, task: TaskNo, job: u64) -> u32
         requires { IsJob (run_of self.now.known) task.0 job }
         ensures { result ≡ job + 1 }
     {
         plan_facts(self.plan, self.horizon);
         horizons_are_small();
-        (job + 1) as u32
+        tag_of_number(job)
     }
 
-    /// The number after that of an instance that a horizon job reads, which is its tag.
+    /// The tag of an instance that a horizon job reads.
     pub fn tag_read(&self, instance: u64) -> u32
         requires { (i n place slot : ℕ) × ReadsAt (run_of self.now.known) i n place instance slot }
         ensures { result ≡ instance + 1 }
     {
         plan_facts(self.plan, self.horizon);
         horizons_are_small();
-        (instance + 1) as u32
+        tag_of_number(instance)
     }
 
     /// The type of an edge.

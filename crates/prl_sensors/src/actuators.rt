@@ -19,14 +19,14 @@ use std::alloc::{AllocError, Global};
 /// Appends the row of an actuator.
 pub(crate) fn push_row(
     text: &mut Vec<u8>,
-    name: &[u8],
+    out: &OutRows<'_>,
     instance: u64,
     date: u64,
     value: Value,
 ) -> Result<(), AllocError>
-    ensures { OnOk result (text.new.items ≡ text.old.items ++ row_text (record { name = name.now; instance = instance; date = date; value = value })) }
+    ensures { OnOk result (text.new.items ≡ text.old.items ++ row_text (record { name = out.now.name; instance = instance; date = date; value = value })) }
 {
-    text.extend_from_slice(name)?;
+    text.extend_from_slice(out.name.bytes())?;
     push_rest(text, instance, date, value)
 }
 
@@ -38,7 +38,7 @@ fn push_row_at(text: &mut Vec<u8>, out: &OutRows<'_>, date: u64) -> Result<(), A
 {
     let instance = (date - out.clock.start) / out.clock.period;
     match out.values.get(instance as usize) {
-        Some(value) => push_row(text, out.name.bytes(), instance, date, *value),
+        Some(value) => push_row(text, out, instance, date, *value),
         None => Ok(()),
     }
 }

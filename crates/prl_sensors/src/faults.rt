@@ -1,5 +1,8 @@
 //! Why a text has no rows for a program.
 
+ghost use Rattle.std.specs.Prelude.{◌≡◌};
+ghost use Rattle.prl_sensors.specs.declared.faults.SensorFault.TheVariants.{Memory};
+
 use prl_base::Name;
 use std::alloc::AllocError;
 
@@ -21,9 +24,6 @@ pub enum SensorFault {
 }
 
 impl From<AllocError> for SensorFault {
-    ghost use Rattle.std.specs.Prelude.{◌≡◌};
-    ghost use Rattle.prl_sensors.specs.declared.faults.SensorFault.TheVariants.{Memory};
-
     ghost from_gives = { λ _ e. e ≡ Memory };
 
     fn from(_error: AllocError) -> SensorFault {

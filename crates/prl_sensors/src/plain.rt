@@ -6,7 +6,7 @@ ghost use Rattle.std.specs.List.{position_or_len};
 ghost use Rattle.std.specs.Vec.{vec_items};
 ghost use Rattle.csv.specs.Reading.{default_config, records, strip_bom};
 ghost use Rattle.prl_base.specs.Reading.{GivesBut};
-ghost use Rattle.prl_sensors.specs.SensorRows.{no_rows, records_of, with_record, with_records};
+ghost use Rattle.prl_sensors.specs.SensorRows.{no_rows, records_of, with_records};
 ghost use Rattle.prl_sensors.specs.code.Plain.{GivesIf, IsPlain, is_mark};
 
 use crate::faults::SensorFault;
@@ -61,26 +61,8 @@ fn may_have_mark(text: &[u8]) -> bool
     }
 }
 
-/// The row that the record of this number is, unless it is the header.
-#[tactic(auto, unfolding(crate::specs::SensorRows::with_record))]
-fn push_plain(
-    finder: &mut Finder<'_>,
-    types: &[Ty],
-    number: u64,
-    rows: &mut Vec<Vec<Value>>,
-    row: Fields<'_>,
-) -> Result<(), SensorFault>
-    requires types { length types.now ≡ length rows.old.items }
-    requires names { length finder.old ≡ length rows.old.items }
-    ensures exact { GivesBut SensorFault.Memory (λ _. map vec_items rows.new.items) result
-        (with_record (record { names = finder.old; types = types.now }) number (map vec_items rows.old.items) (row.entry.0.now ∷ row.entry.1.now ∷ row.entry.2.now ∷ [])) }
-    ensures lists { length rows.new.items ≡ length rows.old.items }
-    ensures same { finder.new ≡ finder.old }
-{
-    push_fields(finder, types, number, rows, Some(row))
-}
-
 /// The rows of all records of a text, where each is in plain form; None where one is not.
+#[tactic(auto, unfolding(crate::specs::SensorRows::with_record))]
 pub(crate) fn plain_rows(
     alloc: Global,
     text: &[u8],
@@ -107,7 +89,7 @@ pub(crate) fn plain_rows(
         let Some((row, after)) = cut_row(rest) else {
             return Ok(None);
         };
-        push_plain(&mut finder, types, number, &mut rows, row)?;
+        push_fields(&mut finder, types, number, &mut rows, Some(row))?;
         rest = after;
     }
     Err(SensorFault::Memory)

@@ -16,7 +16,7 @@ pub(crate) fn push_rows_of(text: &mut Vec<u8>, out: &OutRows<'_>) -> Result<(), 
 {
     for (n, value) in out.values.iter().enumerate() {
         let date = out.clock.start + n as u64 * out.clock.period;
-        push_row(text, out.name.bytes(), n as u64, date, *value)?;
+        push_row(text, out, n as u64, date, *value)?;
     }
     Ok(())
 }

@@ -19,7 +19,7 @@ word_at number text = before_first is_gap (word_from number text)
 -- a piece, where this stands after the front of the line
 abbrev pub piece_text : List ℕ → Piece → List ℕ
 piece_text rest (pieces.Words words) = words.now
-piece_text rest (pieces.Word number) = word_at number rest
+piece_text rest (pieces.Word words number) = words.now ++ word_at number rest
 
 -- what is said of a line of a kind: the pieces one after another, as one line or more
 abbrev pub sentence_text : Kind → List ℕ → List ℕ

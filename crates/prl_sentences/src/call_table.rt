@@ -92,18 +92,15 @@ static KINDS: [Kind; 21] = [
         tail: "\n",
         target: Target::Task,
         sentence: &[
-            Words("Job "),
-            Word(1),
-            Words(" of "),
-            Word(0),
-            Words(" asked on its input "),
-            Word(3),
-            Words(" for a value that a later one had already replaced in cell "),
-            Word(5),
-            Words(": there it wanted the number "),
-            Word(7),
-            Words(" and found "),
-            Word(9),
+            Word("Job ", 1),
+            Word(" of ", 0),
+            Word(" asked on its input ", 3),
+            Word(
+                " for a value that a later one had already replaced in cell ",
+                5,
+            ),
+            Word(": there it wanted the number ", 7),
+            Word(" and found ", 9),
             Words(
                 ", where instance N of a flow has the number N + 1. Under the free clock a \
                     job came too late. Run under the gated clock, or see that each job ends by \
@@ -117,8 +114,7 @@ static KINDS: [Kind; 21] = [
         tail: "\n",
         target: Target::Nowhere,
         sentence: &[
-            Words("A name has "),
-            Word(0),
+            Word("A name has ", 0),
             Words(" bytes, and may have 64. Shorten it."),
         ],
         detail: Detail::Nothing,
@@ -128,8 +124,7 @@ static KINDS: [Kind; 21] = [
         tail: "\n",
         target: Target::Nowhere,
         sentence: &[
-            Words("At one place "),
-            Word(0),
+            Word("At one place ", 0),
             Words(
                 " parentheses are open, and 64 may be. Give a part of the expression a name \
                     of its own.",
@@ -142,8 +137,7 @@ static KINDS: [Kind; 21] = [
         tail: "\n",
         target: Target::Nowhere,
         sentence: &[
-            Words("The program has "),
-            Word(0),
+            Word("The program has ", 0),
             Words(
                 " nodes or more, and may have 256. Join some, or take out those that main \
                     does not use.",
@@ -156,8 +150,7 @@ static KINDS: [Kind; 21] = [
         tail: "\n",
         target: Target::Nowhere,
         sentence: &[
-            Words("The program expands to "),
-            Word(0),
+            Word("The program expands to ", 0),
             Words(
                 " flows or more, and may to 4096. Each use of a node counts anew: use it \
                     less often, or make it an imported node.",
@@ -170,8 +163,7 @@ static KINDS: [Kind; 21] = [
         tail: "\n",
         target: Target::Nowhere,
         sentence: &[
-            Words("The clocks need numbers of "),
-            Word(0),
+            Word("The clocks need numbers of ", 0),
             Words(
                 " or above, and may have numbers up to 2147483647. Choose periods that \
                     divide one another, and smaller factors.",
@@ -184,8 +176,7 @@ static KINDS: [Kind; 21] = [
         tail: "\n",
         target: Target::Nowhere,
         sentence: &[
-            Words("The program has "),
-            Word(0),
+            Word("The program has ", 0),
             Words(
                 " tasks, and may have 64: they are its sensors, its actuators and its uses \
                     of imported nodes. Join imported nodes of one rate.",
@@ -198,8 +189,7 @@ static KINDS: [Kind; 21] = [
         tail: "\n",
         target: Target::Nowhere,
         sentence: &[
-            Words("The tasks read one another on "),
-            Word(0),
+            Word("The tasks read one another on ", 0),
             Words(" edges, and may on 512. Join tasks that read much from each other."),
         ],
         detail: Detail::Nothing,
@@ -209,8 +199,7 @@ static KINDS: [Kind; 21] = [
         tail: "\n",
         target: Target::Nowhere,
         sentence: &[
-            Words("The periods come round together after "),
-            Word(0),
+            Word("The periods come round together after ", 0),
             Words(
                 " ticks or more, and have to after 10000000 at most. Choose periods with \
                     more common factors, or a coarser tick.",
@@ -223,8 +212,7 @@ static KINDS: [Kind; 21] = [
         tail: "\n",
         target: Target::Nowhere,
         sentence: &[
-            Words("One hyperperiod has "),
-            Word(0),
+            Word("One hyperperiod has ", 0),
             Words(" jobs, and may have 20000. Choose periods that are closer to one another."),
         ],
         detail: Detail::Nothing,
@@ -234,8 +222,7 @@ static KINDS: [Kind; 21] = [
         tail: "\n",
         target: Target::Nowhere,
         sentence: &[
-            Words("Over all edges "),
-            Word(0),
+            Word("Over all edges ", 0),
             Words(
                 " initial values are read, and 1000000 may be. Use smaller factors around \
                     `fby` and `::`.",
@@ -248,8 +235,7 @@ static KINDS: [Kind; 21] = [
         tail: "\n",
         target: Target::Nowhere,
         sentence: &[
-            Words("The buffers need "),
-            Word(0),
+            Word("The buffers need ", 0),
             Words(
                 " cells, and may have 4096. Use fewer delays, or smaller factors of *^ and \
                     /^.",
@@ -262,8 +248,10 @@ static KINDS: [Kind; 21] = [
         tail: "\n",
         target: Target::Nowhere,
         sentence: &[
-            Words("Before `--until`, or in the run from which a table would be cut, there are "),
-            Word(0),
+            Word(
+                "Before `--until`, or in the run from which a table would be cut, there are ",
+                0,
+            ),
             Words(" jobs, and may be 200000. Ask for fewer ticks."),
         ],
         detail: Detail::Nothing,
@@ -273,11 +261,11 @@ static KINDS: [Kind; 21] = [
         tail: "\n",
         target: Target::Nowhere,
         sentence: &[
-            Words(
+            Word(
                 "Before `--until`, or in the run from which a table would be cut, the \
                     schedule has ",
+                0,
             ),
-            Word(0),
             Words(" events, and may have 1000000. Ask for fewer ticks."),
         ],
         detail: Detail::Nothing,
@@ -287,8 +275,7 @@ static KINDS: [Kind; 21] = [
         tail: "\n",
         target: Target::Nowhere,
         sentence: &[
-            Words("Before `--until` the flows have "),
-            Word(0),
+            Word("Before `--until` the flows have ", 0),
             Words(" values, and may have 4000000. Ask for fewer ticks."),
         ],
         detail: Detail::Nothing,

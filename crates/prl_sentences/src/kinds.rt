@@ -74,8 +74,8 @@ pub enum Detail {
 pub enum Piece {
     /// These words.
     Words(&'static str),
-    /// The word of the line that has this number, from 0, after its front.
-    Word(u64),
+    /// These words, and behind them the word of the line that has this number, from 0, after its front.
+    Word(&'static str, u64),
 }
 
 /// What lines of a kind begin and end with, how they tell the place, what is wrong there, and what is told beside.

@@ -1,7 +1,13 @@
 //! What is to be said of the lines of programs and bodies.
 
 use crate::kinds::Piece::{Word, Words};
-use crate::kinds::{Detail, Kind, Part, Target};
+use crate::kinds::{Detail, Kind, Part, Piece, Target};
+
+/// What is to be done about a value of another type than is needed.
+const OTHER_TYPE: Piece = Words(
+    " Change the value, or the type that is declared for it. Where the value is right here, what \
+            first gave it its type is wrong.",
+);
 
 /// The kinds of these lines.
 static KINDS: [Kind; 25] = [
@@ -44,15 +50,13 @@ static KINDS: [Kind; 25] = [
         tail: "\n",
         target: Target::Word,
         sentence: &[
-            Words("No import, sensor, actuator, node or variable `"),
-            Word(0),
-            Words(
+            Word("No import, sensor, actuator, node or variable `", 0),
+            Word(
                 "` can be seen where it is used. Mend its spelling, or declare it: an input \
                     of main by `sensor ",
+                0,
             ),
-            Word(0),
-            Words(" wcet N;`, an output of main by `actuator "),
-            Word(0),
+            Word(" wcet N;`, an output of main by `actuator ", 0),
             Words(" wcet N;`."),
         ],
         detail: Detail::Nothing,
@@ -62,8 +66,7 @@ static KINDS: [Kind; 25] = [
         tail: "\n",
         target: Target::Word,
         sentence: &[
-            Words("`"),
-            Word(0),
+            Word("`", 0),
             Words(
                 "` stands for two things, or has two equations, or is an input and has one; \
                     the mark is under its first place, in a node if it stands in one. Give one \
@@ -88,22 +91,20 @@ static KINDS: [Kind; 25] = [
         front: "13 mismatch at ",
         tail: " wanted int found bool\n",
         target: Target::Byte(Part::Program),
-        sentence: &[Words(
-            "A Boolean stands where an integer is needed. Change the value, or the type \
-                    that is declared for it. Where the value is right here, what first gave it \
-                    its type is wrong.",
-        )],
+        sentence: &[
+            Words("A Boolean stands where an integer is needed."),
+            OTHER_TYPE,
+        ],
         detail: Detail::Nothing,
     },
     Kind {
         front: "13 mismatch at ",
         tail: " wanted bool found int\n",
         target: Target::Byte(Part::Program),
-        sentence: &[Words(
-            "An integer stands where a Boolean is needed. Change the value, or the type \
-                    that is declared for it. Where the value is right here, what first gave it \
-                    its type is wrong.",
-        )],
+        sentence: &[
+            Words("An integer stands where a Boolean is needed."),
+            OTHER_TYPE,
+        ],
         detail: Detail::Nothing,
     },
     Kind {
@@ -121,8 +122,7 @@ static KINDS: [Kind; 25] = [
         tail: "\n",
         target: Target::Word,
         sentence: &[
-            Words("No equation says what `"),
-            Word(0),
+            Word("No equation says what `", 0),
             Words("` is, an output or a variable. Write one, with its name on the left."),
         ],
         detail: Detail::Nothing,
@@ -132,8 +132,7 @@ static KINDS: [Kind; 25] = [
         tail: "\n",
         target: Target::Task,
         sentence: &[
-            Words("Node `"),
-            Word(0),
+            Word("Node `", 0),
             Words(
                 "` uses itself, directly or through others. Nodes may not: delay a flow by \
                     `fby` where a value of the past is meant.",
@@ -146,8 +145,7 @@ static KINDS: [Kind; 25] = [
         tail: "\n",
         target: Target::Variable,
         sentence: &[
-            Words("Nothing says whether `"),
-            Word(0),
+            Word("Nothing says whether `", 0),
             Words("` is an integer or a Boolean. Declare its type, as in `x: int`."),
         ],
         detail: Detail::Nothing,
@@ -157,10 +155,8 @@ static KINDS: [Kind; 25] = [
         tail: "\n",
         target: Target::Task,
         sentence: &[
-            Words("The bodies have none for the imported node `"),
-            Word(0),
-            Words("`, or no bodies are named. Write `body "),
-            Word(0),
+            Word("The bodies have none for the imported node `", 0),
+            Word("`, or no bodies are named. Write `body ", 0),
             Words(" { .. }` for it in the file of `--bodies`."),
         ],
         detail: Detail::Nothing,
@@ -213,8 +209,7 @@ static KINDS: [Kind; 25] = [
         tail: "\n",
         target: Target::Flow,
         sentence: &[
-            Words("Flow `"),
-            Word(0),
+            Word("Flow `", 0),
             Words(
                 "` needs its own value of the same instant. Delay it somewhere around the \
                     loop, as `0 fby x` does, and let the loop go through an imported node; `::` \
@@ -239,8 +234,7 @@ static KINDS: [Kind; 25] = [
         tail: "\n",
         target: Target::Flow,
         sentence: &[
-            Words("Nothing says at what rate `"),
-            Word(0),
+            Word("Nothing says at what rate `", 0),
             Words(
                 "` runs. Declare `rate (PERIOD, PHASE)` for an input or output that it is \
                     connected to.",
@@ -253,12 +247,9 @@ static KINDS: [Kind; 25] = [
         tail: "\n",
         target: Target::Flow,
         sentence: &[
-            Words("`"),
-            Word(0),
-            Words("` would run with period "),
-            Word(2),
-            Words(" from date "),
-            Word(4),
+            Word("`", 0),
+            Word("` would run with period ", 2),
+            Word(" from date ", 4),
             Words(
                 " on; both have to be whole ticks, and no date is below 0. Choose a finer \
                     tick, that is larger periods, or other factors and phases.",
@@ -271,8 +262,7 @@ static KINDS: [Kind; 25] = [
         tail: "\n",
         target: Target::Flow,
         sentence: &[
-            Words("A due is the deadline of a task, and `"),
-            Word(0),
+            Word("A due is the deadline of a task, and `", 0),
             Words(
                 "` is not the result of one. Put it on an input or an output of main, or on \
                     a result of an imported node.",
@@ -285,12 +275,9 @@ static KINDS: [Kind; 25] = [
         tail: "\n",
         target: Target::Flow,
         sentence: &[
-            Words("`"),
-            Word(0),
-            Words("` has due "),
-            Word(2),
-            Words(" and period "),
-            Word(4),
+            Word("`", 0),
+            Word("` has due ", 2),
+            Word(" and period ", 4),
             Words(", and a due is 1 to the period. Choose one of these."),
         ],
         detail: Detail::Nothing,
@@ -300,14 +287,10 @@ static KINDS: [Kind; 25] = [
         tail: "\n",
         target: Target::Task,
         sentence: &[
-            Words("Job "),
-            Word(1),
-            Words(" of "),
-            Word(0),
-            Words(" ends at "),
-            Word(3),
-            Words(" at the earliest, and has to end by "),
-            Word(5),
+            Word("Job ", 1),
+            Word(" of ", 0),
+            Word(" ends at ", 3),
+            Word(" at the earliest, and has to end by ", 5),
             Words(
                 ": it takes too long, with the jobs that it waits for. Allow a later \
                     deadline, make a wcet smaller, or put a delay between them.",
@@ -320,10 +303,8 @@ static KINDS: [Kind; 25] = [
         tail: "\n",
         target: Target::Task,
         sentence: &[
-            Words("Job "),
-            Word(1),
-            Words(" of "),
-            Word(0),
+            Word("Job ", 1),
+            Word(" of ", 0),
             Words(
                 " waits for a loop of jobs that wait for one another: each turn of it needs more \
                     time than it has. Put a longer delay into the loop, or make a wcet smaller.",

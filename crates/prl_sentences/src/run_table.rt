@@ -11,8 +11,7 @@ static KINDS: [Kind; 21] = [
         tail: "\n",
         target: Target::Line(Part::Schedule),
         sentence: &[
-            Words("Line "),
-            Word(0),
+            Word("Line ", 0),
             Words(
                 " is no event. Write `tick`, or `act` and the name of a task of the plan, \
                     with one blank between. The task of an import is its name, `@` and a \
@@ -26,8 +25,7 @@ static KINDS: [Kind; 21] = [
         tail: " rule L1\n",
         target: Target::Line(Part::Schedule),
         sentence: &[
-            Words("Line "),
-            Word(0),
+            Word("Line ", 0),
             Words(
                 " acts too early: the next job of its task is not released yet at this tick. \
                     Put a `tick` before the act, or move the act down. On several processors a \
@@ -41,8 +39,7 @@ static KINDS: [Kind; 21] = [
         tail: " rule L2\n",
         target: Target::Line(Part::Schedule),
         sentence: &[
-            Words("Line "),
-            Word(0),
+            Word("Line ", 0),
             Words(
                 " is of a task that has no job left to do before `--until`. Take the act \
                     out, or ask for more ticks.",
@@ -55,8 +52,7 @@ static KINDS: [Kind; 21] = [
         tail: " rule L3\n",
         target: Target::Line(Part::Schedule),
         sentence: &[
-            Words("Line "),
-            Word(0),
+            Word("Line ", 0),
             Words(
                 " overtakes a job that is more urgent: a released job whose encoded deadline \
                     is earlier has to act first. On several processors that is a job of the \
@@ -70,8 +66,7 @@ static KINDS: [Kind; 21] = [
         tail: " rule L4\n",
         target: Target::Line(Part::Schedule),
         sentence: &[
-            Words("Time may not pass by line "),
-            Word(0),
+            Word("Time may not pass by line ", 0),
             Words(
                 ": a job that has not ended would miss its encoded deadline, or the run is \
                     over at `--until`. Let the job act before this tick, or take the tick out.",
@@ -84,10 +79,8 @@ static KINDS: [Kind; 21] = [
         tail: "\n",
         target: Target::Task,
         sentence: &[
-            Words("The schedule ends before job "),
-            Word(1),
-            Words(" of "),
-            Word(0),
+            Word("The schedule ends before job ", 1),
+            Word(" of ", 0),
             Words(" does; jobs count from 0. Add the acts that are missing."),
         ],
         detail: Detail::Left,
@@ -97,8 +90,7 @@ static KINDS: [Kind; 21] = [
         tail: "\n",
         target: Target::Line(Part::Sensors),
         sentence: &[
-            Words("Row "),
-            Word(0),
+            Word("Row ", 0),
             Words(" has not three fields. Write NAME,INSTANCE,VALUE."),
         ],
         detail: Detail::Nothing,
@@ -108,8 +100,7 @@ static KINDS: [Kind; 21] = [
         tail: "\n",
         target: Target::Line(Part::Sensors),
         sentence: &[
-            Words("The main node has no input of the name in row "),
-            Word(0),
+            Word("The main node has no input of the name in row ", 0),
             Words(
                 ". Mend the name, or take the row out. Only the line `name,instance,value` \
                     is a header.",
@@ -122,8 +113,7 @@ static KINDS: [Kind; 21] = [
         tail: "\n",
         target: Target::Line(Part::Sensors),
         sentence: &[
-            Words("The instance in row "),
-            Word(0),
+            Word("The instance in row ", 0),
             Words(
                 " does not follow. The rows of each sensor count from 0, one by one, and no \
                     blank stands around a comma.",
@@ -136,8 +126,7 @@ static KINDS: [Kind; 21] = [
         tail: "\n",
         target: Target::Line(Part::Sensors),
         sentence: &[
-            Words("The value in row "),
-            Word(0),
+            Word("The value in row ", 0),
             Words(
                 " is none of the sensor's type: write an integer of 64 bits, or `true` or \
                     `false`.",
@@ -150,12 +139,9 @@ static KINDS: [Kind; 21] = [
         tail: "\n",
         target: Target::Task,
         sentence: &[
-            Words("There are "),
-            Word(1),
-            Words(" rows for sensor `"),
-            Word(0),
-            Words("`, and the run reads "),
-            Word(2),
+            Word("There are ", 1),
+            Word(" rows for sensor `", 0),
+            Word("`, and the run reads ", 2),
             Words(". Add rows, or ask for fewer ticks."),
         ],
         detail: Detail::Nothing,
@@ -165,14 +151,13 @@ static KINDS: [Kind; 21] = [
         tail: "\n",
         target: Target::Nowhere,
         sentence: &[
-            Words("In the run from which a table would be cut, the jobs that are released at "),
-            Word(0),
-            Words(" or later and due by "),
-            Word(1),
-            Words(" ask for "),
-            Word(3),
-            Words(" ticks, and there are "),
-            Word(5),
+            Word(
+                "In the run from which a table would be cut, the jobs that are released at ",
+                0,
+            ),
+            Word(" or later and due by ", 1),
+            Word(" ask for ", 3),
+            Word(" ticks, and there are ", 5),
             Words(". Make a wcet smaller, allow a later deadline, or choose longer periods."),
         ],
         detail: Detail::Nothing,
@@ -182,8 +167,7 @@ static KINDS: [Kind; 21] = [
         tail: "\n",
         target: Target::Nowhere,
         sentence: &[
-            Words("At tick "),
-            Word(0),
+            Word("At tick ", 0),
             Words(
                 " the processor does not do what it does one hyperperiod later, so no table \
                     repeats what it does. Choose smaller phases or wcets, so that the jobs of \
@@ -197,8 +181,10 @@ static KINDS: [Kind; 21] = [
         tail: "\n",
         target: Target::Nowhere,
         sentence: &[
-            Words("The run from which a table would be cut goes up to date "),
-            Word(0),
+            Word(
+                "The run from which a table would be cut goes up to date ",
+                0,
+            ),
             Words(
                 ", and may go up to 2147483647. Choose smaller phases or a coarser tick, or \
                     write a table by hand.",
@@ -211,8 +197,7 @@ static KINDS: [Kind; 21] = [
         tail: "\n",
         target: Target::Line(Part::Table),
         sentence: &[
-            Words("Line "),
-            Word(0),
+            Word("Line ", 0),
             Words(
                 " is not what has to stand here. Write `table 1`, then `hyperperiod H` with \
                     the hyperperiod of the plan, then lines `at X task K job C units U` that \
@@ -226,8 +211,7 @@ static KINDS: [Kind; 21] = [
         tail: "\n",
         target: Target::Line(Part::Table),
         sentence: &[
-            Words("Line "),
-            Word(0),
+            Word("Line ", 0),
             Words(
                 " names no task of the plan or no job of a hyperperiod, has no units, or \
                     leaves the window between the encoded dates of its job. `prelude plan` \
@@ -241,10 +225,8 @@ static KINDS: [Kind; 21] = [
         tail: "\n",
         target: Target::Task,
         sentence: &[
-            Words("The units that the table gives job "),
-            Word(1),
-            Words(" of "),
-            Word(0),
+            Word("The units that the table gives job ", 1),
+            Word(" of ", 0),
             Words(" are not together its wcet. Add units or take some out."),
         ],
         detail: Detail::Nothing,
@@ -254,10 +236,8 @@ static KINDS: [Kind; 21] = [
         tail: "\n",
         target: Target::Line(Part::Table),
         sentence: &[
-            Words("The entry of line "),
-            Word(0),
-            Words(" has a tick in common with that of line "),
-            Word(1),
+            Word("The entry of line ", 0),
+            Word(" has a tick in common with that of line ", 1),
             Words(
                 ", in the same hyperperiod or some hyperperiods later, and there is one \
                     processor. Move one of them.",
@@ -270,10 +250,8 @@ static KINDS: [Kind; 21] = [
         tail: "\n",
         target: Target::Nowhere,
         sentence: &[
-            Words("On edge "),
-            Word(0),
-            Words(" job "),
-            Word(2),
+            Word("On edge ", 0),
+            Word(" job ", 2),
             Words(
                 " of the consumer begins before the job that it waits for has its last unit. \
                     Move the entries of the job that waits behind those of the other one; \
@@ -287,8 +265,7 @@ static KINDS: [Kind; 21] = [
         tail: "\n",
         target: Target::Line(Part::Cores),
         sentence: &[
-            Words("Line "),
-            Word(0),
+            Word("Line ", 0),
             Words(
                 " of the text of processors does not place a task. Write the name of a task \
                     of the plan, one blank and the number of its processor, from 0 to 15, and \
@@ -302,10 +279,8 @@ static KINDS: [Kind; 21] = [
         tail: "\n",
         target: Target::Task,
         sentence: &[
-            Words("The text of processors has no line for task "),
-            Word(0),
-            Words(". Add one, `"),
-            Word(0),
+            Word("The text of processors has no line for task ", 0),
+            Word(". Add one, `", 0),
             Words(" P`, with the number P of its processor from 0 to 15."),
         ],
         detail: Detail::Nothing,

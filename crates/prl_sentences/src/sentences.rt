@@ -36,7 +36,10 @@ fn push_piece(text: &mut Vec<u8>, rest: &[u8], piece: &Piece) -> Result<(), Allo
 {
     match piece {
         Piece::Words(words) => text.extend_from_slice(words.as_bytes()),
-        Piece::Word(number) => text.extend_from_slice(word_at(rest, *number)),
+        Piece::Word(words, number) => {
+            text.extend_from_slice(words.as_bytes())?;
+            text.extend_from_slice(word_at(rest, *number))
+        }
     }
 }
 

@@ -6,13 +6,14 @@ use Rattle.prl_base.specs.declared.operators.Clock.{Clock}
 use Rattle.prl_base.specs.declared.values.Value.{Value}
 use Rattle.prl_body.specs.Bodies.{body_step, first_values}
 use Rattle.prl_body.specs.declared.bodies.CheckedBody.{CheckedBody}
-use Rattle.prl_flow.specs.Vocabulary.{dates_before, FlatProgram, IsFlat, Rows, Rule, app_rule, apps_rules, flat_rules, flows_rules, mark_rule, Holds, IsApplied, IsSolution, IsStep, IsTimed, State}
+use Rattle.prl_flow.specs.Vocabulary.{dates_before, FlatProgram, IsFlat, Rows, Rule, apps_rules, flat_rules, flows_rules, mark_rule, Holds, IsApplied, IsSolution, IsStep, IsTimed, State}
 use Rattle.prl_flow.specs.Vocabulary.{Timed, flow_at, registers_at}
 use Rattle.prl_flow.specs.declared.programs.App.{App}
 use Rattle.prl_flow.specs.declared.programs.Arg.{Arg}
 use Rattle.prl_flow.proofs.ClockDates.{dates_before_number}
 use Rattle.prl_flow.proofs.Lists.{element_at, same_from_elements}
 use Rattle.prl_behaviours.proofs.Lists.{all_second, at_place, of_mapped, some_inner}
+use Rattle.prl_behaviours.proofs.Wholes.{app_at_place}
 use Rattle.prl_solutions.specs.Conditions.{clocks_in, values_in}
 
 somes_same : (xs ys : List Value) → map Some xs ≡ map Some ys → xs ≡ ys
@@ -61,13 +62,6 @@ applied_decides bodies until name args outs r q j out found clocked a b =
     a.number
     (subst (λ (c : Clock). length q ≡ dates_before until c + 1) clock b.number)
 
-app_at : (P : Rule ℕ ℕ → Type 0) (k : ℕ) (us : List App) (i j : ℕ) (u : App) → AllByRecursion P (apps_rules k us) → slice_get us i ≡ Some u → j ≡ k + i → P (app_rule j u)
-app_at P k [] i j u h e at = absurd (cc)
-app_at P k (v ∷ us) zero j u h e at =
-    let number : k ≡ j = omega (arith, at) in
-    subst (λ (x : App). P (app_rule j x)) (some_inner v u e) (subst (λ m. P (app_rule m v)) number h.0)
-app_at P k (v ∷ us) (suc i) j u h e at = app_at P (k + 1) us i j u h.1 e (omega (arith, at))
-
 timed_clock : (until : ℕ) (fs : List Timed) (i : ℕ) → AllByRecursion (IsTimed until) fs → IsClock (slice_index_or fs i (record { clock = record { period = 1; start = 0 }; values = [] })).clock
 timed_clock until [] i all = omega arith
 timed_clock until (f ∷ fs) zero all = all.0.0
@@ -94,7 +88,7 @@ module _ (p : FlatProgram) (flat : IsFlat p) (bodies : List CheckedBody) (rows :
       → IsApplied bodies until u.name (map (flow_at s) (map (λ (a : Arg). a.flow.0) u.args)) (map (flow_at s) (map (λ (f : FlowNo). f.0) u.outs)) (registers_at s k)
   app_held s h k u e =
       let Held : Rule ℕ ℕ → Type 0 = λ r. Holds bodies rows until (mark_rule (flow_at s) (registers_at s) r) in
-      app_at Held 0 p.apps k k u
+      app_at_place Held 0 p.apps k k u
       (all_second Held (flows_rules 0 p.flows) (apps_rules 0 p.apps) (of_mapped (Holds bodies rows until) (mark_rule (flow_at s) (registers_at s)) (flat_rules p) h.rules)) e (omega arith)
 
   registers_same : (fs : List Timed) (r q : List (List (List Value))) → IsSolution p bodies rows until (record { flows = fs; registers = r })

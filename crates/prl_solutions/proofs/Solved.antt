@@ -35,12 +35,8 @@ from_taken xs (instance m) within = slice_get-get_or xs m nothing (within m refl
 from_taken xs (constant c) within = refl
 
 pub denominated : (ty : Ty) (op : Op) → IsOperatorFor ty op → IsDenominated op
-denominated ty (operators.Fby c) fits = tt
-denominated ty (operators.Cons c) fits = tt
-denominated ty operators.Tail fits = tt
-denominated ty (operators.Up k) fits = tt
-denominated ty (operators.Down k) fits = tt
 denominated ty (operators.Shift q) fits = fits.0
+denominated ty op fits = tt
 
 pub applied_is : (apps : List App) (bodies : List CheckedBody) (v : Table) (k n out : ℕ) (app : App) (body : CheckedBody) → slice_get apps k ≡ Some app → body_named bodies app.name ≡ Some body
     → applied_of bodies v (slice_get apps k) n out ≡ slice_index_or (nth_step body (inputs_of v app.args) n).outputs out nothing

@@ -1,36 +1,16 @@
 -- What is declared of a name, and what is told of it.
-use Rattle.prl_base.proofs.Standard.{◌≡◌, ◌≤◌, ℕ, List, [], Ok, Some, inl, inr, length, refl, slice_get}
+use Rattle.prl_base.proofs.Standard.{◌≡◌, ◌≤◌, ℕ, List, [], Ok, Some, inl, inr, refl, slice_get}
 use Rattle.prl_ast.specs.Trees.{program_tree}
-use Rattle.prl_ast.specs.declared.declarations.Import.{Import}
-use Rattle.prl_ast.specs.declared.declarations.Node.{Node}
 use Rattle.prl_ast.specs.declared.declarations.Program.{Program}
 use Rattle.prl_lex.specs.Lexing.{token_text, tokens_of}
 use Rattle.prl_lex.specs.declared.tokens.Token.{Token}
 use Rattle.prl_syntax.specs.Parsing.{IsParsed}
 use Rattle.prl_spots.specs.declared.counts.Counts.{Counts}
-use Rattle.prl_spots.specs.Counted.{Declares, IsCounted, IsNamedFrom, IsOfImport, IsOfNode, counts_text}
+use Rattle.prl_spots.specs.Counted.{Declares, IsCounted, IsNamedFrom, IsOf, IsOfImport, IsOfNode, counts_text}
 
-pub import_is : (imports : List Import) (name : List ℕ) (counts : Counts) (index : ℕ) (import : Import) → slice_get imports index ≡ Some import
-    → import.name ≡ name → counts.ins ≡ length import.ins → counts.outs ≡ length import.outs → IsOfImport imports name counts
-import_is imports name counts index import found named ins outs = record {
-  index = index;
-  import = import;
-  found = found;
-  named = named;
-  ins = ins;
-  outs = outs;
-}
-
-pub node_is : (nodes : List Node) (name : List ℕ) (counts : Counts) (index : ℕ) (node : Node) → slice_get nodes index ≡ Some node
-    → node.name ≡ name → counts.ins ≡ length node.ins → counts.outs ≡ length node.outs → IsOfNode nodes name counts
-node_is nodes name counts index node found named ins outs = record {
-  index = index;
-  node = node;
-  found = found;
-  named = named;
-  ins = ins;
-  outs = outs;
-}
+pub is_of : {A : Type 0} (name_of : A → List ℕ) (ins_of outs_of : A → ℕ) (all : List A) (name : List ℕ) (counts : Counts) (index : ℕ) (one : A)
+    → slice_get all index ≡ Some one → name_of one ≡ name → counts.ins ≡ ins_of one → counts.outs ≡ outs_of one → IsOf name_of ins_of outs_of all name counts
+is_of name_of ins_of outs_of all name counts index one found named ins outs = record { index = index; one = one; found = found; named = named; ins = ins; outs = outs }
 
 pub named_is : (text : List ℕ) (tokens : List Token) (program : Program) (at : ℕ) (token : Token) (counts : Counts) (index : ℕ)
     → slice_get tokens index ≡ Some token → at ≤ token.span.at → Declares program (token_text text token) counts

@@ -9,23 +9,20 @@ use Rattle.prl_lex.specs.Lexing.{token_text, tokens_of}
 use Rattle.prl_syntax.specs.Parsing.{IsParsed}
 use Rattle.prl_spots.specs.declared.counts.Counts.{Counts}
 
--- one of the imports has this name, and so many inputs and outputs
-pub record IsOfImport (imports : List Import) (name : List ℕ) (counts : Counts) : Type 0 where
+-- one of these has this name, and so many inputs and outputs
+pub record IsOf {A : Type 0} (name_of : A → List ℕ) (ins_of outs_of : A → ℕ) (all : List A) (name : List ℕ) (counts : Counts) : Type 0 where
   pub index : ℕ
-  pub import : Import
-  pub found : slice_get imports index ≡ Some import
-  pub named : import.name ≡ name
-  pub ins : counts.ins ≡ length import.ins
-  pub outs : counts.outs ≡ length import.outs
+  pub one : A
+  pub found : slice_get all index ≡ Some one
+  pub named : name_of one ≡ name
+  pub ins : counts.ins ≡ ins_of one
+  pub outs : counts.outs ≡ outs_of one
 
--- one of the nodes
-pub record IsOfNode (nodes : List Node) (name : List ℕ) (counts : Counts) : Type 0 where
-  pub index : ℕ
-  pub node : Node
-  pub found : slice_get nodes index ≡ Some node
-  pub named : node.name ≡ name
-  pub ins : counts.ins ≡ length node.ins
-  pub outs : counts.outs ≡ length node.outs
+abbrev pub IsOfImport : List Import → List ℕ → Counts → Type 0
+IsOfImport = IsOf (λ (import : Import). import.name) (λ import. length import.ins) (λ import. length import.outs)
+
+abbrev pub IsOfNode : List Node → List ℕ → Counts → Type 0
+IsOfNode = IsOf (λ (node : Node). node.name) (λ node. length node.ins) (λ node. length node.outs)
 
 abbrev pub Declares : Program → List ℕ → Counts → Type 0
 Declares program name counts = IsOfImport program.imports name counts ⊎ IsOfNode program.nodes name counts

@@ -25,14 +25,12 @@ pub record AreTwo (text : List ℕ) (name : List ℕ) (first second : ℕ) : Typ
 unfoldable pub spot_text : List ℕ → ℕ → List ℕ
 spot_text text at = decimal (place_of text at).line ++ codes ":" ++ decimal (place_of text at).column
 
-unfoldable pub first_text : List ℕ → ℕ → List ℕ
-first_text text at = codes "It stands at " ++ spot_text text at
-
-unfoldable pub again_text : List ℕ → ℕ → List ℕ
-again_text text at = codes " and at " ++ spot_text text at
+-- words and a place
+unfoldable pub placed : List ℕ → List ℕ → ℕ → List ℕ
+placed front text at = front ++ spot_text text at
 
 unfoldable pub two_text : List ℕ → ℕ → ℕ → List ℕ
-two_text text first second = first_text text first ++ again_text text second ++ codes ".\n"
+two_text text first second = placed (codes "It stands at ") text first ++ placed (codes " and at ") text second ++ codes ".\n"
 
 -- what is told: nothing, or two places of the name
 abbrev pub IsTwice : List ℕ → List ℕ → List ℕ → Type 0

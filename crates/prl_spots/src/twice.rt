@@ -3,7 +3,7 @@
 ghost use Rattle.std.specs.Prelude.{◌≡◌, ◌≤◌, ◌<◌, ◌++◌, ◌^◌, All, IfOk, Ok, OnOk, length};
 ghost use Rattle.std.specs.Bool.{OnTrue};
 ghost use Rattle.prl_lex.specs.Lexing.{IsTokenOf, tokens_of};
-ghost use Rattle.prl_spots.specs.Twice.{IsNameAt, IsTwice, again_text, first_text, spot_text, two_text};
+ghost use Rattle.prl_spots.specs.Twice.{IsNameAt, IsTwice, placed, spot_text, two_text};
 
 use crate::names::is_text;
 use crate::places::place_of;
@@ -60,44 +60,15 @@ fn area_inside(area: Area, word: &[u8]) -> Area {
     if word == b"tel".as_slice() {
         return Area::Outside;
     }
-    match area {
-        Area::Ports => {
-            if word == b";".as_slice() {
-                Area::Outside
-            } else {
-                area
-            }
-        }
-        Area::Inputs => {
-            if word == b"returns".as_slice() {
-                Area::Flows
-            } else {
-                area
-            }
-        }
-        Area::Flows => {
-            if word == b"let".as_slice() {
-                Area::Left
-            } else {
-                area
-            }
-        }
-        Area::Left => {
-            if word == b"=".as_slice() {
-                Area::Right
-            } else {
-                area
-            }
-        }
-        Area::Right => {
-            if word == b";".as_slice() {
-                Area::Left
-            } else {
-                area
-            }
-        }
-        Area::Outside | Area::Imported => area,
-    }
+    let (last, next) = match area {
+        Area::Ports => (b";".as_slice(), Area::Outside),
+        Area::Inputs => (b"returns".as_slice(), Area::Flows),
+        Area::Flows => (b"let".as_slice(), Area::Left),
+        Area::Left => (b"=".as_slice(), Area::Right),
+        Area::Right => (b";".as_slice(), Area::Left),
+        Area::Outside | Area::Imported => return area,
+    };
+    if word == last { next } else { area }
 }
 
 /// The area after a token.
@@ -248,23 +219,13 @@ fn push_spot(told: &mut Vec<u8>, text: &[u8], at: usize) -> Result<(), AllocErro
     push_number(told, place.column)
 }
 
-/// Appends the first place.
-#[tactic(auto, unfolding(crate::specs::Twice::first_text))]
-fn push_first(told: &mut Vec<u8>, text: &[u8], at: usize) -> Result<(), AllocError>
+/// Appends words and a place.
+#[tactic(auto, unfolding(crate::specs::Twice::placed))]
+fn push_placed(told: &mut Vec<u8>, front: &[u8], text: &[u8], at: usize) -> Result<(), AllocError>
     requires { at ≤ length text.now }
-    ensures { OnOk result (told.new.items ≡ told.old.items ++ first_text text.now at) }
+    ensures { OnOk result (told.new.items ≡ told.old.items ++ placed front.now text.now at) }
 {
-    told.extend_from_slice(b"It stands at ")?;
-    push_spot(told, text, at)
-}
-
-/// Appends the second place.
-#[tactic(auto, unfolding(crate::specs::Twice::again_text))]
-fn push_again(told: &mut Vec<u8>, text: &[u8], at: usize) -> Result<(), AllocError>
-    requires { at ≤ length text.now }
-    ensures { OnOk result (told.new.items ≡ told.old.items ++ again_text text.now at) }
-{
-    told.extend_from_slice(b" and at ")?;
+    told.extend_from_slice(front)?;
     push_spot(told, text, at)
 }
 
@@ -276,8 +237,8 @@ fn two_told(alloc: Global, text: &[u8], first: usize, second: usize) -> Result<V
     ensures { IfOk result (λ told. told.items ≡ two_text text.now first second) }
 {
     let mut told = Vec::new(alloc);
-    push_first(&mut told, text, first)?;
-    push_again(&mut told, text, second)?;
+    push_placed(&mut told, b"It stands at ", text, first)?;
+    push_placed(&mut told, b" and at ", text, second)?;
     told.extend_from_slice(b".\n")?;
     Ok(told)
 }
@@ -315,8 +276,6 @@ pub fn twice_told(alloc: Global, text: &[u8], name: &[u8]) -> Result<Vec<u8>, Al
     match lex(alloc, text) {
         Ok(tokens) => told_of(alloc, text, tokens.as_slice(), name),
         Err(LexFault::Memory) => Err(AllocError),
-        Err(LexFault::BadToken(_)) => Ok(Vec::new(alloc)),
-        Err(LexFault::NumberRange(_)) => Ok(Vec::new(alloc)),
-        Err(LexFault::Limit(_)) => Ok(Vec::new(alloc)),
+        Err(_) => Ok(Vec::new(alloc)),
     }
 }

@@ -15,19 +15,11 @@ use Rattle.prl_flow.specs.declared.programs.OutFlow.{OutFlow}
 use Rattle.prl_solutions.specs.Vocabulary.{clocks_in, values_in, ExactlyOne}
 use Rattle.prl_types.specs.Typing.{IsTyped}
 use Rattle.prl_stages.specs.Runs.{named_flows}
+use Rattle.prl_stages.specs.code.Runnings.{SolutionLaws}
 use Rattle.prl_replay.specs.Outputs.{out_flows}
 use Rattle.prl_stages.proofs.Outputs.{outs_named, outputs_all, outputs_counted, outputs_marked, named_up_to}
 
--- the laws of the crates below
-pub record Laws : Type 0 where
-  pub solutions : (p : ProgramTree) (asked : Option (List ℕ)) (main : ℕ) (types : List Ty) (e : Expansion) → IsTyped p asked main types → IsExpansion p main e
-      → (bodies : List CheckedBody) (rows : Rows) (until : ℕ) → IsOneToOne (Satisfies p main bodies rows until) (IsSolution (flat_of p types main e) bodies rows until) state_in
-  pub states : (p : ProgramTree) (k : ℕ) (e : Entered ℕ ℕ ℕ) (b : Behaviour) → IsText p k e → IsText p k b
-      → AreCounted (flows_in e) → AreCounted (imports_in e) → behaviour_of (state_in b) e ≡ b
-  pub clocks : (p : FlatProgram) → IsFlat p → (clocks : List Clock) → AreOnlyClocks p clocks
-      → (bodies : List CheckedBody) (rows : Rows) (until : ℕ) (s : State) → IsSolution p bodies rows until s → clocks_in s ≡ clocks
-
-module _ (law : Laws) (p : ProgramTree) (asked : Option (List ℕ)) (main : ℕ) (types : List Ty) (flat : FlatProgram) (typed : IsTyped p asked main types)
+module _ (law : SolutionLaws) (p : ProgramTree) (asked : Option (List ℕ)) (main : ℕ) (types : List Ty) (flat : FlatProgram) (typed : IsTyped p asked main types)
     (expanded : IsExpanded p main types flat) (well_formed : IsFlat flat) (clocks : List Clock) (only : AreOnlyClocks flat clocks)
     (bodies : List CheckedBody) (rows : Rows) (until : ℕ) (table : List (List Value)) (solution : AreSolution flat clocks bodies rows until table) where
   correspond : IsOneToOne (Satisfies p main bodies rows until) (IsSolution flat bodies rows until) state_in

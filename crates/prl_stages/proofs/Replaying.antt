@@ -29,14 +29,14 @@ use Rattle.prl_overlaps.specs.declared.entries.Entry.{Entry}
 use Rattle.prl_values.specs.Vocabulary.{HaveTaskBodies, HaveTypedRows, job_values}
 use Rattle.prl_stages.specs.declared.faults.InputFile.TheVariants as parts
 use Rattle.prl_stages.specs.Vocabulary.{Given, text_of, IsFlattened, AreBodies, IsMain, HasGraph, HasPlan, IsCoresText, IsPlacedRun, HasRun, IsCycleText, IsRunOf, IsRunText, IsSummary, sum_of}
-use Rattle.prl_stages.specs.Vocabulary.{summary_line, Execution, IsReplayText, HasRows, Meaning, meant_flows, rows_for, HasHorizon, IsWhole, HasTable, PartLaws, WholeLaws}
+use Rattle.prl_stages.specs.Vocabulary.{summary_line, Execution, IsReplayText, HasRows, Meaning, meant_flows, rows_for, HasHorizon, IsWhole, HasTable, PartLaws, RunningLaws, WholeLaws}
 use Rattle.prl_stages.specs.declared.ran.Ran.{Ran}
 use Rattle.prl_stages.specs.declared.ran.Ran.TheVariants as runs
 use Rattle.prl_stages.proofs.Boards.{are_shown, board, has_ended}
 use Rattle.prl_stages.proofs.OneParts as ones
 use Rattle.prl_stages.proofs.Running as running
 
-module _ (one : PartLaws) (law : running.Laws) (whole : WholeLaws) (g : Given) (bodies : List CheckedBody) (trees : AreBodies g (map body_tree bodies))
+module _ (one : PartLaws) (law : RunningLaws) (whole : WholeLaws) (g : Given) (bodies : List CheckedBody) (trees : AreBodies g (map body_tree bodies))
     (flat : FlatProgram) (clocks : List Clock) (rows : Rows) (has : HasRows g flat clocks rows) where
   made : IsFlattened g flat
   made = has.clocked.causal.flattened

@@ -44,47 +44,11 @@ use Rattle.prl_stages.specs.declared.ran.Ran.{Ran}
 use Rattle.prl_stages.specs.declared.ran.Ran.TheVariants as runs
 use Rattle.prl_behaviours.specs.Behaviours.{Satisfies, state_in}
 use Rattle.prl_overlaps.specs.declared.entries.Entry.{Entry}
+use Rattle.prl_stages.specs.code.Runnings.{RunningLaws}
 use Rattle.prl_stages.proofs.Inputs.{enough_rows, typed_rows}
 use Rattle.prl_stages.proofs.Meaning as meaning
 use Rattle.prl_stages.proofs.SmallClocks.{small_clocks}
 use Rattle.prl_stages.proofs.TypedBodies.{checked_are_typed, named_typed}
-
--- the laws of the crates below
-pub record Laws : Type 0 where
-  pub meaning_laws : meaning.Laws
-  pub fitted : (p : ProgramTree) (asked : Option (List ℕ)) (main : ℕ) (types : List Ty) (e : Expansion) → IsInRange p → IsTyped p asked main types
-      → IsExpansion p main e → (bodies : List CheckedBody) → HaveBodiesOf p.imports (used_imports p main) bodies → HaveBodies (flat_of p types main e) bodies
-  pub solved : (p : FlatProgram) (clocks : List Clock) (order : List FlowNo) (bodies : List CheckedBody) (rows : Rows) (until : ℕ)
-      → IsFlat p → AreClocks p clocks → IsOrder p order → HaveBodies p bodies → HaveTypedBodies p bodies → HaveRows p clocks rows until
-      → ExactlyOne (λ (s : State). IsSolution p bodies rows until s × (clocks_in s ≡ clocks))
-  pub solves : (p : FlatProgram) (bodies : List CheckedBody) (rows : Rows) (until : ℕ) (s : State) → IsFlat p → IsSolution p bodies rows until s
-      → AreClocks p (map (λ (f : Timed). f.clock) s.flows)
-      × Solves p (map (λ (f : Timed). f.clock) s.flows) bodies rows until (map (λ (f : Timed). f.values) s.flows)
-  pub read : (inputs : Inputs) (needs text : List ℕ) (rows : Rows) → length needs ≡ length inputs.names → sensors_of inputs needs text ≡ Ok rows → AreRowsFor inputs needs rows
-  pub task_bodies : (p : FlatProgram) (clocks : List Clock) (bodies : List CheckedBody) (graph : TaskGraph) → IsFlat p → IsGraphOf p clocks graph
-      → HaveBodies p bodies → AllByRecursion IsWellTyped bodies → HaveTaskBodies graph bodies
-  pub task_rows : (p : FlatProgram) (clocks : List Clock) (rows : Rows) (until : ℕ) (graph : TaskGraph) → IsFlat p → IsGraphOf p clocks graph
-      → HaveRows p clocks rows until
-      → ((k : ℕ) (flow : FlowNo) → slice_get p.ins k ≡ Some flow → (n : ℕ) (v : Value) → slice_get (rows_of rows k) n ≡ Some v → HasType p (type_of v) flow)
-      → HaveTypedRows graph until rows
-  pub exist : (plan : PlanView) → IsPlan plan → (bodies : List CheckedBody) (rows : Rows) (until : ℕ)
-      → AreJobValues plan.graph bodies rows until (job_values plan.graph bodies rows until)
-  pub agree : (plan : PlanView) → IsPlan plan → (bodies : List CheckedBody) (rows : Rows) (until : ℕ) (v w : JobValues) → AreJobValues plan.graph bodies rows until v
-      → AreJobValues plan.graph bodies rows until w → (e n : ℕ) → e < length plan.graph.edges → IsHorizonJob plan.graph until (edge_at plan.graph e).to.0 n
-      → value_on v (edge_at plan.graph e) n ≡ value_on w (edge_at plan.graph e) n
-  pub given : (p : FlatProgram) (clocks : List Clock) (bodies : List CheckedBody) (rows : Rows) (until : ℕ) (flows : List (List Value)) → IsFlat p → AreClocks p clocks
-      → AreSmallClocks clocks → HaveBodies p bodies → AllByRecursion IsWellTyped bodies → Solves p clocks bodies rows until flows → (graph : TaskGraph)
-      → IsGraphOf p clocks graph → IsWellFormed graph → AreJobValues graph bodies rows until (values_on_dates p clocks flows graph)
-  pub operands : (p : FlatProgram) (clocks : List Clock) (bodies : List CheckedBody) (rows : Rows) (until : ℕ) (flows : List (List Value)) → IsFlat p → AreClocks p clocks
-      → AreSmallClocks clocks → Solves p clocks bodies rows until flows → (graph : TaskGraph) → IsGraphOf p clocks graph → (e : ℕ) (port : InputPort) (edge : Edge)
-      → slice_get (ports_of p) e ≡ Some port → slice_get graph.edges e ≡ Some edge → (n : ℕ) → date_at (clock_of clocks port.flow) n < until
-      → value_on (values_on_dates p clocks flows graph) edge n ≡ value_on_date clocks flows port.flow n
-  pub clock_of_task : (p : FlatProgram) (clocks : List Clock) → IsFlat p → AreClocks p clocks → AreSmallClocks clocks → (graph : TaskGraph) → IsGraphOf p clocks graph
-      → (e : ℕ) (port : InputPort) → slice_get (ports_of p) e ≡ Some port → (task_at graph port.task).clock ≡ clock_of clocks port.flow
-  pub got : (p : FlatProgram) (clocks : List Clock) (flows : List (List Value)) (core : CoreView) (outs : List OutFlow) → IsFlat p → AreClocks p clocks
-      → AreSmallClocks clocks → HaveBodies p core.bodies → AllByRecursion IsWellTyped core.bodies → Solves p clocks core.bodies core.rows core.horizon.until flows
-      → IsGraphOf p clocks core.plan.graph → IsPlan core.plan → AreFlowsBelow core (length core.plan.graph.tasks) outs → AreUpTo core.horizon.until outs
-      → outs ≡ out_flows p.out_devices clocks flows 0 p.outs
 
 -- a flow's clock and values among those of all flows
 clock_there : (s : State) (i : ℕ) (flow : Timed) → slice_get s.flows i ≡ Some flow → clock_of (clocks_in s) i ≡ flow.clock
@@ -101,7 +65,7 @@ values_there s i flow at =
 before_end : (c : Clock) (n until : ℕ) → (pos c.start +ℤ (pos n *ℤ pos c.period)) <ℤ pos until → date_at c n < until
 before_end c n until e = omega (arith, ints, e)
 
-module _ (law : Laws) (g : Given) (p : ProgramTree) (main : ℕ) (types : List Ty) (flat : FlatProgram) (typed : IsTyped p g.node main types)
+module _ (law : RunningLaws) (g : Given) (p : ProgramTree) (main : ℕ) (types : List Ty) (flat : FlatProgram) (typed : IsTyped p g.node main types)
     (expanded : IsExpanded p main types flat) (range : IsInRange p) (well_formed : IsFlat flat) (clocks : List Clock) (order : List FlowNo)
     (ordered : IsOrder flat order) (bodies : List CheckedBody) (trees : AreBodies g (map body_tree bodies))
     (have : HaveBodiesOf p.imports (used_imports p main) bodies) (rows : Rows) (has : HasRows g flat clocks rows) where

@@ -16,12 +16,11 @@ use Rattle.prl_tables.specs.Vocabulary.{IsGood, text_of as table_text}
 use Rattle.prl_overlaps.specs.declared.entries.Entry.{Entry}
 use Rattle.prl_rule.specs.declared.views.Gate.{Gate}
 use Rattle.prl_stages.specs.Vocabulary.{Stage, Given, AreBodies, HasPlan, accepted_line, meant_flows, HasHorizon, IsScheduleText, Comes, Holds, IsText, front, graphed, planned, stages_after}
-use Rattle.prl_stages.specs.Vocabulary.{IsCycleText, IsRunText, IsSummary, HasMadeTable, HasTable, PartLaws, WholeLaws}
+use Rattle.prl_stages.specs.Vocabulary.{IsCycleText, IsRunText, IsSummary, HasMadeTable, HasTable, PartLaws, RunningLaws, WholeLaws}
 use Rattle.prl_stages.specs.declared.ran.Ran.{Ran}
 use Rattle.prl_stages.specs.declared.stages.Stage.TheVariants as stages
 use Rattle.prl_stages.proofs.AllHold.{behind, first_holds}
 use Rattle.prl_stages.proofs.Replaying as replaying
-use Rattle.prl_stages.proofs.Running as running
 
 -- the last stage of a list holds
 last_holds : (g : Given) (first : List Stage) (stage : Stage) → Comes g (first ++ stage ∷ []) None → Holds g stage
@@ -89,7 +88,7 @@ some_table_text law g named comes =
     (table_text plan.graph.hyper entries, record { plan = plan; entries = entries; made = has; good = good; written = refl })
 
 -- the texts of what is computed, where the bodies of the text are given
-module _ (one : PartLaws) (law : running.Laws) (whole : WholeLaws) (g : Given) (bodies : List CheckedBody) (trees : AreBodies g (map body_tree bodies)) (named : Bool) where
+module _ (one : PartLaws) (law : RunningLaws) (whole : WholeLaws) (g : Given) (bodies : List CheckedBody) (trees : AreBodies g (map body_tree bodies)) (named : Bool) where
   pub flows_text : Comes g (stages_after modes.Flows named) None → (text : List ℕ) × IsText g modes.Flows text
   flows_text comes =
       let rows = (first_holds g stages.Rows (stages.Values ∷ []) (behind g (front ++ stages.Bodies ∷ []) (stages.Rows ∷ stages.Values ∷ []) comes)).0 in

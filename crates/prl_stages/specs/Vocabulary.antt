@@ -28,6 +28,7 @@ pub use Rattle.prl_stages.specs.Tabled.{RefusesMade, RefusesTable, make_refusal,
 pub use Rattle.prl_stages.specs.Told.{stop_of, told_body, told_clocks, told_flow, told_graph}
 pub use Rattle.prl_stages.specs.Told.{told_parse, told_sensors, told_types}
 pub use Rattle.prl_stages.specs.code.Ones.{FindOne, PartLaws, PlanLaws, RunLaws}
+pub use Rattle.prl_stages.specs.code.Runnings.{RunningLaws, SolutionLaws}
 pub use Rattle.prl_stages.specs.code.Wholes.{WholeLaws}
 pub use Rattle.prl_stages.specs.declared.faults.BodiesRefusal.{BodiesRefusal}
 pub use Rattle.prl_stages.specs.declared.faults.ClocksRefusal.{ClocksRefusal}

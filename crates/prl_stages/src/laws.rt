@@ -23,6 +23,7 @@ ghost use Rattle.prl_stages.specs.Needs.{HoldsBodies};
 ghost use Rattle.prl_stages.specs.Ran.{IsCycleText, IsMeant, IsRunText, IsSummary};
 ghost use Rattle.prl_stages.specs.Stages.{Holds, Comes, IsDecided, AreDecided, IsText, stages_after, stages_of};
 ghost use Rattle.prl_stages.specs.code.Ones.{FindOne};
+ghost use Rattle.prl_stages.specs.code.Runnings.{RunningLaws};
 ghost use Rattle.prl_stages.specs.code.Wholes.{WholeLaws};
 ghost use Rattle.prl_stages.specs.declared.ran.Ran.{Ran as AnyRan};
 ghost use Rattle.prl_stages.specs.declared.stages.Stage.{Stage as AnyStage};
@@ -109,6 +110,25 @@ fn whole_lists_are_there()
     plans_are_dispatched();
     job_values_are_typed();
     unrolled_table_is_gated();
+}
+
+/// What runs tell is of the one behaviour, by the laws of the crates below.
+pub fn runs_tell_of_behaviours()
+    ensures { RunningLaws }
+{
+    behaviours_are_solutions();
+    behaviours_are_of_their_states();
+    clocks_are_unique();
+    expansions_have_bodies();
+    programs_have_one_solution();
+    solutions_are_of_their_clocks();
+    rows_are_typed_and_enough();
+    bodies_and_rows_serve_tasks();
+    job_values_exist();
+    job_values_are_one();
+    solutions_give_job_values();
+    ports_have_the_clock_of_their_task();
+    actuators_get_the_outputs();
 }
 
 /// A list of stages comes to one end: all hold, or one refuses, with one fault.
@@ -233,19 +253,7 @@ pub fn texts_have_behaviours()
 {
     findings_are_one();
     whole_lists_are_there();
-    behaviours_are_solutions();
-    behaviours_are_of_their_states();
-    clocks_are_unique();
-    expansions_have_bodies();
-    programs_have_one_solution();
-    solutions_are_of_their_clocks();
-    rows_are_typed_and_enough();
-    bodies_and_rows_serve_tasks();
-    job_values_exist();
-    job_values_are_one();
-    solutions_give_job_values();
-    ports_have_the_clock_of_their_task();
-    actuators_get_the_outputs();
+    runs_tell_of_behaviours();
 }
 
 /// Where the stages of a mode hold there is a text that it means: of a program, of a plan and its size, of a schedule, of a verdict

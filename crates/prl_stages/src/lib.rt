@@ -15,8 +15,8 @@ pub use faults::{
 };
 pub use laws::{
     commands_come_to_an_end, commands_have_texts, cycles_are_told_by_name, front_is_decided,
-    plans_have_schedules, stages_are_decided, stages_come_to_an_end, stages_end_one_way,
-    texts_are_one, texts_exist, texts_have_behaviours,
+    plans_have_schedules, runs_tell_of_behaviours, stages_are_decided, stages_come_to_an_end,
+    stages_end_one_way, texts_are_one, texts_exist, texts_have_behaviours,
 };
 pub use ran::Ran;
 pub use sizes::{

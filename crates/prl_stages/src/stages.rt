@@ -1,5 +1,8 @@
 //! The stages of the command in the order of refusals, and how a command stops at one.
 
+ghost use Rattle.std.specs.Prelude.{◌≡◌};
+ghost use Rattle.prl_stages.specs.declared.stages.Stop.TheVariants.{Memory};
+
 use crate::faults::{Fault, InputFile};
 use std::alloc::AllocError;
 
@@ -58,9 +61,6 @@ pub enum Stop {
 }
 
 impl From<AllocError> for Stop {
-    ghost use Rattle.std.specs.Prelude.{◌≡◌};
-    ghost use Rattle.prl_stages.specs.declared.stages.Stop.TheVariants.{Memory};
-
     ghost from_gives = { λ _ e. e ≡ Memory };
 
     fn from(_error: AllocError) -> Stop {

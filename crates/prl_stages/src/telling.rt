@@ -1,6 +1,10 @@
 //! How the faults of the crates below are told as stops of the command's stages: want of memory is told as such, and each other
 //! fault as a refusal of its stage.
 
+ghost use Rattle.std.specs.Prelude.{◌≡◌};
+ghost use Rattle.prl_stages.specs.declared.stages.Stage.TheVariants.{Grammar, Types, Bodies, Expansion, Causality, Clocks, Graph, Words, Cells, Values};
+ghost use Rattle.prl_stages.specs.Told.{stop_of, told_parse, told_types, told_body, told_expand, told_causal, told_clocks, told_graph, told_words, told_cells, told_flow};
+
 use crate::faults::{
     BodiesRefusal, ClocksRefusal, Fault, GrammarRefusal, GraphRefusal, TypesRefusal,
 };
@@ -16,10 +20,6 @@ use prl_types::TypeFault;
 use prl_words::WordFault;
 
 impl From<ParseFault> for Stop {
-    ghost use Rattle.std.specs.Prelude.{◌≡◌};
-    ghost use Rattle.prl_stages.specs.declared.stages.Stage.TheVariants.{Grammar};
-    ghost use Rattle.prl_stages.specs.Told.{stop_of, told_parse};
-
     ghost from_gives = { λ fault stop. stop ≡ stop_of Grammar (told_parse fault) };
 
     fn from(fault: ParseFault) -> Stop {
@@ -35,10 +35,6 @@ impl From<ParseFault> for Stop {
 }
 
 impl From<TypeFault> for Stop {
-    ghost use Rattle.std.specs.Prelude.{◌≡◌};
-    ghost use Rattle.prl_stages.specs.declared.stages.Stage.TheVariants.{Types};
-    ghost use Rattle.prl_stages.specs.Told.{stop_of, told_types};
-
     ghost from_gives = { λ fault stop. stop ≡ stop_of Types (told_types fault) };
 
     fn from(fault: TypeFault) -> Stop {
@@ -62,10 +58,6 @@ impl From<TypeFault> for Stop {
 }
 
 impl From<BodyFault> for Stop {
-    ghost use Rattle.std.specs.Prelude.{◌≡◌};
-    ghost use Rattle.prl_stages.specs.declared.stages.Stage.TheVariants.{Bodies};
-    ghost use Rattle.prl_stages.specs.Told.{stop_of, told_body};
-
     ghost from_gives = { λ fault stop. stop ≡ stop_of Bodies (told_body fault) };
 
     fn from(fault: BodyFault) -> Stop {
@@ -83,10 +75,6 @@ impl From<BodyFault> for Stop {
 }
 
 impl From<ExpandFault> for Stop {
-    ghost use Rattle.std.specs.Prelude.{◌≡◌};
-    ghost use Rattle.prl_stages.specs.declared.stages.Stage.TheVariants.{Expansion};
-    ghost use Rattle.prl_stages.specs.Told.{stop_of, told_expand};
-
     ghost from_gives = { λ fault stop. stop ≡ stop_of Expansion (told_expand fault) };
 
     fn from(fault: ExpandFault) -> Stop {
@@ -98,10 +86,6 @@ impl From<ExpandFault> for Stop {
 }
 
 impl From<CausalFault> for Stop {
-    ghost use Rattle.std.specs.Prelude.{◌≡◌};
-    ghost use Rattle.prl_stages.specs.declared.stages.Stage.TheVariants.{Causality};
-    ghost use Rattle.prl_stages.specs.Told.{stop_of, told_causal};
-
     ghost from_gives = { λ fault stop. stop ≡ stop_of Causality (told_causal fault) };
 
     fn from(fault: CausalFault) -> Stop {
@@ -113,10 +97,6 @@ impl From<CausalFault> for Stop {
 }
 
 impl From<ClockFault> for Stop {
-    ghost use Rattle.std.specs.Prelude.{◌≡◌};
-    ghost use Rattle.prl_stages.specs.declared.stages.Stage.TheVariants.{Clocks};
-    ghost use Rattle.prl_stages.specs.Told.{stop_of, told_clocks};
-
     ghost from_gives = { λ fault stop. stop ≡ stop_of Clocks (told_clocks fault) };
 
     fn from(fault: ClockFault) -> Stop {
@@ -140,10 +120,6 @@ impl From<ClockFault> for Stop {
 }
 
 impl From<GraphFault> for Stop {
-    ghost use Rattle.std.specs.Prelude.{◌≡◌};
-    ghost use Rattle.prl_stages.specs.declared.stages.Stage.TheVariants.{Graph};
-    ghost use Rattle.prl_stages.specs.Told.{stop_of, told_graph};
-
     ghost from_gives = { λ fault stop. stop ≡ stop_of Graph (told_graph fault) };
 
     fn from(fault: GraphFault) -> Stop {
@@ -160,10 +136,6 @@ impl From<GraphFault> for Stop {
 }
 
 impl From<WordFault> for Stop {
-    ghost use Rattle.std.specs.Prelude.{◌≡◌};
-    ghost use Rattle.prl_stages.specs.declared.stages.Stage.TheVariants.{Words};
-    ghost use Rattle.prl_stages.specs.Told.{stop_of, told_words};
-
     ghost from_gives = { λ fault stop. stop ≡ stop_of Words (told_words fault) };
 
     fn from(fault: WordFault) -> Stop {
@@ -175,10 +147,6 @@ impl From<WordFault> for Stop {
 }
 
 impl From<CellFault> for Stop {
-    ghost use Rattle.std.specs.Prelude.{◌≡◌};
-    ghost use Rattle.prl_stages.specs.declared.stages.Stage.TheVariants.{Cells};
-    ghost use Rattle.prl_stages.specs.Told.{stop_of, told_cells};
-
     ghost from_gives = { λ fault stop. stop ≡ stop_of Cells (told_cells fault) };
 
     fn from(fault: CellFault) -> Stop {
@@ -190,10 +158,6 @@ impl From<CellFault> for Stop {
 }
 
 impl From<FlowFault> for Stop {
-    ghost use Rattle.std.specs.Prelude.{◌≡◌};
-    ghost use Rattle.prl_stages.specs.declared.stages.Stage.TheVariants.{Values};
-    ghost use Rattle.prl_stages.specs.Told.{stop_of, told_flow};
-
     ghost from_gives = { λ fault stop. stop ≡ stop_of Values (told_flow fault) };
 
     fn from(fault: FlowFault) -> Stop {

@@ -5,12 +5,12 @@ use Rattle.prl_drawing.specs.declared.scales.Scale.{Scale}
 use Rattle.prl_drawing.specs.declared.scales.TheConstants.{LEFT}
 use Rattle.prl_drawing.specs.Scales.{x_within}
 use Rattle.prl_steps.specs.declared.bars.Bar.{Bar}
-use Rattle.prl_steps.specs.declared.bars.TheConstants.{COLUMNS, PIXEL}
+use Rattle.prl_steps.specs.declared.bars.TheConstants.{COLUMNS}
 use Rattle.prl_steps.specs.declared.samples.Step.{Step}
 
 -- the pixel column of a tick; the last one for a tick behind it
 abbrev pub column_of : Scale → ℕ → ℕ
-column_of scale tick = min ((x_within scale tick - LEFT) / PIXEL) (COLUMNS - 1)
+column_of scale tick = min ((x_within scale tick - LEFT) / 10) (COLUMNS - 1)
 
 abbrev pub begins_in : Scale → ℕ → Step → Bool
 begins_in scale column step = column_of scale step.from == column

@@ -1,7 +1,7 @@
 -- The plots of flows, one below another.
 use Rattle.std.specs.Prelude.{◌≡◌, ◌+◌, ◌++◌, ℕ, List, [], ◌∷◌}
 use Rattle.prl_drawing.specs.declared.scales.Scale.{Scale}
-use Rattle.prl_steps.specs.declared.panes.TheConstants.{BETWEEN, FIRST}
+use Rattle.prl_steps.specs.declared.panes.TheConstants.{BETWEEN}
 use Rattle.prl_steps.specs.Flows.{FlowView}
 use Rattle.prl_steps.specs.Panes.{height_of, pane_of}
 use Rattle.prl_steps.specs.Paths.{path_text}
@@ -25,4 +25,4 @@ plots_text scale above colour (flow ∷ flows) =
 -- the picture has the line of each flow once, in order
 abbrev pub ArePlotsOf : Scale → List FlowView → List ℕ → Type 0
 ArePlotsOf scale flows text =
-    (below above : List ℕ) × (text ≡ below ++ plots_text scale FIRST 0 flows ++ above)
+    (below above : List ℕ) × (text ≡ below ++ plots_text scale 0 0 flows ++ above)

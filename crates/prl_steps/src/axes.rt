@@ -2,7 +2,7 @@
 
 ghost use Rattle.prl_drawing.specs.Scales.{IsScale};
 
-use crate::panes::{BETWEEN, FIRST};
+use crate::panes::BETWEEN;
 use prl_drawing::{
     Axis, LEFT, Scale, Unit, WIDTH, push, push_all, push_svg, push_times, push_unit_name,
 };
@@ -55,7 +55,7 @@ pub(crate) fn push_axis(
     requires range { IsScale scale }
 {
     let axis = Axis {
-        top: FIRST + BETWEEN / 2,
+        top: BETWEEN / 2,
         bottom: bottom.saturating_add(80),
         times: bottom.saturating_add(200),
     };

@@ -6,14 +6,11 @@ ghost use Rattle.prl_steps.specs.Bars.{bars_of, column_of, joined};
 ghost use Rattle.prl_drawing.specs.Scales.{IsScale};
 
 use crate::samples::Step;
-use prl_drawing::{LEFT, Scale, x_within};
+use prl_drawing::{LEFT, Scale, WIDTH, x_within};
 use std::alloc::{AllocError, Global};
 
-/// How many pixel columns there are.
-pub const COLUMNS: usize = 1_000;
-
-/// How wide one is, in tenths of a pixel.
-pub const PIXEL: u64 = 10;
+/// How many pixel columns there are, each ten tenths of a pixel wide.
+pub const COLUMNS: usize = WIDTH as usize / 10;
 
 /// Some steps that begin in one column.
 #[derive(Clone, Copy)]
@@ -32,7 +29,7 @@ fn column_of(scale: Scale, tick: u64) -> usize
     ensures exact { result ≡ column_of scale tick }
     ensures small { result < COLUMNS }
 {
-    let column = x_within(scale, tick).saturating_sub(LEFT) / PIXEL;
+    let column = x_within(scale, tick).saturating_sub(LEFT) / 10;
     column.min(COLUMNS as u64 - 1) as usize
 }
 

@@ -13,10 +13,10 @@ mod samples;
 mod steps;
 mod titles;
 
-pub use bars::{Bar, COLUMNS, PIXEL, bars_of};
+pub use bars::{Bar, COLUMNS, bars_of};
 pub use flows::Flow;
 pub use levels::level_of;
-pub use panes::{BAND, BETWEEN, CURVE, FIRST, Pane, pane_of, y_of};
+pub use panes::{BETWEEN, Pane, pane_of, y_of};
 pub use paths::push_path;
 pub use plots::{MAX_PLOTS, plots_of};
 pub use samples::{Sample, Step};

@@ -5,20 +5,11 @@ ghost use Rattle.prl_base.specs.declared.values.Ty.TheVariants as types;
 ghost use Rattle.prl_steps.specs.Panes.{height_of, pane_of, rise_of, y_of};
 
 use crate::samples::Step;
-use crate::steps::{greatest_of, least_of};
+use crate::steps::levels_of;
 use prl_base::Ty;
 
-/// How high the pane of an integer flow is, in tenths of a pixel.
-pub const CURVE: u64 = 480;
-
-/// How high the band of a truth value is.
-pub const BAND: u64 = 160;
-
-/// How much stays free above a pane.
+/// How much stays free above a pane, in tenths of a pixel.
 pub const BETWEEN: u64 = 240;
-
-/// How much stays free above the first pane, beside that.
-pub const FIRST: u64 = 0;
 
 /// A small plot: where its bottom is, how high it is, and the levels that its bottom and its top stand for.
 #[derive(Clone, Copy)]
@@ -49,13 +40,13 @@ pub fn y_of(pane: Pane, level: u64) -> u64
     pane.bottom.saturating_sub(rise_of(pane, level))
 }
 
-/// How high the pane of a flow is.
+/// How high the pane of a flow is, in tenths of a pixel.
 pub(crate) fn height_of(ty: Ty) -> u64
     ensures { result ≡ height_of ty }
 {
     match ty {
-        Ty::Int => CURVE,
-        Ty::Bool => BAND,
+        Ty::Int => 480,
+        Ty::Bool => 160,
     }
 }
 
@@ -65,11 +56,11 @@ fn curve_of(bottom: u64, steps: &[Step]) -> Pane
 {
     let (low, high) = match steps {
         [] => (0, 0),
-        [first, rest @ ..] => (least_of(first.level, rest), greatest_of(first.level, rest)),
+        [first, rest @ ..] => levels_of(first.level, rest),
     };
     Pane {
         bottom,
-        height: CURVE,
+        height: height_of(Ty::Int),
         low,
         high,
     }
@@ -83,7 +74,7 @@ pub fn pane_of(ty: Ty, bottom: u64, steps: &[Step]) -> Pane
         Ty::Int => curve_of(bottom, steps),
         Ty::Bool => Pane {
             bottom,
-            height: BAND,
+            height: height_of(ty),
             low: 0,
             high: 1,
         },

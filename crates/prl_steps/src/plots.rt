@@ -6,7 +6,7 @@ ghost use Rattle.prl_drawing.specs.Scales.{IsScale};
 
 use crate::axes::{push_axis, push_opening};
 use crate::flows::Flow;
-use crate::panes::{BETWEEN, FIRST, height_of, pane_of};
+use crate::panes::{BETWEEN, height_of, pane_of};
 use crate::paths::push_path;
 use crate::steps::seen_steps;
 use crate::titles::{push_title, push_told};
@@ -27,7 +27,7 @@ fn bottom_of(above: u64, flow: &Flow) -> u64
 
 /// How far the bottom of the last pane is from the top.
 fn last_bottom(flows: &[Flow]) -> u64 {
-    let mut bottom: u64 = FIRST;
+    let mut bottom: u64 = 0;
     for flow in flows {
         bottom = bottom_of(bottom.min(1_000_000_000), flow);
     }
@@ -89,7 +89,7 @@ fn push_words(
     let steps = seen_steps(alloc, scale, flow.samples())?;
     let pane = pane_of(flow.ty(), bottom, &steps);
     if told {
-        push_told(text, flow, pane, &steps)
+        push_told(text, flow, pane, steps.len() as u64)
     } else {
         push_title(text, flow, pane, &steps)
     }
@@ -105,7 +105,7 @@ fn push_all_words(
 ) -> Result<(), AllocError>
     requires range { IsScale scale }
 {
-    let mut bottom: u64 = FIRST;
+    let mut bottom: u64 = 0;
     for flow in flows {
         bottom = bottom_of(bottom.min(1_000_000_000), flow);
         push_words(alloc, text, scale, bottom, flow, told)?;
@@ -148,7 +148,7 @@ pub fn plots_of(
     ensures { IfOk result (λ text. ArePlotsOf scale flows.now text.items) }
 {
     let mut text = below(alloc, flows, scale, unit)?;
-    push_plots(alloc, &mut text, scale, FIRST, 0, flows)?;
+    push_plots(alloc, &mut text, scale, 0, 0, flows)?;
     let above = above(alloc, flows, scale)?;
     text.extend_from_slice(&above)?;
     Ok(text)

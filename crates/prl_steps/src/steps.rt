@@ -48,24 +48,14 @@ pub fn seen_steps(alloc: Global, scale: Scale, samples: &[Sample]) -> Result<Vec
     Ok(steps)
 }
 
-/// The least level of some steps and one more.
-pub(crate) fn least_of(first: u64, steps: &[Step]) -> u64
-    ensures { result ≡ least_of first steps.now }
+/// The least and the greatest level of some steps and one more.
+pub(crate) fn levels_of(first: u64, steps: &[Step]) -> (u64, u64)
+    ensures { result ≡ (least_of first steps.now, greatest_of first steps.now) }
 {
-    let mut least = first;
+    let (mut least, mut greatest) = (first, first);
     for step in steps {
         least = least.min(step.level);
-    }
-    least
-}
-
-/// The greatest level of some steps and one more.
-pub(crate) fn greatest_of(first: u64, steps: &[Step]) -> u64
-    ensures { result ≡ greatest_of first steps.now }
-{
-    let mut greatest = first;
-    for step in steps {
         greatest = greatest.max(step.level);
     }
-    greatest
+    (least, greatest)
 }

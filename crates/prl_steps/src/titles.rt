@@ -109,16 +109,16 @@ pub(crate) fn push_told(
     text: &mut Vec<u8>,
     flow: &Flow,
     pane: Pane,
-    steps: &[Step],
+    count: u64,
 ) -> Result<(), AllocError> {
-    if steps.is_empty() {
+    if count == 0 {
         return Ok(());
     }
     let top = pane.bottom.saturating_sub(pane.height);
     push(text, "<rect class=\"h")?;
     push_telling(text, LEFT, top, WIDTH, pane.height)?;
     text.extend_from_slice(flow.name())?;
-    push_attribute(text, ": values ", steps.len() as u64)?;
+    push_attribute(text, ": values ", count)?;
     push_told_levels(text, flow.ty(), pane)?;
     push(text, "</title></rect>\n")
 }

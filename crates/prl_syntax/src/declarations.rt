@@ -7,7 +7,6 @@ ghost use Rattle.prl_grammar.specs.Vocabulary.{shape, next_in};
 ghost use Rattle.prl_syntax.specs.code.Loops.{with_joined};
 ghost use Rattle.prl_syntax.specs.Grammar as grammar;
 ghost use Rattle.prl_syntax.specs.code.Parses.{Parses};
-ghost use Rattle.prl_syntax.specs.Grammar.{programs};
 ghost use Rattle.prl_syntax.specs.Trees.{port_of};
 ghost use Rattle.prl_syntax.specs.declared.words.Fixed.TheVariants as kinds;
 
@@ -60,7 +59,7 @@ impl<'a> Parser<'a> {
 
     #[tactic(auto, unfolding(crate::specs::Grammar::NextGroup))]
     fn begins_group(&self) -> bool
-        ensures { result ≡ next_in (shape (inner_of programs) grammar.NextGroup).first self.now }
+        ensures { result ≡ next_in (shape (inner_of grammar.programs) grammar.NextGroup).first self.now }
     {
         self.next_is(Fixed::Comma) || self.next_is(Fixed::Semicolon)
     }
@@ -68,7 +67,7 @@ impl<'a> Parser<'a> {
     /// Takes groups after the first ones.
     #[tactic(auto, using(crate::proofs::Loops::joined_loops, crate::proofs::Right::next_group_steps))]
     fn more_groups(&mut self, front: Vec<Port>) -> Result<Vec<Port>, Stop>
-        ensures { Gives (λ x. (x.items, self.exit.now)) stop_of result (with_joined front.items (read_at programs (many grammar.NextGroup) self.entry.now)) }
+        ensures { Gives (λ x. (x.items, self.exit.now)) stop_of result (with_joined front.items (read_at grammar.programs (many grammar.NextGroup) self.entry.now)) }
     {
         let mut ports = front;
         'more: while self.begins_group() {

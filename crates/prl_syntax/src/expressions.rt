@@ -10,7 +10,6 @@ ghost use Rattle.prl_syntax.specs.code.Links.{link_view, with_prefixes};
 ghost use Rattle.prl_syntax.specs.code.Links as links;
 ghost use Rattle.prl_syntax.specs.Grammar as grammar;
 ghost use Rattle.prl_syntax.specs.code.Parses.{Parses};
-ghost use Rattle.prl_syntax.specs.Grammar.{programs};
 ghost use Rattle.prl_syntax.specs.Trees.{trees_from};
 ghost use Rattle.prl_syntax.specs.declared.words.Fixed.TheVariants as kinds;
 
@@ -54,7 +53,7 @@ impl<'a> Parser<'a> {
 
     #[tactic(auto, unfolding(crate::specs::Grammar::Postfix))]
     fn begins_postfix(&self) -> bool
-        ensures { result ≡ next_in (shape (inner_of programs) grammar.Postfix).first self.now }
+        ensures { result ≡ next_in (shape (inner_of grammar.programs) grammar.Postfix).first self.now }
     {
         self.next_is(Fixed::Up) || self.next_is(Fixed::Down) || self.next_is(Fixed::Shift)
     }
@@ -74,7 +73,7 @@ impl<'a> Parser<'a> {
 
     #[tactic(auto, unfolding(crate::specs::Grammar::Base))]
     fn begins_base(&self) -> bool
-        ensures { result ≡ next_in (shape (inner_of programs) grammar.Base).first self.now }
+        ensures { result ≡ next_in (shape (inner_of grammar.programs) grammar.Base).first self.now }
     {
         self.next_is_name() || self.next_is(Fixed::Open)
     }
@@ -169,7 +168,7 @@ impl<'a> Parser<'a> {
     #[cycle(expression)]
     #[tactic(auto, using(prl_grammar::proofs::Loops::loops, crate::proofs::Right::comma_expr_steps))]
     fn more_exprs(&mut self, front: Vec<Expr>) -> Result<Vec<Expr>, Stop>
-        ensures { Gives (λ x. (map tree_of x.items, self.exit.now)) stop_of result (with_front (map tree_of front.items) (read_at programs (many (grammar.the kinds.Comma ⊳ grammar.Expr)) self.entry.now)) }
+        ensures { Gives (λ x. (map tree_of x.items, self.exit.now)) stop_of result (with_front (map tree_of front.items) (read_at grammar.programs (many (grammar.the kinds.Comma ⊳ grammar.Expr)) self.entry.now)) }
     {
         let mut exprs = front;
         'more: while self.next_is(Fixed::Comma) {
@@ -195,7 +194,7 @@ impl<'a> Parser<'a> {
     /// Takes prefixes after the first ones, and what they are applied to.
     #[cycle(expression)]
     fn stem(&mut self, front: Vec<PlacedOp>) -> Result<(Vec<PlacedOp>, Base), Stop>
-        ensures { Gives (λ x. ((x.0.items, root_of x.1), self.exit.now)) stop_of result (with_prefixes front.items (read_nested programs self.entry.now)) }
+        ensures { Gives (λ x. ((x.0.items, root_of x.1), self.exit.now)) stop_of result (with_prefixes front.items (read_nested grammar.programs self.entry.now)) }
     {
         let mut prefixes = front;
         'each: loop {

@@ -9,7 +9,6 @@ ghost use Rattle.prl_grammar.specs.Combinators as combinators;
 ghost use Rattle.prl_syntax.specs.code.Nodes.{declared_view, declarations_view, with_last, ClosedEquations, NodeBody, OutsAndBody};
 ghost use Rattle.prl_syntax.specs.Grammar as grammar;
 ghost use Rattle.prl_syntax.specs.code.Parses.{Parses};
-ghost use Rattle.prl_syntax.specs.Grammar.{programs};
 ghost use Rattle.prl_syntax.specs.Trees.{program_of};
 ghost use Rattle.prl_syntax.specs.declared.words.Fixed.TheVariants as kinds;
 
@@ -57,7 +56,7 @@ impl<'a> Parser<'a> {
 
     #[tactic(auto, unfolding(crate::specs::Grammar::Equation, crate::specs::Grammar::Left, crate::specs::Grammar::Name))]
     fn begins_equation(&self) -> bool
-        ensures { result ≡ next_in (shape (inner_of programs) grammar.Equation).first self.now }
+        ensures { result ≡ next_in (shape (inner_of grammar.programs) grammar.Equation).first self.now }
     {
         self.next_is(Fixed::Open) || self.next_is_name()
     }
@@ -145,7 +144,7 @@ enum Declaration {
 impl<'a> Parser<'a> {
     #[tactic(auto, unfolding(crate::specs::Grammar::Declaration, crate::specs::Grammar::Import, crate::specs::Grammar::Device, crate::specs::Grammar::Node))]
     fn begins_declaration(&self) -> bool
-        ensures { result ≡ next_in (shape (inner_of programs) grammar.Declaration).first self.now }
+        ensures { result ≡ next_in (shape (inner_of grammar.programs) grammar.Declaration).first self.now }
     {
         self.next_is(Fixed::Imported)
             || self.next_is(Fixed::Sensor)
@@ -242,7 +241,7 @@ impl<'a> Parser<'a> {
     /// Takes declarations up to the end.
     #[tactic(auto, unfolding(crate::specs::Grammar::Program))]
     fn whole(&mut self) -> Result<Program, Stop>
-        ensures { Gives program_tree stop_of result (all_at (read_at programs grammar.Program) self.entry.now) }
+        ensures { Gives program_tree stop_of result (all_at (read_at grammar.programs grammar.Program) self.entry.now) }
     {
         let declarations = self.declarations()?;
         match self.rest {
@@ -254,7 +253,7 @@ impl<'a> Parser<'a> {
 
 /// The program that all of the tokens are.
 pub fn program(alloc: Global, terminals: &[Terminal]) -> Result<Program, Stop>
-    ensures { Gives program_tree stop_of result (all_at (read_at programs grammar.Program) terminals.now) }
+    ensures { Gives program_tree stop_of result (all_at (read_at grammar.programs grammar.Program) terminals.now) }
 {
     let mut parser = Parser {
         alloc,

@@ -8,7 +8,6 @@ ghost use Rattle.prl_grammar.specs.Combinators as combinators;
 ghost use Rattle.prl_syntax.specs.code.Loops.{with_joined};
 ghost use Rattle.prl_syntax.specs.Grammar as grammar;
 ghost use Rattle.prl_syntax.specs.code.Parses.{Parses};
-ghost use Rattle.prl_syntax.specs.Grammar.{programs};
 ghost use Rattle.prl_syntax.specs.Trees.{note_or, param_of, params_of};
 ghost use Rattle.prl_syntax.specs.declared.words.Fixed.TheVariants as kinds;
 
@@ -19,6 +18,14 @@ use prl_ast::{Param, Placed, Rate};
 use prl_base::Ty;
 use prl_grammar::Stop;
 use std::alloc::{AllocError, Global};
+
+/// What a note says of a name.
+#[derive(Clone, Copy)]
+pub struct Note {
+    pub ty: Option<Ty>,
+    pub rate: Option<Rate>,
+    pub due: Option<u32>,
+}
 
 impl<'a> Parser<'a> {
     /// Takes a name.
@@ -41,7 +48,7 @@ impl<'a> Parser<'a> {
     /// Takes names after the first ones, each with a comma before it.
     #[tactic(auto, using(prl_grammar::proofs::Loops::loops, crate::proofs::Right::comma_name_steps))]
     fn more_names(&mut self, front: Vec<Placed>) -> Result<Vec<Placed>, Stop>
-        ensures { Gives (λ x. (x.items, self.exit.now)) stop_of result (with_front front.items (read_at programs (many (grammar.the kinds.Comma ⊳ grammar.Name)) self.entry.now)) }
+        ensures { Gives (λ x. (x.items, self.exit.now)) stop_of result (with_front front.items (read_at grammar.programs (many (grammar.the kinds.Comma ⊳ grammar.Name)) self.entry.now)) }
     {
         let mut names = front;
         'more: while self.next_is(Fixed::Comma) {
@@ -60,17 +67,7 @@ impl<'a> Parser<'a> {
         front.push(first)?;
         self.more_names(front)
     }
-}
 
-/// What a note says of a name.
-#[derive(Clone, Copy)]
-pub struct Note {
-    pub ty: Option<Ty>,
-    pub rate: Option<Rate>,
-    pub due: Option<u32>,
-}
-
-impl<'a> Parser<'a> {
     /// Takes a type.
     #[tactic(auto, unfolding(crate::specs::Grammar::TypeName))]
     pub fn ty(&mut self) -> Result<Ty, Stop>
@@ -160,16 +157,7 @@ impl<'a> Parser<'a> {
             due,
         })
     }
-}
 
-/// A name, with the note that stands after it.
-#[derive(Drop)]
-pub struct Item {
-    pub name: Placed,
-    pub note: Option<Note>,
-}
-
-impl<'a> Parser<'a> {
     fn maybe_note(&mut self) -> Result<Option<Note>, Stop>
         ensures { Parses (λ x. x) (combinators.maybe (grammar.the kinds.Colon ⊳ grammar.Note)) result self.entry.now self.exit.now }
     {
@@ -199,7 +187,7 @@ impl<'a> Parser<'a> {
     /// Takes items after the first ones, each with a comma before it.
     #[tactic(auto, using(prl_grammar::proofs::Loops::loops, crate::proofs::Right::comma_item_steps))]
     fn more_items(&mut self, front: Vec<Item>) -> Result<Vec<Item>, Stop>
-        ensures { Gives (λ x. (x.items, self.exit.now)) stop_of result (with_front front.items (read_at programs (many (grammar.the kinds.Comma ⊳ grammar.Item)) self.entry.now)) }
+        ensures { Gives (λ x. (x.items, self.exit.now)) stop_of result (with_front front.items (read_at grammar.programs (many (grammar.the kinds.Comma ⊳ grammar.Item)) self.entry.now)) }
     {
         let mut items = front;
         'more: while self.next_is(Fixed::Comma) {
@@ -217,6 +205,13 @@ impl<'a> Parser<'a> {
         front.push(first)?;
         self.more_items(front)
     }
+}
+
+/// A name, with the note that stands after it.
+#[derive(Drop)]
+pub struct Item {
+    pub name: Placed,
+    pub note: Option<Note>,
 }
 
 fn param(name: Placed, note: &Option<Note>) -> Param
@@ -281,7 +276,7 @@ impl<'a> Parser<'a> {
     /// Takes runs after the first ones, each with a semicolon before it.
     #[tactic(auto, using(crate::proofs::Loops::joined_loops, crate::proofs::Right::semicolon_run_steps))]
     fn more_runs(&mut self, front: Vec<Param>) -> Result<Vec<Param>, Stop>
-        ensures { Gives (λ x. (x.items, self.exit.now)) stop_of result (with_joined front.items (read_at programs (many (grammar.the kinds.Semicolon ⊳ grammar.Run)) self.entry.now)) }
+        ensures { Gives (λ x. (x.items, self.exit.now)) stop_of result (with_joined front.items (read_at grammar.programs (many (grammar.the kinds.Semicolon ⊳ grammar.Run)) self.entry.now)) }
     {
         let mut params = front;
         'more: while self.next_is(Fixed::Semicolon) {
@@ -341,7 +336,7 @@ impl<'a> Parser<'a> {
     /// Takes runs after the first ones, each with a semicolon after it.
     #[tactic(auto, using(crate::proofs::Loops::joined_loops, crate::proofs::Right::ended_run_steps), unfolding(crate::specs::Grammar::EndedRun, crate::specs::Grammar::Run, crate::specs::Grammar::Item, crate::specs::Grammar::Name))]
     fn more_ended_runs(&mut self, front: Vec<Param>) -> Result<Vec<Param>, Stop>
-        ensures { Gives (λ x. (x.items, self.exit.now)) stop_of result (with_joined front.items (read_at programs (many grammar.EndedRun) self.entry.now)) }
+        ensures { Gives (λ x. (x.items, self.exit.now)) stop_of result (with_joined front.items (read_at grammar.programs (many grammar.EndedRun) self.entry.now)) }
     {
         let mut params = front;
         'more: while self.next_is_name() {

@@ -12,6 +12,7 @@ use Rattle.prl_overlaps.specs.declared.entries.Entry.{Entry}
 use Rattle.prl_tables.proofs.OrderLaws.{release_later}
 use Rattle.prl_tables.proofs.Shifts.{split}
 use Rattle.prl_table.specs.Vocabulary.{greatest_start, AreOfPlan, HasTicks}
+use Rattle.prl_table.proofs.OneTable.{good_apart}
 
 small_starts : (tasks : List Task) → ((i : ℕ) (task : Task) → slice_get tasks i ≡ Some task → task.clock.start < 2 ^ 31) → greatest_start tasks < 2 ^ 31
 small_starts [] small = omega arith
@@ -61,18 +62,7 @@ strict_good plan entries good sorted k a b at_a at_b =
     elim (cases_lt a.at b.at) [
       | inl less ↦ less
       | inr not_less ↦ absurd
-          (let a_units = (good.pieces k a at_a).units in
-          let b_units = (good.pieces (suc k) b at_b).units in
-          good.apart k (suc k) (record {
-            one = a;
-            other = b;
-            first = at_a;
-            second = at_b;
-            a = 0;
-            b = 0;
-            overlap = record { starts = omega (arith, up, is_a, is_b, not_less, b_units); ends = omega (arith, up, is_a, is_b, not_less, a_units) };
-            differ = λ same _. omega (arith, same);
-          }))
+          (let one : k ≡ suc k = good_apart plan entries good k (suc k) a b at_a at_b (omega (arith, up, is_a, is_b, not_less)) in omega (arith, one))
     ])
 
 after_less : (a b : Entry) → a.at < b.at → comes_after a b ≡ true

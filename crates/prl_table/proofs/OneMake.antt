@@ -2,24 +2,16 @@
 use Rattle.prl_base.proofs.Standard.{◌≡◌, ◌≢◌, ◌+◌, ◌<◌, ◌≤◌, ℕ, List, Option, Some, None, refl, sym, ap, ◌∙◌, inl, inr, subst, arith, cases_order}
 use Rattle.prl_base.specs.declared.limits.Limit.{Limit}
 use Rattle.prl_base.specs.declared.numbers.TaskNo.{TaskNo}
-use Rattle.prl_edf.specs.Vocabulary.{IsOverloaded, MeetsAllWindows, run_of, IsTimedRun, wcets_of, IsVerdict}
+use Rattle.prl_edf.specs.Vocabulary.{run_of, wcets_of, IsVerdict}
 use Rattle.prl_edf.specs.declared.analysis.Verdict.{Verdict}
 use Rattle.prl_edf.specs.declared.runs.Timed.{Timed}
 use Rattle.prl_edf.specs.declared.analysis.Verdict.TheVariants as verdicts
-use Rattle.prl_plan.specs.Vocabulary.{HasPlanFacts, IsHorizon, IsPastLimit, constants_of, PlanView, IsPlan, RunConstants}
+use Rattle.prl_plan.specs.Vocabulary.{IsHorizon, constants_of, PlanView, IsPlan}
 use Rattle.prl_plan.specs.declared.horizons.Horizon.{Horizon}
 use Rattle.prl_overlaps.specs.declared.entries.Entry.{Entry}
 use Rattle.prl_table.specs.Vocabulary.{MakeFault, run_until, IsFirstUnsteady, IsLongRun, IsMade, IsMakeFault, IsUnsteadyAt, job_in}
+use Rattle.prl_table.specs.code.MakeLaws.{MakeLaws}
 use Rattle.prl_table.specs.declared.making.MakeFault.TheVariants as faults
-
--- the laws of the crates below
-pub record Laws : Type 0 where
-  pub one_horizon : (plan : PlanView) (until : ℕ) (a b : Horizon) → IsHorizon plan a → IsHorizon plan b → a.until ≡ until → b.until ≡ until → a ≡ b
-  pub not_both : (plan : PlanView) (until : ℕ) (horizon : Horizon) (limit : Limit) → IsHorizon plan horizon → horizon.until ≡ until → IsPastLimit plan until limit → ⊥
-  pub one_limit : (plan : PlanView) (until : ℕ) (a b : Limit) → IsPastLimit plan until a → IsPastLimit plan until b → a ≡ b
-  pub facts : (plan : PlanView) (horizon : Horizon) → IsPlan plan → IsHorizon plan horizon → HasPlanFacts (constants_of plan horizon)
-  pub overloaded : (c : RunConstants) (cost : ℕ → ℕ → ℕ) (run : ℕ → Option (ℕ × ℕ)) (a b : ℕ) → IsOverloaded c cost a b → IsTimedRun c cost run → MeetsAllWindows c cost run → ⊥
-  pub one_verdict : (c : RunConstants) → HasPlanFacts c → (cost : ℕ → ℕ → ℕ) (verdict other : Verdict) → IsVerdict c cost verdict → IsVerdict c cost other → verdict ≡ other
 
 same_run : (s t : Timed) → verdicts.Run s ≡ verdicts.Run t → s ≡ t
 same_run s t e = cc
@@ -69,7 +61,7 @@ one_unsteady plan run a b f s g t h k =
 too_far : (plan : PlanView) (tick : ℕ) → tick ≡ run_until plan → 2147483647 < tick → run_until plan ≤ 2147483647 → ⊥
 too_far plan tick is far near = omega (arith, is, far, near)
 
-module _ (law : Laws) (plan : PlanView) (is_plan : IsPlan plan) where
+module _ (law : MakeLaws) (plan : PlanView) (is_plan : IsPlan plan) where
   -- the run of a long horizon is its verdict
   verdict : (horizon : Horizon) (timed : Timed) → IsLongRun plan horizon timed → IsVerdict (constants_of plan horizon) (wcets_of plan) (verdicts.Run timed)
   verdict horizon timed h =

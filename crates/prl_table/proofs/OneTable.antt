@@ -1,5 +1,5 @@
 -- A plan has one made table.
-use Rattle.prl_base.proofs.Standard.{◌≡◌, ◌+◌, ◌*◌, ◌<◌, ◌≤◌, ℕ, zero, suc, true, false, List, [], ◌∷◌, length, get_or, Option, Some, None, refl, sym, ap, ◌∙◌, inl, inr, subst, arith, slice_get}
+use Rattle.prl_base.proofs.Standard.{◌≡◌, ◌≤◌, ℕ, zero, suc, true, List, [], ◌∷◌, Option, Some, None, refl, sym, ap, ◌∙◌, inl, inr, subst, arith, slice_get}
 use Rattle.prl_base.proofs.Standard.{Contains, IsPermutation, cases_order, nat_tests, Contains-permutation, IsPermutation-sym, get_or_from_slice_get, slice_get-get_or, slice_get_within}
 use Rattle.prl_edf.specs.Vocabulary.{IsEdfRun, MeetsAllWindows, run_of, wcets_of}
 use Rattle.prl_edf.specs.declared.runs.Timed.{Timed}
@@ -8,7 +8,8 @@ use Rattle.prl_plan.specs.declared.horizons.Horizon.{Horizon}
 use Rattle.prl_tables.specs.Vocabulary.{IsGood, AreOrdered, comes_after}
 use Rattle.prl_overlaps.specs.declared.entries.Entry.{Entry}
 use Rattle.prl_table.specs.Vocabulary.{IsSteadyRun, cut_from, cut_to, run_until, IsMade}
-use Rattle.prl_table.proofs.OneMake.{Laws, one_run}
+use Rattle.prl_table.specs.code.MakeLaws.{MakeLaws}
+use Rattle.prl_table.proofs.OneMake.{one_run}
 
 -- the entry stands in the list
 abbrev Has : List Entry → Entry → Type 0
@@ -85,7 +86,7 @@ one_order last other (x ∷ xs) (y ∷ ys) h k a b sub sup =
     ap (λ (l : List Entry). x ∷ l) rest ∙ ap (λ (e : Entry). e ∷ ys) (sym same)
 
 -- the entries of a good table begin apart
-good_apart : (plan : PlanView) (entries : List Entry) → IsGood plan entries → BeginApart entries
+pub good_apart : (plan : PlanView) (entries : List Entry) → IsGood plan entries → BeginApart entries
 good_apart plan entries good k l x y at there same = elim (cases_order k l) [
   | inl e ↦ e
   | inr other ↦
@@ -103,7 +104,7 @@ good_apart plan entries good k l x y at there same = elim (cases_order k l) [
       }))
 ]
 
-module _ (law : Laws) (good : (plan : PlanView) (horizon : Horizon) → IsPlan plan → horizon.until ≡ run_until plan → (run : ℕ → Option (ℕ × ℕ)) →
+module _ (law : MakeLaws) (good : (plan : PlanView) (horizon : Horizon) → IsPlan plan → horizon.until ≡ run_until plan → (run : ℕ → Option (ℕ × ℕ)) →
     IsEdfRun (constants_of plan horizon) (wcets_of plan) run → MeetsAllWindows (constants_of plan horizon) (wcets_of plan) run →
     IsSteadyRun plan run → (entries : List Entry) → IsPermutation (cut_to plan run (cut_from plan) plan.graph.hyper) entries → IsGood plan entries)
     (plan : PlanView) (is_plan : IsPlan plan) where

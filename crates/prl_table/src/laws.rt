@@ -11,6 +11,7 @@ ghost use Rattle.prl_overlaps.specs.declared.entries.Entry.{Entry as AnyEntry};
 ghost use Rattle.prl_table.specs.declared.making.MakeFault.{MakeFault as AnyFault};
 ghost use Rattle.prl_table.specs.declared.making.MakeFault.TheVariants as faults;
 ghost use Rattle.prl_table.specs.MakeFaults.{IsMade, IsMakeFault};
+ghost use Rattle.prl_table.specs.code.MakeLaws.{MakeLaws};
 ghost use Rattle.prl_table.specs.Made.{Run, cut_from, cut_to, run_until, IsRun, IsTimed, IsEdf, IsSteady, IsSteadyRun, IsCut};
 
 use prl_edf::{feasibility, verdicts_are_one, verdicts_exist};
@@ -40,12 +41,9 @@ pub fn made_table_is_good()
     horizon_jobs_are_counted();
 }
 
-/// Of a plan a table is made or there is a fault, not both; and there is one fault. Want of memory is none.
-pub fn makes_end_one_way()
-    ensures not_both { (plan : PlanView) → IsPlan plan → (entries : List AnyEntry) → IsMade plan entries → (fault : AnyFault) → fault ≢ faults.Memory →
-        IsMakeFault plan fault → ⊥ }
-    ensures one { (plan : PlanView) → IsPlan plan → (a b : AnyFault) → a ≢ faults.Memory → b ≢ faults.Memory →
-        IsMakeFault plan a → IsMakeFault plan b → a ≡ b }
+/// The laws of the crates below on which the next two rest.
+fn make_laws()
+    ensures { MakeLaws }
 {
     horizons_end_one_way();
     plans_keep_facts();
@@ -53,14 +51,21 @@ pub fn makes_end_one_way()
     verdicts_are_one();
 }
 
+/// Of a plan a table is made or there is a fault, not both; and there is one fault. Want of memory is none.
+pub fn makes_end_one_way()
+    ensures not_both { (plan : PlanView) → IsPlan plan → (entries : List AnyEntry) → IsMade plan entries → (fault : AnyFault) → fault ≢ faults.Memory →
+        IsMakeFault plan fault → ⊥ }
+    ensures one { (plan : PlanView) → IsPlan plan → (a b : AnyFault) → a ≢ faults.Memory → b ≢ faults.Memory →
+        IsMakeFault plan a → IsMakeFault plan b → a ≡ b }
+{
+    make_laws();
+}
+
 /// One table is made of a plan.
 pub fn made_tables_are_one()
     ensures { (plan : PlanView) → IsPlan plan → (a b : List AnyEntry) → IsMade plan a → IsMade plan b → a ≡ b }
 {
-    horizons_end_one_way();
-    plans_keep_facts();
-    feasibility();
-    verdicts_are_one();
+    make_laws();
     made_table_is_good();
 }
 

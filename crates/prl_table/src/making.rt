@@ -42,17 +42,6 @@ pub enum MakeFault {
     Memory,
 }
 
-impl From<AllocError> for MakeFault {
-    ghost use Rattle.std.specs.Prelude.{◌≡◌};
-    ghost use Rattle.prl_table.specs.declared.making.MakeFault.TheVariants.{Memory};
-
-    ghost from_gives = { λ _ e. e ≡ Memory };
-
-    fn from(_error: AllocError) -> MakeFault {
-        MakeFault::Memory
-    }
-}
-
 /// The greatest start of a task, in ticks.
 fn greatest_start(tasks: &[Task]) -> u64
     ensures { result ≡ greatest_start tasks.now }
@@ -296,12 +285,16 @@ fn steady_table(
     ensures made { IfOk result (λ table. IsMade plan.now table.entries) }
     ensures good { IfOk result (λ table. IsGood plan.now table.entries) }
 {
-    let ticks = ticks_of_run(alloc, plan, horizon, timed)?;
+    let Ok(ticks) = ticks_of_run(alloc, plan, horizon, timed) else {
+        return Err(MakeFault::Memory);
+    };
     if let Some(at) = first_unsteady(plan, &ticks, start) {
         return Err(unsteady(plan, timed, &ticks, at));
     }
-    let table = table_of(alloc, plan, horizon, start, timed, &ticks)?;
-    Ok(table)
+    match table_of(alloc, plan, horizon, start, timed, &ticks) {
+        Ok(table) => Ok(table),
+        Err(_) => Err(MakeFault::Memory),
+    }
 }
 
 /// The table of the plain run by earliest deadline first: its pieces in a hyperperiod after all
@@ -318,11 +311,12 @@ pub fn make(alloc: Global, plan: &Plan) -> Result<Table, MakeFault>
     }
     match Horizon::new(plan, until as u32) {
         Err(limit) => Err(MakeFault::Limit(limit)),
-        Ok(horizon) => match analyse(alloc, plan, horizon)? {
-            Verdict::Overload { from, to, demand } => {
+        Ok(horizon) => match analyse(alloc, plan, horizon) {
+            Ok(Verdict::Overload { from, to, demand }) => {
                 Err(MakeFault::Overload { from, to, demand })
             }
-            Verdict::Run(timed) => steady_table(alloc, plan, horizon, start, &timed),
+            Ok(Verdict::Run(timed)) => steady_table(alloc, plan, horizon, start, &timed),
+            Err(_) => Err(MakeFault::Memory),
         },
     }
 }

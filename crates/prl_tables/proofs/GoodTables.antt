@@ -17,14 +17,28 @@ use Rattle.prl_tables.proofs.Shifts.{shifted, preceding_shifted, split, below}
 pub of_both : (i c : ℕ) (entry : Entry) → is_of i c entry ≡ true → (entry.task.0 ≡ i) × (entry.job ≡ c)
 of_both i c entry is = (grind (arith, nat_tests), grind (arith, nat_tests))
 
--- an entry of the class
-pub record Is (entries : List Entry) (i c : ℕ) : Type 0 where
+-- an entry of the class of which this holds
+pub record HasEntry (entries : List Entry) (i c : ℕ) (P : Entry → Type 0) : Type 0 where
   pub k : ℕ
   pub entry : Entry
   pub stands : slice_get entries k ≡ Some entry
   pub task : entry.task.0 ≡ i
   pub job : entry.job ≡ c
-  pub last : entry.at + entry.units ≡ end_of entries i c
+  pub holds : P entry
+
+-- it is the first entry
+pub entry_here : (entry : Entry) (entries : List Entry) (i c : ℕ) (P : Entry → Type 0) → is_of i c entry ≡ true → P entry → HasEntry (entry ∷ entries) i c P
+entry_here entry entries i c P is holds =
+    record { k = 0; entry = entry; stands = refl; task = (of_both i c entry is).0; job = (of_both i c entry is).1; holds = holds }
+
+-- it is a later one
+pub entry_later : (first : Entry) (entries : List Entry) (i c : ℕ) (P Q : Entry → Type 0) → HasEntry entries i c P → ((entry : Entry) → P entry → Q entry) → HasEntry (first ∷ entries) i c Q
+entry_later first entries i c P Q has more =
+    record { k = suc has.k; entry = has.entry; stands = has.stands; task = has.task; job = has.job; holds = more has.entry has.holds }
+
+-- an entry of the class that ends where it does
+abbrev pub Is : List Entry → ℕ → ℕ → Type 0
+Is entries i c = HasEntry entries i c (λ entry. entry.at + entry.units ≡ end_of entries i c)
 
 -- a class that has units has an end
 pub some_end : (entries : List Entry) (i c : ℕ) → 1 ≤ units_of entries i c → 1 ≤ end_of entries i c
@@ -52,15 +66,7 @@ last_entry [] i c some = absurd (omega (arith, some))
 last_entry (entry ∷ entries) i c some = go (last_entry entries i c) (is_of i c entry) refl
   where
     later : Is entries i c → end_of (entry ∷ entries) i c ≡ end_of entries i c → Is (entry ∷ entries) i c
-    later is e =
-        record {
-          k = suc is.k;
-          entry = is.entry;
-          stands = is.stands;
-          task = is.task;
-          job = is.job;
-          last = (let l = is.last in omega (arith, l, e));
-        }
+    later is e = entry_later entry entries i c _ _ is (λ other last. omega (arith, last, e))
 
     go : (1 ≤ end_of entries i c → Is entries i c) → (b : Bool) → is_of i c entry ≡ b → Is (entry ∷ entries) i c
     go before true is =
@@ -68,14 +74,7 @@ last_entry (entry ∷ entries) i c some = go (last_entry entries i c) (is_of i c
         ap (λ (b : Bool). cond b (max (entry.at + entry.units) (end_of entries i c)) (end_of entries i c)) is in
         elim (cases_lt (entry.at + entry.units) (end_of entries i c)) [
           | inl small ↦ later (before (omega (arith, small))) (omega (arith, e, small))
-          | inr above ↦ record {
-            k = 0;
-            entry = entry;
-            stands = refl;
-            task = (of_both i c entry is).0;
-            job = (of_both i c entry is).1;
-            last = omega (arith, e, above);
-          }
+          | inr above ↦ entry_here entry entries i c _ is (omega (arith, e, above))
         ]
     go before false is =
         let e : end_of (entry ∷ entries) i c ≡ end_of entries i c =
@@ -96,7 +95,7 @@ module _ (plan : PlanView) (is : IsPlan plan) (h : Horizon) (horizon : IsHorizon
       let its = ends i n inside in
       let lies = good.pieces its.k its.entry its.stands in
       let units = lies.units in
-      let end = its.last in
+      let end = its.holds in
       let release : release_at plan i (n % classes plan.graph i) ≤ its.entry.at =
       subst (λ (x : ℕ). release_at plan i x ≤ its.entry.at) its.job (subst (λ (x : ℕ). release_at plan x its.entry.job ≤ its.entry.at) its.task lies.from) in
       let deadline : its.entry.at + its.entry.units ≤ deadline_at plan i (n % classes plan.graph i) =
@@ -132,7 +131,7 @@ module _ (plan : PlanView) (is : IsPlan plan) (h : Horizon) (horizon : IsHorizon
       let one_units = (good.pieces one.k one.entry one.stands).units in
       let other_units = (good.pieces other.k other.entry other.stands).units in
       let result : last_unit plan.graph entries i n < last_unit plan.graph entries (edge_at plan.graph e).to.0 k =
-      omega (arith, ints, order, one.last, other.last, one_units, other_units, plus_mul z (k / classes plan.graph (edge_at plan.graph e).to.0) plan.graph.hyper, by_hyper_is, hyper_times) in
+      omega (arith, ints, order, one.holds, other.holds, one_units, other_units, plus_mul z (k / classes plan.graph (edge_at plan.graph e).to.0) plan.graph.hyper, by_hyper_is, hyper_times) in
       subst (λ (v : ℕ). last_unit plan.graph entries i n < last_unit plan.graph entries v k) to result
 
   pub good_is_placing : IsPlacing (constants_of plan h) (last_unit plan.graph entries)
@@ -146,8 +145,7 @@ module _ (plan : PlanView) (is : IsPlan plan) (h : Horizon) (horizon : IsHorizon
         subst (λ (a : Action). IsActionOf plan i n a) writes.action.1 (action_is_as_defined plan i n written) in
         let same : reads.action.1 ≡ writes.action.0 = facts.edge j k place m i n written m slot reads writes in
         let comes : ComesFrom (edge_at plan.graph reads.action.1.0).from i = subst (λ (e : EdgeNo). ComesFrom (edge_at plan.graph e.0).from i) (sym same) w.1 in
-        let own : m ≡ n = w.2 in
         let walks = operand_walks (edge_at plan.graph reads.action.1.0) k m r.3 in
         let p = walk_preceding (edge_at plan.graph reads.action.1.0).ops k m walks.2 in
-        earlier reads.action.1.0 i j n k r.0 comes r.1 writes.job.task reads.job.task (p ∙ ap (λ (x : ℕ). pos x) own));
+        earlier reads.action.1.0 i j n k r.0 comes r.1 writes.job.task reads.job.task (p ∙ ap (λ (x : ℕ). pos x) w.2));
   }

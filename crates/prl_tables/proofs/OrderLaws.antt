@@ -79,7 +79,7 @@ module _ (plan : PlanView) (is : IsPlan plan) where
         let last = last_of i c i_in c_in in
         let w = within_sums entries i c last.k last.entry last.stands last.task last.job in
         let s = short last.entry (pieces last.k last.entry last.stands) in
-        (omega (arith, w.0, s), omega (arith, last.last, end_is entries i c, s))
+        (omega (arith, w.0, s), omega (arith, last.holds, end_is entries i c, s))
 
     first_of : (i c : ℕ) → i < length plan.graph.tasks → c < classes plan.graph i → IsFirst entries i c
     first_of i c i_in c_in =

@@ -6,7 +6,7 @@ use Rattle.prl_plan.specs.declared.graphs.Producer.{Producer}
 use Rattle.prl_plan.specs.declared.graphs.Producer.TheVariants as producers
 use Rattle.prl_plan.proofs.Periods.{plus_mul}
 use Rattle.prl_tables.specs.Vocabulary.{Sums, Entry, classes, is_of, end_of, KeepsOrder, sums_of}
-use Rattle.prl_tables.proofs.GoodTables.{Is, of_both}
+use Rattle.prl_tables.proofs.GoodTables.{HasEntry, Is, entry_here, entry_later}
 use Rattle.prl_tables.proofs.Shifts.{preceding_shifted, some_classes}
 use Rattle.prl_tables.proofs.Summed.{by_no, by_yes, is_yes}
 
@@ -55,13 +55,8 @@ within_sums (first ∷ entries) i c (suc k) entry at task job = go (is_of i c fi
         (omega (arith, f, r0), omega (arith, e, r1))
 
 -- an entry of the class that begins first
-pub record IsFirst (entries : List Entry) (i c : ℕ) : Type 0 where
-  pub k : ℕ
-  pub entry : Entry
-  pub stands : slice_get entries k ≡ Some entry
-  pub task : entry.task.0 ≡ i
-  pub job : entry.job ≡ c
-  pub first : entry.at ≡ (sums_of entries i c).first
+abbrev pub IsFirst : List Entry → ℕ → ℕ → Type 0
+IsFirst entries i c = HasEntry entries i c (λ entry. entry.at ≡ (sums_of entries i c).first)
 
 -- where the class has units, there is one
 pub first_entry : (entries : List Entry) (i c : ℕ) → ((k : ℕ) (entry : Entry) → slice_get entries k ≡ Some entry → entry.at < 2 ^ 64) →
@@ -70,28 +65,14 @@ first_entry [] i c small some = absurd (omega (arith, some))
 first_entry (entry ∷ entries) i c small some = go (is_of i c entry) refl (first_entry entries i c (λ k e at. small (suc k) e at))
   where
     later : IsFirst entries i c → (sums_of (entry ∷ entries) i c).first ≡ (sums_of entries i c).first → IsFirst (entry ∷ entries) i c
-    later is same = record {
-      k = suc is.k;
-      entry = is.entry;
-      stands = is.stands;
-      task = is.task;
-      job = is.job;
-      first = is.first ∙ sym same;
-    }
+    later is same = entry_later entry entries i c _ _ is (λ other first. first ∙ sym same)
 
     go : (b : Bool) → is_of i c entry ≡ b → ((sums_of entries i c).first < 2 ^ 64 - 1 → IsFirst entries i c) → IsFirst (entry ∷ entries) i c
     go true is rest =
         let f = ap (λ (x : Sums). x.first) (by_yes i c entry entries is) in
         elim (cases_lt (sums_of entries i c).first entry.at) [
           | inl earlier ↦ later (rest (omega (arith, f, earlier, some))) (omega (arith, f, earlier))
-          | inr not_earlier ↦ record {
-            k = zero;
-            entry = entry;
-            stands = refl;
-            task = (of_both i c entry is).0;
-            job = (of_both i c entry is).1;
-            first = omega (arith, f, not_earlier);
-          }
+          | inr not_earlier ↦ entry_here entry entries i c _ is (omega (arith, f, not_earlier))
         ]
     go false is rest =
         let f = ap (λ (x : Sums). x.first) (by_no i c entry entries is) in
@@ -178,4 +159,4 @@ module _ (plan : PlanView) (is : IsPlan plan) (entries : List Entry) (e i c k m 
       (last.task, last.job) (first.task, first.job) in
       let hs = ap (λ (x : ℤ). x *ℤ pos plan.graph.hyper) back in
       let e_is = end_is entries i (m % classes plan.graph i) in
-      not_shown (omega (arith, ints, order, plus_mul z k plan.graph.hyper, hs, pos-*ℤ-pos (m / classes plan.graph i) plan.graph.hyper, last.last, first.first, e_is))
+      not_shown (omega (arith, ints, order, plus_mul z k plan.graph.hyper, hs, pos-*ℤ-pos (m / classes plan.graph i) plan.graph.hyper, last.holds, first.holds, e_is))

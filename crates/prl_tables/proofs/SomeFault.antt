@@ -2,8 +2,6 @@
 use Rattle.prl_base.proofs.Standard.{◌≡◌, ◌≢◌, ◌+◌, ◌*◌, ◌/◌, ◌%◌, ◌<◌, ◌≤◌, ◌⊎◌, ℕ, zero, suc, Bool, true, false, List, [], ◌∷◌, length, Option, Some, None, Result, Ok, Err, inl, inr, refl, sym, ◌∙◌}
 use Rattle.prl_base.proofs.Standard.{subst, arith, pos, slice_get, if◌then◌else◌, cases_eq, cases_lt, slice_get_within, same_Some}
 use Rattle.prl_base.specs.Vocabulary.{lines_of, ◌>>=◌}
-use Rattle.prl_base.specs.declared.numbers.EdgeNo.{EdgeNo}
-use Rattle.prl_base.specs.declared.numbers.TaskNo.{TaskNo}
 use Rattle.prl_plan.specs.Vocabulary.{task_at, operand_of, PlanView, IsPlan, edge_at, release_at, deadline_at, preceding, ComesFrom}
 use Rattle.prl_plan.specs.declared.graphs.Producer.{Producer}
 use Rattle.prl_plan.specs.declared.limits.TheConstants.{MAX_PREFIX}
@@ -281,9 +279,8 @@ module _ (plan : PlanView) (is : IsPlan plan) (entries : List Entry) where
         elim (first_pair (KeepsOrder plan entries) (length plan.graph.edges) (λ e. classes plan.graph (edge_at plan.graph e).to.0) (order_or_not pieces whole)) [
           | inl all ↦ inl (record { pieces = pieces; whole = whole; apart = apart; order = all })
           | inr first ↦
-              (let edge : EdgeNo = record { 0 = first.0 } in
               inr (
-                faults.Order edge first.1,
+                faults.Order (record { 0 = first.0 }) first.1,
                 (λ same. cc),
                 (
                   pieces,
@@ -296,7 +293,7 @@ module _ (plan : PlanView) (is : IsPlan plan) (entries : List Entry) where
                     before = first.2.before;
                   },
                 ),
-              ))
+              )
         ]
 
     by_clash : ArePieces plan entries → AreWhole plan entries → GoodOrFault
@@ -310,9 +307,8 @@ module _ (plan : PlanView) (is : IsPlan plan) (entries : List Entry) where
         elim (first_pair (IsWhole plan entries) (length plan.graph.tasks) (classes plan.graph) (λ i c _ _. cases_eq (units_of entries i c) (task_at plan.graph i).wcet)) [
           | inl all ↦ by_clash pieces all
           | inr first ↦
-              (let task : TaskNo = record { 0 = first.0 } in
               inr (
-                faults.Units task first.1,
+                faults.Units (record { 0 = first.0 }) first.1,
                 (λ same. cc),
                 (
                   pieces,
@@ -323,7 +319,7 @@ module _ (plan : PlanView) (is : IsPlan plan) (entries : List Entry) where
                     before = first.2.before;
                   },
                 ),
-              ))
+              )
         ]
 
     pub good_or_faulty : GoodOrFault

@@ -202,10 +202,9 @@ module _ (c : RunConstants) (facts : HasPlanFacts c) (ends : HasEnds c) (at : Pl
     idle = idle_after t i n s r n stands ended;
     done = λ j k its before. elim (cases_eq j i) [
       | inl same ↦
-          (let up : get_or r.ended j 0 ≡ n + 1 = ap (λ (x : ℕ). get_or r.ended x 0) same ∙ ended.ended in
-          let was : get_or s.ended j 0 ≡ n = ap (λ (x : ℕ). get_or s.ended x 0) same ∙ first in
+          (let was : get_or s.ended j 0 ≡ n = ap (λ (x : ℕ). get_or s.ended x 0) same ∙ first in
           elim (cases_lt k (n + 1)) [
-            | inl below ↦ omega (arith, up, below)
+            | inl below ↦ omega (arith, ap (λ (x : ℕ). get_or r.ended x 0) same ∙ ended.ended, below)
             | inr past ↦ absurd
                 (elim before [
                   | inl earlier ↦ (let d = stands.done j k its (inl earlier) in omega (arith, d, was, past))
@@ -223,11 +222,10 @@ module _ (c : RunConstants) (facts : HasPlanFacts c) (ends : HasEnds c) (at : Pl
     ];
     left = λ j k its over. elim (cases_eq j i) [
       | inl same ↦
-          (let up : get_or r.ended j 0 ≡ n + 1 = ap (λ (x : ℕ). get_or r.ended x 0) same ∙ ended.ended in
-          let was : get_or s.ended j 0 ≡ n = ap (λ (x : ℕ). get_or s.ended x 0) same ∙ first in
+          (let was : get_or s.ended j 0 ≡ n = ap (λ (x : ℕ). get_or s.ended x 0) same ∙ first in
           elim (cases_eq k n) [
             | inl now ↦ inr (ap (λ (x : ℕ). at x k) same ∙ ap (λ (x : ℕ). at i x) now ∙ here, inr (same, omega (arith, now)))
-            | inr not_now ↦ more_jobs t i n j k (stands.left j k its (omega (arith, over, up, was, not_now)))
+            | inr not_now ↦ more_jobs t i n j k (stands.left j k its (omega (arith, over, ap (λ (x : ℕ). get_or r.ended x 0) same ∙ ended.ended, was, not_now)))
           ])
       | inr other ↦ more_jobs t i n j k (stands.left j k its (let e = ended.others_ended j other in omega (arith, e, over)))
     ];
@@ -344,11 +342,10 @@ module _ (c : RunConstants) (facts : HasPlanFacts c) (ends : HasEnds c) (at : Pl
     ];
     left = λ j k its over. elim (cases_eq j i) [
       | inl same ↦
-          (let up : get_or r.ended j 0 ≡ n + 1 = ap (λ (x : ℕ). get_or r.ended x 0) same ∙ ended.ended in
-          let was : get_or s.ended j 0 ≡ n = ap (λ (x : ℕ). get_or s.ended x 0) same ∙ first in
+          (let was : get_or s.ended j 0 ≡ n = ap (λ (x : ℕ). get_or s.ended x 0) same ∙ first in
           elim (cases_eq k n) [
             | inl now ↦ inr (ap (λ (x : ℕ). at x k) same ∙ ap (λ (x : ℕ). at i x) now ∙ here, inl (omega (arith, same)))
-            | inr not_now ↦ more_tasks t i 0 j k (stands.left j k its (omega (arith, over, up, was, not_now)))
+            | inr not_now ↦ more_tasks t i 0 j k (stands.left j k its (omega (arith, over, ap (λ (x : ℕ). get_or r.ended x 0) same ∙ ended.ended, was, not_now)))
           ])
       | inr other ↦ more_tasks t i 0 j k (stands.left j k its (let e = ended.others_ended j other in omega (arith, e, over)))
     ];

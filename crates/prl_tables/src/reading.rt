@@ -6,8 +6,8 @@ ghost use Rattle.std.specs.Option.{option_map};
 ghost use Rattle.std.specs.Vec.{vec_items};
 ghost use Rattle.prl_base.specs.Vocabulary.{lines_of, GivesBut};
 ghost use Rattle.prl_tables.specs.declared.reading.TableFault.TheVariants as faults;
-ghost use Rattle.prl_tables.specs.TableTexts.{after_line, comes_after, entries_from, entries_of, entry_if, entry_of, field, is_blank};
-ghost use Rattle.prl_tables.specs.TableTexts.{is_header, keeps_order, last_field, next_entry, number_of, or_line, tells_hyper};
+ghost use Rattle.prl_tables.specs.TableTexts.{after_line, comes_after, entries_from, entries_of, entry_if, entry_of, field, is_blank, is_header, keeps_order, last_field, next_entry, number_of, or_line, tells_hyper};
+ghost use Rattle.prl_tables.specs.declared.reading.TableFault.TheVariants.{Memory};
 
 use crate::tables::Table;
 use itoa::Buffer;
@@ -33,9 +33,6 @@ pub enum TableFault {
 }
 
 impl<T: Drop> From<AllocFailed<T>> for TableFault {
-    ghost use Rattle.std.specs.Prelude.{◌≡◌};
-    ghost use Rattle.prl_tables.specs.declared.reading.TableFault.TheVariants.{Memory};
-
     ghost from_gives = { λ _ e. e ≡ Memory };
 
     fn from(_error: AllocFailed<T>) -> TableFault {
@@ -44,9 +41,6 @@ impl<T: Drop> From<AllocFailed<T>> for TableFault {
 }
 
 impl From<AllocError> for TableFault {
-    ghost use Rattle.std.specs.Prelude.{◌≡◌};
-    ghost use Rattle.prl_tables.specs.declared.reading.TableFault.TheVariants.{Memory};
-
     ghost from_gives = { λ _ e. e ≡ Memory };
 
     fn from(_error: AllocError) -> TableFault {

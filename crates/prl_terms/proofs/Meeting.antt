@@ -124,12 +124,7 @@ mismatch earlier rule later whole h = record {
   rule = rule;
   later = later;
   whole = whole;
-  choice = h.choice;
-  meets = h.meets;
-  place = h.place;
-  wanted_is = h.wanted_is;
-  found_is = h.found_is;
-  differ = h.differ;
+  contradicts = h;
 }
 
 -- what the steps of `meet` come to

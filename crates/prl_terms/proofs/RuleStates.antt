@@ -1,5 +1,5 @@
 -- What one more rule makes of what is known.
-use Rattle.std.proofs.Common.{◌≡◌, ◌++◌, ◌∙◌, ℕ, List, [], ◌∷◌, length, refl, sym, ap, append_assoc}
+use Rattle.std.proofs.Common.{◌≡◌, ◌++◌, ◌∙◌, ℕ, List, [], ◌∷◌, length, refl, ap, append_assoc}
 use Rattle.prl_base.specs.declared.values.Ty.{Ty}
 use Rattle.prl_terms.specs.Vocabulary.{Rule, Term, Marks, FitsRule, FitRules, IsMismatch, resolved, IsKept, Solves, Refuses, IsOpen, HasState, State}
 use Rattle.prl_terms.specs.declared.solving.Unsolved.TheVariants as unsolved
@@ -50,12 +50,7 @@ stays_refused count rules more before fits =
       rule = h.rule;
       later = h.later ++ more;
       whole = ap (λ (rs : List Rule). rs ++ more) h.whole ∙ append_assoc h.earlier (h.rule ∷ h.later) more;
-      choice = h.choice;
-      meets = h.meets;
-      place = h.place;
-      wanted_is = h.wanted_is;
-      found_is = h.found_is;
-      differ = h.differ;
+      contradicts = h.contradicts;
     }
 
 -- a rule of two equal sides says nothing

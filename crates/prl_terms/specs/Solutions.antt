@@ -6,19 +6,23 @@ use Rattle.prl_terms.specs.declared.solving.Unsolved.{Unsolved}
 use Rattle.prl_terms.specs.declared.solving.Unsolved.TheVariants as unsolved
 use Rattle.prl_terms.specs.Choices.{Choice, type_in, MeetsAll}
 
--- The first rule that no choice meets together with all earlier ones is at the place: each choice that meets the
--- earlier ones gives its sides these two types, and they differ.
+-- Some choice meets the rules before this one, which is at the place; each such choice gives its sides these two
+-- types, and they differ.
+pub record Contradicts (rules : List Rule) (rule : Rule) (at : ℕ) (wanted found : Ty) : Type 0 where
+  pub choice : Choice
+  pub meets : MeetsAll choice rules
+  pub place : at ≡ rule.at
+  pub wanted_is : (c : Choice) → MeetsAll c rules → type_in c rule.wanted ≡ wanted
+  pub found_is : (c : Choice) → MeetsAll c rules → type_in c rule.found ≡ found
+  pub differ : wanted ≢ found
+
+-- the first rule that no choice meets together with all earlier ones
 pub record IsMismatch (rules : List Rule) (at : ℕ) (wanted found : Ty) : Type 0 where
   pub earlier : List Rule
   pub rule : Rule
   pub later : List Rule
   pub whole : rules ≡ earlier ++ (rule ∷ later)
-  pub choice : Choice
-  pub meets : MeetsAll choice earlier
-  pub place : at ≡ rule.at
-  pub wanted_is : (c : Choice) → MeetsAll c earlier → type_in c rule.wanted ≡ wanted
-  pub found_is : (c : Choice) → MeetsAll c earlier → type_in c rule.found ≡ found
-  pub differ : wanted ≢ found
+  pub contradicts : Contradicts earlier rule at wanted found
 
 -- all choices that meet the rules give the parameter one type
 abbrev pub IsForced : List Rule → ℕ → Type 0

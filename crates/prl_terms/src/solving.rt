@@ -23,17 +23,6 @@ pub enum Unsolved {
     Memory,
 }
 
-impl From<AllocError> for Unsolved {
-    ghost use Rattle.std.specs.Prelude.{◌≡◌};
-    ghost use Rattle.prl_terms.specs.declared.solving.Unsolved.TheVariants.{Memory};
-
-    ghost from_gives = { λ _ e. e ≡ Memory };
-
-    fn from(_error: AllocError) -> Unsolved {
-        Unsolved::Memory
-    }
-}
-
 /// What the rules so far say. Each parameter is marked with its type or with the one parameter that stands for all
 /// whose type is the same.
 #[derive(Drop)]
@@ -94,17 +83,20 @@ impl Marks {
         }
     }
 
-    /// Puts the term in place of the parameter `a` in all marks.
-    fn replace(&mut self, alloc: Global, a: usize, by: Term) -> Result<(), AllocError>
+    /// Puts the term in place of the parameter `a`, for which the rules leave any type, in all marks.
+    fn join(&mut self, alloc: Global, a: usize, by: Term) -> Result<(), Unsolved>
         requires kept { IsKept self.old }
         requires apart { IsApart a by self.old.marks.items }
         ensures kept { IfOk result (λ _. IsKept self.new) }
         ensures replaced { IfOk result (λ _. IsReplaced a by self.old.marks.items self.new.marks.items) }
+        ensures memory { IfErr result (λ e. e ≡ unsolved.Memory) }
     {
         let members = mem::replace(&mut self.members[a], Vec::new(alloc));
         relabel(&mut self.marks, members.as_slice(), by);
-        add_members(&mut self.members, by, members.as_slice())?;
-        Ok(())
+        match add_members(&mut self.members, by, members.as_slice()) {
+            Ok(()) => Ok(()),
+            Err(_) => Err(Unsolved::Memory),
+        }
     }
 }
 
@@ -121,18 +113,6 @@ fn equal(at: u32, wanted: Ty, found: Ty) -> Result<(), Unsolved>
 }
 
 impl Marks {
-    /// Puts the term in place of the parameter `a`, for which the rules leave any type.
-    fn join(&mut self, alloc: Global, a: usize, by: Term) -> Result<(), Unsolved>
-        requires kept { IsKept self.old }
-        requires apart { IsApart a by self.old.marks.items }
-        ensures kept { IfOk result (λ _. IsKept self.new) }
-        ensures replaced { IfOk result (λ _. IsReplaced a by self.old.marks.items self.new.marks.items) }
-        ensures memory { IfErr result (λ e. e ≡ unsolved.Memory) }
-    {
-        self.replace(alloc, a, by)?;
-        Ok(())
-    }
-
     /// Makes one class of the two, which differ. The smaller one is marked anew, so that no parameter is marked
     /// more often than the number of all parameters can be halved.
     fn join_classes(&mut self, alloc: Global, a: usize, b: usize) -> Result<(), Unsolved>
@@ -173,13 +153,6 @@ impl Marks {
     }
 }
 
-fn add_type(types: &mut Vec<Ty>, ty: Ty) -> Result<(), AllocError>
-    ensures { IfOk result (λ _. types.new.items ≡ types.old.items ++ ty ∷ []) }
-{
-    types.push(ty)?;
-    Ok(())
-}
-
 impl Marks {
     /// The types of all parameters, if none is open.
     pub(crate) fn types(&self, alloc: Global) -> Result<Vec<Ty>, Unsolved>
@@ -190,7 +163,11 @@ impl Marks {
         let mut types = Vec::new(alloc);
         for (k, mark) in self.marks.iter().enumerate() {
             match mark {
-                Term::Known(ty) => add_type(&mut types, *ty)?,
+                Term::Known(ty) => {
+                    if types.push(*ty).is_err() {
+                        return Err(Unsolved::Memory);
+                    }
+                }
                 Term::Parameter(_) => return Err(Unsolved::Free(k)),
             }
         }

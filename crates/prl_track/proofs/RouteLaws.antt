@@ -214,23 +214,28 @@ module _ (i : ℕ) (edges : List Edge) (before : List Access) where
   abbrev pub ListsOuts : ℕ → List Access → Type 0
   ListsOuts e route = route ++ outs_from i e (drop e edges) ≡ before ++ outs_from i 0 edges
 
+  -- one edge more of a list that is made edge by edge
+  listed : (from : ℕ → List Edge → List Access) (made : Access) (all : List Access) (e : ℕ) (edge : Edge) (route route' : List Access) (b : Bool) →
+      ((rest : List Edge) → from e (edge ∷ rest) ≡ (if b then made ∷ [] else []) ++ from (e + 1) rest) → slice_get edges e ≡ Some edge →
+      route ++ from e (drop e edges) ≡ all → route' ≡ route ++ (if b then made ∷ [] else []) → route' ++ from (e + 1) (drop (e + 1) edges) ≡ all
+  listed from made all e edge route route' b more here so is =
+      ap (λ (l : List Access). l ++ from (e + 1) (drop (e + 1) edges)) is
+      ∙ append_assoc route (if b then made ∷ [] else []) (from (e + 1) (drop (e + 1) edges))
+      ∙ ap (λ (l : List Access). route ++ l) (sym (more (drop (e + 1) edges)))
+      ∙ ap (λ (l : List Edge). route ++ from e l) (sym (drop_here edges e edge here))
+      ∙ so
+
   pub ins_listed : (e : ℕ) (edge : Edge) (route route' : List Access) (b : Bool) → slice_get edges e ≡ Some edge → (edge.to.0 == i) ≡ b → ListsIns e route →
       route' ≡ route ++ (if b then accesses.Reads (record { 0 = e }) ∷ [] else []) → ListsIns (e + 1) route'
   ins_listed e edge route route' b here test so is =
-      ap (λ (l : List Access). l ++ ins_from i (e + 1) (drop (e + 1) edges)) is
-      ∙ append_assoc route (if b then accesses.Reads (record { 0 = e }) ∷ [] else []) (ins_from i (e + 1) (drop (e + 1) edges))
-      ∙ ap (λ (c : Bool). route ++ ((if c then accesses.Reads (record { 0 = e }) ∷ [] else []) ++ ins_from i (e + 1) (drop (e + 1) edges))) (sym test)
-      ∙ ap (λ (l : List Edge). route ++ ins_from i e l) (sym (drop_here edges e edge here))
-      ∙ so
+      listed (ins_from i) (accesses.Reads (record { 0 = e })) (before ++ ins_from i 0 edges) e edge route route' b
+      (λ rest. ap (λ (c : Bool). (if c then accesses.Reads (record { 0 = e }) ∷ [] else []) ++ ins_from i (e + 1) rest) test) here so is
 
   pub outs_listed : (e : ℕ) (edge : Edge) (route route' : List Access) (b : Bool) → slice_get edges e ≡ Some edge → is_from i edge.from ≡ b → ListsOuts e route →
       route' ≡ route ++ (if b then accesses.Writes (record { 0 = e }) ∷ [] else []) → ListsOuts (e + 1) route'
   outs_listed e edge route route' b here test so is =
-      ap (λ (l : List Access). l ++ outs_from i (e + 1) (drop (e + 1) edges)) is
-      ∙ append_assoc route (if b then accesses.Writes (record { 0 = e }) ∷ [] else []) (outs_from i (e + 1) (drop (e + 1) edges))
-      ∙ ap (λ (c : Bool). route ++ ((if c then accesses.Writes (record { 0 = e }) ∷ [] else []) ++ outs_from i (e + 1) (drop (e + 1) edges))) (sym test)
-      ∙ ap (λ (l : List Edge). route ++ outs_from i e l) (sym (drop_here edges e edge here))
-      ∙ so
+      listed (outs_from i) (accesses.Writes (record { 0 = e })) (before ++ outs_from i 0 edges) e edge route route' b
+      (λ rest. ap (λ (c : Bool). (if c then accesses.Writes (record { 0 = e }) ∷ [] else []) ++ outs_from i (e + 1) rest) test) here so is
 
   pub ins_all : (e : ℕ) (route : List Access) → length edges ≤ e → ListsIns e route → route ≡ before ++ ins_from i 0 edges
   ins_all e route past so = sym (append-nil route) ∙ ap (λ (l : List Edge). route ++ ins_from i e l) (sym (drop_none edges e past)) ∙ so

@@ -1,5 +1,5 @@
 -- What a track keeps is kept by each event that the rules allow.
-use Rattle.prl_base.proofs.Standard.{◌≡◌, ◌≢◌, ◌+◌, ◌^◌, ◌<◌, ◌≤◌, ◌⊎◌, ◌++◌, ℕ, zero, suc, List, [], ◌∷◌, length, replicate, get_or, set, take, Option, Some, None, refl, sym, ◌∙◌, ap, subst, arith}
+use Rattle.prl_base.proofs.Standard.{◌≡◌, ◌≢◌, ◌+◌, ◌^◌, ◌<◌, ◌≤◌, ℕ, zero, suc, List, length, replicate, get_or, set, take, Option, Some, None, refl, sym, ◌∙◌, ap, subst, arith}
 use Rattle.prl_base.proofs.Standard.{inl, inr, slice_get, MatchOption, cases_eq, get_or_default_zero, get_or-set_at, get_or-set_other, length-replicate, slice_get_read}
 use Rattle.std.proofs.lemmas.List.{length-set}
 use Rattle.prl_base.specs.declared.numbers.EdgeNo.{EdgeNo}
@@ -186,7 +186,7 @@ module _ (track : TrackView) (facts : HasPlanFacts (run_of track)) (firsts : Lis
     }
 
 -- what a call of a track is told of its view, and what it keeps of its fields
-module _ (track v : TrackView) (seen : track ≡ v) (firsts : List (Option First)) (routes : List (List Access)) (cursors : List Cursor) (is : IsTrack track firsts routes cursors) where
+module _ {track v : TrackView} (seen : track ≡ v) {firsts : List (Option First)} {routes : List (List Access)} {cursors : List Cursor} (is : IsTrack track firsts routes cursors) where
   pub ticks_on : MayTick (run_of v) v.state → IsTrack (record track { state = record track.state { now = track.state.now + 1 } }) firsts routes cursors
   ticks_on may = tick_kept track is.facts firsts routes cursors is (subst (λ (w : TrackView). MayTick (run_of w) w.state) (sym seen) may)
 
@@ -311,32 +311,11 @@ first_of c s j (Some first) inside is = record {
   deadline = is.deadline;
 }
 
--- an element of a list with one more is one of the list, or the last
-push_cases : {A : Type 0} (xs : List A) (y x : A) (j : ℕ) → slice_get (xs ++ y ∷ []) j ≡ Some x → (slice_get xs j ≡ Some x) ⊎ ((j ≡ length xs) × (y ≡ x))
-push_cases [] y x zero h = inr (refl, cc)
-push_cases [] y x (suc j) h = absurd cc
-push_cases (z ∷ xs) y x zero h = inl h
-push_cases (z ∷ xs) y x (suc j) h = elim (push_cases xs y x j h) [
-  | inl before ↦ inl before
-  | inr last ↦ inr (omega (arith, last.0), last.1)
-]
-
 pub zeros : (n j : ℕ) → ◌≡◌ {A = ℕ} (get_or (replicate n 0) j 0) 0
 zeros zero zero = refl
 zeros zero (suc j) = refl
 zeros (suc n) zero = refl
 zeros (suc n) (suc j) = zeros n j
-
--- one task more
-pub firsts_more : (P : ℕ → Option First → Type 0) (before after : List (Option First)) (i : ℕ) (next : Option First) → after ≡ before ++ next ∷ [] → length before ≡ i →
-    ((j : ℕ) (kept : Option First) → slice_get before j ≡ Some kept → P j kept) → P i next → (j : ℕ) (kept : Option First) → slice_get after j ≡ Some kept → P j kept
-firsts_more P before after i next is long each here j kept at =
-    elim (push_cases before next kept j (ap (λ (xs : List (Option First)). slice_get xs j) (sym is) ∙ at)) [
-      | inl old ↦ each j kept old
-      | inr new ↦
-          (let e : i ≡ j = omega (arith, new.0, long) in
-          subst (λ (x : Option First). P j x) new.1 (subst (λ (k : ℕ). P k next) e here))
-    ]
 
 replicated : {A : Type 0} (n j : ℕ) (y x : A) → slice_get (replicate n y) j ≡ Some x → x ≡ y
 replicated zero zero y x h = absurd cc

@@ -122,12 +122,7 @@ ruled count done (rule ∷ rest) fits m =
           rule = rule;
           later = rest;
           whole = refl;
-          choice = h.2.choice;
-          meets = h.2.meets;
-          place = refl;
-          wanted_is = h.2.wanted_is;
-          found_is = h.2.found_is;
-          differ = h.2.differ;
+          contradicts = h.2;
         },
       )
     ]

@@ -14,7 +14,7 @@ use Rattle.prl_terms.proofs.Meeting.{meets_first, meets_second}
 
 -- no choice meets the rules up to a contradiction
 no_choice : (rules : List Rule) (at : ℕ) (wanted found : Ty) → (m : IsMismatch rules at wanted found) → (c : Choice) → MeetsAll c m.earlier → type_in c m.rule.wanted ≡ type_in c m.rule.found → ⊥
-no_choice rules at wanted found m c before same = m.differ (sym (m.wanted_is c before) ∙ same ∙ m.found_is c before)
+no_choice rules at wanted found m c before same = m.contradicts.differ (sym (m.contradicts.wanted_is c before) ∙ same ∙ m.contradicts.found_is c before)
 
 no_choice_of_all : (rules : List Rule) (at : ℕ) (wanted found : Ty) → IsMismatch rules at wanted found → (c : Choice) → MeetsAll c rules → ⊥
 no_choice_of_all rules at wanted found m c all =
@@ -42,8 +42,9 @@ splits (x ∷ e) (y ∷ f) r s l k h =
 
 not_later : (rules : List Rule) (at at' : ℕ) (w f w' f' : Ty) → (m : IsMismatch rules at w f) → (n : IsMismatch rules at' w' f') → (l : List Rule) → n.earlier ≡ m.earlier ++ (m.rule ∷ l) → ⊥
 not_later rules at at' w f w' f' m n l e =
-    let split : MeetsAll n.choice (m.earlier ++ (m.rule ∷ l)) = subst (λ (rs : List Rule). MeetsAll n.choice rs) e n.meets in
-    no_choice rules at w f m n.choice (meets_first n.choice m.earlier (m.rule ∷ l) split) (meets_second n.choice m.earlier (m.rule ∷ l) split).0
+    let one = n.contradicts.choice in
+    let split : MeetsAll one (m.earlier ++ (m.rule ∷ l)) = subst (λ (rs : List Rule). MeetsAll one rs) e n.contradicts.meets in
+    no_choice rules at w f m one (meets_first one m.earlier (m.rule ∷ l) split) (meets_second one m.earlier (m.rule ∷ l) split).0
 
 -- a fault of types with its parts
 abbrev mismatch : ℕ → Ty → Ty → Result (ℕ × List Ty) TypeFault
@@ -51,10 +52,12 @@ mismatch at wanted found = Err (faults.Mismatch at wanted found)
 
 same_mismatch : (rules : List Rule) (at at' : ℕ) (w f w' f' : Ty) → (m : IsMismatch rules at w f) → (n : IsMismatch rules at' w' f') → (m.earlier ≡ n.earlier) × (m.rule ≡ n.rule) → mismatch at w f ≡ mismatch at' w' f'
 same_mismatch rules at at' w f w' f' m n both =
-    let place : at ≡ at' = m.place ∙ ap (λ (r : Rule). r.at) both.1 ∙ sym n.place in
-    let before : MeetsAll m.choice n.earlier = subst (λ (rs : List Rule). MeetsAll m.choice rs) both.0 m.meets in
-    let wanted : w ≡ w' = sym (m.wanted_is m.choice m.meets) ∙ ap (λ (r : Rule). type_in m.choice r.wanted) both.1 ∙ n.wanted_is m.choice before in
-    let found : f ≡ f' = sym (m.found_is m.choice m.meets) ∙ ap (λ (r : Rule). type_in m.choice r.found) both.1 ∙ n.found_is m.choice before in
+    let a = m.contradicts in
+    let b = n.contradicts in
+    let place : at ≡ at' = a.place ∙ ap (λ (r : Rule). r.at) both.1 ∙ sym b.place in
+    let before : MeetsAll a.choice n.earlier = subst (λ (rs : List Rule). MeetsAll a.choice rs) both.0 a.meets in
+    let wanted : w ≡ w' = sym (a.wanted_is a.choice a.meets) ∙ ap (λ (r : Rule). type_in a.choice r.wanted) both.1 ∙ b.wanted_is a.choice before in
+    let found : f ≡ f' = sym (a.found_is a.choice a.meets) ∙ ap (λ (r : Rule). type_in a.choice r.found) both.1 ∙ b.found_is a.choice before in
     cc
 
 one_mismatch : (rules : List Rule) (at at' : ℕ) (w f w' f' : Ty) → IsMismatch rules at w f → IsMismatch rules at' w' f' → mismatch at w f ≡ mismatch at' w' f'

@@ -5,7 +5,7 @@ ghost use Rattle.prl_ast.specs.Trees.{tree_of, root_of, equation_tree, program_t
 ghost use Rattle.prl_names.specs.ExprLists.{all_trees};
 ghost use Rattle.prl_types.specs.Flows.{operated, flows_of, root_flows, all_flows};
 ghost use Rattle.prl_terms.specs.declared.terms.Term.{Term};
-ghost use Rattle.prl_types.specs.Arity.{counted, first_at, unless_equal, last_at, prefix_fault, postfix_fault, faults_in, root_faults, all_faults, equations_faults, arity_faults};
+ghost use Rattle.prl_types.specs.Arity.{counted, first_at, unless_equal, last_at, prefix_fault, postfix_fault, faults_in, root_faults, all_faults, equation_faults, equations_faults, arity_faults};
 
 use crate::contexts::Context;
 use prl_ast::{Base, Equation, Expr, PlacedOp};
@@ -149,15 +149,20 @@ fn parts(context: &Context<'_, '_>, node: usize, exprs: &[Expr]) -> Arity
     Arity { flows, fault }
 }
 
+fn equation_fault(context: &Context<'_, '_>, node: usize, equation: &Equation) -> Option<u32>
+    ensures { result ≡ first_at (equation_faults (program_tree context.now) node (equation_tree equation.now)) }
+{
+    let right = expression(context, node, &equation.right);
+    let fault = unequal(right.flows, equation.lefts.len(), equation.at.at);
+    first(fault, right.fault)
+}
+
 fn equations_fault(context: &Context<'_, '_>, node: usize, equations: &[Equation]) -> Option<u32>
     ensures { result ≡ first_at (equations_faults (program_tree context.now) node (map equation_tree equations.now)) }
 {
     for equation in equations {
-        let right = expression(context, node, &equation.right);
-        let fault = unequal(right.flows, equation.lefts.len(), equation.at.at);
-        match first(fault, right.fault) {
-            Some(at) => return Some(at),
-            None => {}
+        if let Some(at) = equation_fault(context, node, equation) {
+            return Some(at);
         }
     }
     None

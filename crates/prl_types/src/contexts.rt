@@ -1,10 +1,13 @@
 //! The parameters of a program and what its names stand for, by their types.
 
 ghost use Rattle.std.specs.Prelude.{◌≡◌, ◌<◌, ◌+◌, ◌^◌, ◌++◌, map, length, slice_get, IfOk, IfSome, IfNone, OnOk, Some};
+ghost use Rattle.std.specs.Coded.{codes};
 ghost use Rattle.std.specs.Option.{option_copied};
 ghost use Rattle.prl_ast.specs.Trees.{program_tree, node_tree};
+ghost use Rattle.prl_ast.specs.contracts.expressions.Base as base;
+ghost use Rattle.prl_ast.specs.declared.declarations.Program.{Program as AnyProgram};
 ghost use Rattle.prl_names.specs.Lookups.{callee_of};
-ghost use Rattle.prl_types.specs.code.Contexts.{owned_of, AreFirsts};
+ghost use Rattle.prl_types.specs.code.Contexts.{owned_of, AreFirsts, AreParameters};
 ghost use Rattle.prl_types.specs.Flows.{inputs_of, outputs_of, import_inputs, import_outputs, node_inputs, node_outputs, parameters_from, port_types};
 ghost use Rattle.prl_types.specs.Parameters.{owned, owned_by, parameters_of, first_of, named};
 
@@ -33,13 +36,7 @@ pub(crate) struct Context<'n, 'a> {
 }
 
 impl<'n, 'a> Model for Context<'n, 'a> {
-    ghost use Rattle.std.specs.Coded.{codes};
-    ghost use Rattle.prl_ast.specs.Trees.{program_tree};
-    ghost use Rattle.prl_ast.specs.contracts.expressions.Base as base;
-    ghost use Rattle.prl_ast.specs.declared.declarations.Program.{Program};
-    ghost use Rattle.prl_types.specs.code.Contexts.{AreParameters};
-
-    ghost Value = { Program };
+    ghost Value = { AnyProgram };
 
     ghost coded = { Prim.hlevel (codes, base.the_row.coded) };
 

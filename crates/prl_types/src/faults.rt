@@ -1,5 +1,9 @@
 //! Why names, arity or types of a program are refused.
 
+ghost use Rattle.std.specs.Prelude.{◌≡◌};
+ghost use Rattle.prl_types.specs.declared.faults.TypeFault.TheVariants.{Memory};
+ghost use Rattle.prl_types.specs.Typing.{of_names};
+
 use prl_base::{Name, Ty};
 use prl_names::NameFault;
 use std::alloc::AllocError;
@@ -28,9 +32,6 @@ pub enum TypeFault {
 }
 
 impl From<AllocError> for TypeFault {
-    ghost use Rattle.std.specs.Prelude.{◌≡◌};
-    ghost use Rattle.prl_types.specs.declared.faults.TypeFault.TheVariants.{Memory};
-
     ghost from_gives = { λ _ e. e ≡ Memory };
 
     fn from(_error: AllocError) -> TypeFault {
@@ -39,9 +40,6 @@ impl From<AllocError> for TypeFault {
 }
 
 impl From<NameFault> for TypeFault {
-    ghost use Rattle.std.specs.Prelude.{◌≡◌};
-    ghost use Rattle.prl_types.specs.Typing.{of_names};
-
     ghost from_gives = { λ fault e. e ≡ of_names fault };
 
     fn from(fault: NameFault) -> TypeFault {

@@ -10,9 +10,9 @@ ghost use Rattle.prl_types.specs.Parameters.{count_of};
 ghost use Rattle.prl_types.specs.Rules.{declared_rules, constant_rule, constant_rules, argument_rules, rules_in, root_rules, all_rules, left_rules, equations_rules, nodes_rules, rules_of};
 
 use crate::contexts::{Context, Parameter};
-use crate::segments::{Flows, Segment, add_flows, after, all, one, operand, operated, terms};
+use crate::segments::{Flows, Segment, add_flows, after, only, operand, operated, terms};
 use crate::signatures::Signatures;
-use prl_ast::{Base, Equation, Expr, Placed, PlacedOp};
+use prl_ast::{Base, Equation, Expr, Node, Placed, PlacedOp};
 use prl_base::Op;
 use prl_terms::{Met, Rule, Term};
 use std::alloc::{AllocError, Global};
@@ -142,13 +142,13 @@ fn base<'s>(
     ensures rules { OnOk result (rules.new.rules ≡ rules.old.rules ++ root_rules (program_tree context.now) node (root_of base.now)) }
 {
     match base {
-        Base::Const(value) => one(alloc, at, Term::Known(value.ty())),
-        Base::Var(name) => one(alloc, at, context.named(node, name.bytes())),
+        Base::Const(value) => only(alloc, at, Flows::One(Term::Known(value.ty()))),
+        Base::Var(name) => only(alloc, at, Flows::One(context.named(node, name.bytes()))),
         Base::Apply { name, args, .. } => {
             let flows = parts(alloc, context, node, args.as_slice(), rules)?;
             let callee = context.callee(name.bytes());
             add_arguments(rules, context.inputs(callee), flows.as_slice())?;
-            let outputs = all(alloc, at, context.outputs(callee))?;
+            let outputs = only(alloc, at, Flows::All(context.outputs(callee)))?;
             Ok(outputs)
         }
         Base::Group(exprs) => {
@@ -245,11 +245,12 @@ fn add_nodes(
     alloc: Global,
     rules: &mut Met,
     context: &Signatures<'_, '_, '_>,
+    nodes: &[Node],
 ) -> Result<(), AllocError>
     ensures count { OnOk result (rules.new.count ≡ rules.old.count) }
-    ensures rules { OnOk result (rules.new.rules ≡ rules.old.rules ++ nodes_rules (program_tree context.now) 0 (program_tree context.now).nodes) }
+    ensures rules { OnOk result (rules.new.rules ≡ rules.old.rules ++ nodes_rules (program_tree context.now) 0 (map node_tree nodes.now)) }
 {
-    for (k, node) in context.program().nodes.as_slice().iter().enumerate() {
+    for (k, node) in nodes.iter().enumerate() {
         add_equations(alloc, rules, context, k, node.eqs.as_slice())?;
     }
     Ok(())
@@ -261,7 +262,12 @@ fn add_all(alloc: Global, rules: &mut Met, context: &Context<'_, '_>) -> Result<
     ensures rules { OnOk result (rules.new.rules ≡ rules.old.rules ++ nodes_rules (program_tree context.now) 0 (program_tree context.now).nodes) }
 {
     let signatures = Signatures::new(alloc, context)?;
-    add_nodes(alloc, rules, &signatures)
+    add_nodes(
+        alloc,
+        rules,
+        &signatures,
+        context.program().nodes.as_slice(),
+    )
 }
 
 /// The rules of the program, each met as it is made.

@@ -62,32 +62,15 @@ pub(crate) fn operand(segments: &[Segment<'_>]) -> Term
     Term::Known(Ty::Int)
 }
 
-/// One flow at this place.
-pub(crate) fn one<'s>(alloc: Global, at: u32, term: Term) -> Result<Vec<Segment<'s>>, AllocError>
-    ensures { IfOk result (λ list. terms_in list.items ≡ term ∷ []) }
-{
-    Ok(vec![in alloc;
-        Segment {
-            at,
-            flows: Flows::One(term)
-        },
-    ]?)
-}
-
-/// All of these flows at this place.
-pub(crate) fn all<'s>(
+/// These flows at this place, and no others.
+pub(crate) fn only<'s>(
     alloc: Global,
     at: u32,
-    terms: &'s [Term],
+    flows: Flows<'s>,
 ) -> Result<Vec<Segment<'s>>, AllocError>
-    ensures { IfOk result (λ list. terms_in list.items ≡ terms.now) }
+    ensures { IfOk result (λ list. terms_in list.items ≡ listed flows.entry) }
 {
-    Ok(vec![in alloc;
-        Segment {
-            at,
-            flows: Flows::All(terms)
-        },
-    ]?)
+    Ok(vec![in alloc; Segment { at, flows }]?)
 }
 
 /// The flows after operators.
@@ -101,7 +84,7 @@ pub(crate) fn operated<'s>(
     if expr.pre.is_empty() && expr.post.is_empty() {
         Ok(segments)
     } else {
-        one(alloc, expr.at.at, operand(segments.as_slice()))
+        only(alloc, expr.at.at, Flows::One(operand(segments.as_slice())))
     }
 }
 

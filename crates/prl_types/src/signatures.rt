@@ -10,7 +10,6 @@ ghost use Rattle.prl_types.specs.Parameters.{named};
 ghost use Rattle.prl_types.specs.code.Signatures.{callee_at, signature_of, taken, given, Signs};
 
 use crate::contexts::Context;
-use prl_ast::Program;
 use prl_base::Seq;
 use prl_names::Callee;
 use prl_terms::Term;
@@ -113,13 +112,6 @@ impl<'c, 'n, 'a> Signatures<'c, 'n, 'a> {
             imports,
             nodes,
         })
-    }
-
-    /// The program.
-    pub fn program(&self) -> &'a Program
-        ensures { result.now ≡ self.now }
-    {
-        self.context.program()
     }
 
     /// The type of the parameter of this name of the node.

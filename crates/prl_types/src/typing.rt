@@ -87,7 +87,10 @@ fn types(alloc: Global, context: &Context<'_, '_>) -> Result<Vec<Ty>, Unsolved>
     ensures { MatchResult result (λ types. AreTypes (rules_of (program_tree context.now)) (count_of (program_tree context.now)) types.items)
         (Explains (rules_of (program_tree context.now)) (count_of (program_tree context.now))) }
 {
-    rules(alloc, context)?.types()
+    match rules(alloc, context) {
+        Ok(met) => met.types(),
+        Err(_) => Err(Unsolved::Memory),
+    }
 }
 
 /// The fault that a parameter's type is open.

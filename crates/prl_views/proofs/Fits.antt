@@ -28,6 +28,5 @@ placed_fit plan placement i n inside spread leaves due =
 pub placed_small : (plan : PlanView) (placement : Placement) (i n : ℕ) → i < length plan.graph.tasks → IsSpread plan placement → LeavesRoom plan placement
     → deadline_at plan i n < 2 ^ 33 → placed_release plan placement i n < 2 ^ 63
 placed_small plan placement i n inside spread leaves due =
-    let above = spread.releases.releases.above i (pos n) inside in
-    let room = leaves.room i (pos n) inside in
-    omega (arith, ints, above, room, due)
+    let fit = placed_fit plan placement i n inside spread leaves due in
+    omega (arith, fit)

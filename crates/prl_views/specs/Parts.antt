@@ -1,6 +1,7 @@
 -- The parts of ticks that tasks are drawn in, in the rows of processors.
 use Rattle.std.specs.Prelude.{◌≡◌, ◌+◌, ◌-◌, ◌==◌, ◌≤◌, ℕ, Bool, List, [], ◌∷◌, All, map, max, slice_index, if◌then◌else◌}
 use Rattle.std.specs.List.{flat_map, position_or_len, range_with_len}
+use Rattle.prl_drawing.specs.declared.boxes.TheConstants.{LEAST}
 use Rattle.prl_drawing.specs.declared.rows.TheConstants.{GAP}
 use Rattle.prl_drawing.specs.declared.scales.Scale.{Scale}
 use Rattle.prl_drawing.specs.Boxes.{coloured_text}
@@ -8,7 +9,7 @@ use Rattle.prl_drawing.specs.Rows.{row_of}
 use Rattle.prl_drawing.specs.Scales.{is_seen, x_within}
 use Rattle.prl_views.specs.declared.acts.Act.{Act}
 use Rattle.prl_views.specs.declared.parts.Part.{Part}
-use Rattle.prl_views.specs.declared.parts.TheConstants.{LEAST, MOST_PROCESSORS}
+use Rattle.prl_views.specs.declared.parts.TheConstants.{MOST_PROCESSORS}
 use Rattle.prl_views.specs.declared.verdicts.TheConstants.{HIGH}
 use Rattle.prl_views.specs.Acts.{is_in}
 

@@ -108,21 +108,6 @@ fn push_told(text: &mut Vec<u8>, plan: &Plan, scale: Scale, shape: &Shape) -> Re
     push(text, "</title></rect>\n")
 }
 
-/// Appends what is drawn over the window of a job.
-fn push_detail(
-    text: &mut Vec<u8>,
-    plan: &Plan,
-    scale: Scale,
-    shape: &Shape,
-) -> Result<(), AllocError>
-    requires task { shape.now.task < length plan.now.graph.tasks }
-    requires until { scale.until < 2 ^ 32 }
-{
-    push_bar(text, shape)?;
-    push_own_dates(text, shape)?;
-    push_told(text, plan, scale, shape)
-}
-
 /// Appends what is drawn over the windows of jobs.
 pub(crate) fn push_details(
     text: &mut Vec<u8>,
@@ -134,7 +119,9 @@ pub(crate) fn push_details(
 {
     for shape in shapes {
         if (shape.task as usize) < plan.graph().tasks.len() {
-            push_detail(text, plan, scale, shape)?;
+            push_bar(text, shape)?;
+            push_own_dates(text, shape)?;
+            push_told(text, plan, scale, shape)?;
         }
     }
     Ok(())

@@ -41,14 +41,13 @@ fn above(
 fn below(
     alloc: Global,
     plan: &Plan,
-    shown: &Shown,
     view: &View,
+    rows: u32,
     unit: &Unit,
     left_out: u64,
 ) -> Result<Vec<u8>, AllocError>
     requires view { IsView plan.now view.now }
 {
-    let rows = rows_of(alloc, view, shown)?;
     let mut text = Vec::new(alloc);
     push_head(&mut text, plan, view, unit, left_out, rows)?;
     Ok(text)
@@ -98,6 +97,7 @@ pub fn picture_of(
     let shapes = shapes_of(alloc, plan, shown, view)?;
     let inside = inside(alloc, plan, shown, view, &shapes)?;
     let above = above(alloc, plan, shown, view, &shapes)?;
-    let below = below(alloc, plan, shown, view, unit, left_out)?;
+    let rows = rows_of(alloc, view, shown)?;
+    let below = below(alloc, plan, view, rows, unit, left_out)?;
     joined(below, &inside, &above)
 }

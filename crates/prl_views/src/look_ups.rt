@@ -43,19 +43,21 @@ pub fn own_release(plan: &Plan, i: TaskNo, n: u64, until: u64) -> u64
     clock.start + n * clock.period
 }
 
-/// The encoded release of a job, in ticks.
-pub(crate) fn release_of(plan: &Plan, i: TaskNo, n: u64, until: u64) -> u64
+/// The encoded release and the encoded deadline of a job, in ticks.
+pub(crate) fn dates_of(plan: &Plan, i: TaskNo, n: u64, until: u64) -> (u64, u64)
     requires task { i.0 < length plan.now.graph.tasks }
     requires until { until < 2 ^ 32 }
     requires job { n < job_count (task_at plan.now.graph i.0) until }
-    ensures exact { result ≡ release_at plan.now i.0 n }
-    ensures early { result < 2 ^ 33 }
+    ensures release { result.0 ≡ release_at plan.now i.0 n }
+    ensures deadline { result.1 ≡ deadline_at plan.now i.0 n }
+    ensures early { result.0 < 2 ^ 33 }
+    ensures due { result.1 < 2 ^ 33 }
 {
     plan_is_one(plan);
     look_ups_fit();
     horizon_jobs_are_counted();
     let _task = task_of(plan, i);
-    plan.release(i, n)
+    (plan.release(i, n), plan.deadline(i, n))
 }
 
 /// When a job is released, in ticks: as the plan has it, or as it is spread over processors.
@@ -67,11 +69,12 @@ pub(crate) fn released(plan: &Plan, shown: &Shown, i: TaskNo, n: u64, until: u64
     ensures exact { result ≡ released_at plan.now shown.now i.0 n }
     ensures early { result < 2 ^ 33 }
 {
+    let (release, _deadline) = dates_of(plan, i, n, until);
     match shown {
         Shown::Cores(spread, _) => spread_release_of(plan, spread, i, n, until),
-        Shown::Events(_) => release_of(plan, i, n, until),
-        Shown::Verdict(..) => release_of(plan, i, n, until),
-        Shown::Table(_) => release_of(plan, i, n, until),
+        Shown::Events(_) => release,
+        Shown::Verdict(..) => release,
+        Shown::Table(_) => release,
     }
 }
 
@@ -84,26 +87,8 @@ fn spread_release_of(plan: &Plan, spread: &Spread, i: TaskNo, n: u64, until: u64
     ensures exact { result ≡ placed_release plan.now spread.now.placement i.0 n }
     ensures early { result < 2 ^ 33 }
 {
-    plan_is_one(plan);
-    look_ups_fit();
-    horizon_jobs_are_counted();
-    let _task = task_of(plan, i);
+    let _dates = dates_of(plan, i, n, until);
     spread.placed().release(plan, i, n)
-}
-
-/// The encoded deadline of a job, in ticks.
-pub(crate) fn deadline_of(plan: &Plan, i: TaskNo, n: u64, until: u64) -> u64
-    requires task { i.0 < length plan.now.graph.tasks }
-    requires until { until < 2 ^ 32 }
-    requires job { n < job_count (task_at plan.now.graph i.0) until }
-    ensures exact { result ≡ deadline_at plan.now i.0 n }
-    ensures early { result < 2 ^ 33 }
-{
-    plan_is_one(plan);
-    look_ups_fit();
-    horizon_jobs_are_counted();
-    let _task = task_of(plan, i);
-    plan.deadline(i, n)
 }
 
 /// The edge of this number.
@@ -127,6 +112,6 @@ pub fn operand_of(plan: &Plan, e: EdgeNo, n: u64, until: u64) -> Operand
     plan_is_one(plan);
     look_ups_fit();
     let edge = edge_of(plan, e);
-    let _release = release_of(plan, edge.to, n, until);
+    let _dates = dates_of(plan, edge.to, n, until);
     plan.operand(e, n)
 }

@@ -12,14 +12,11 @@ ghost use Rattle.prl_drawing.specs.Scales.{IsScale};
 use crate::acts::{Act, is_in};
 use crate::verdicts::HIGH;
 use prl_base::TaskNo;
-use prl_drawing::{GAP, Scale, push_coloured, row_of, x_within};
+use prl_drawing::{GAP, LEAST, Scale, push_coloured, row_of, x_within};
 use std::alloc::{AllocError, Global};
 
 /// How many processors there are at most.
 pub const MOST_PROCESSORS: u32 = 16;
-
-/// How wide a tick is drawn at least, in tenths of a pixel.
-pub const LEAST: u64 = 20;
 
 /// A part of the tick of an act: where it begins, and how wide it is.
 #[derive(Clone, Copy)]

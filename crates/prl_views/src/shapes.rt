@@ -6,7 +6,7 @@ ghost use Rattle.prl_views.specs.Shapes.{shape_of, shapes_of, shapes_of_row, sho
 ghost use Rattle.prl_views.specs.Shown.{IsOfPlan};
 ghost use Rattle.prl_views.specs.Views.{IsView};
 
-use crate::look_ups::{deadline_of, job_count, own_release, released, task_of};
+use crate::look_ups::{dates_of, job_count, own_release, released, task_of};
 use crate::shown::Shown;
 use crate::views::View;
 use prl_base::TaskNo;
@@ -28,7 +28,7 @@ pub(crate) fn shape_of(plan: &Plan, shown: &Shown, view: &View, row: u32, n: u64
     let task = task_of(plan, i);
     let own = own_release(plan, i, n, scale.until);
     let release = released(plan, shown, i, n, scale.until);
-    let deadline = deadline_of(plan, i, n, scale.until);
+    let (_release, deadline) = dates_of(plan, i, n, scale.until);
     Shape {
         row,
         task: i.0,

@@ -1,11 +1,10 @@
 //! What is drawn beside the windows: what a schedule does, the run of one processor, a run on several
 //! processors, or a static cyclic table.
 
-ghost use Rattle.std.specs.Prelude.{◌≡◌, ◌≤◌, IfOk, length, map};
+ghost use Rattle.std.specs.Prelude.{◌≡◌, ◌≤◌, IfOk, length};
 ghost use Rattle.std.specs.List.{flat_map};
 ghost use Rattle.prl_plan.specs.declared.limits.TheConstants.{MAX_TASKS};
-ghost use Rattle.prl_tables.specs.Tables.{IsGood};
-ghost use Rattle.prl_views.specs.Shown.{IsPiecesText, IsOfPlan, IsPartsText, piece_of, piece_text};
+ghost use Rattle.prl_views.specs.Shown.{IsPiecesText, IsOfPlan, IsPartsText, piece_text};
 ghost use Rattle.prl_views.specs.Views.{IsView};
 ghost use Rattle.prl_drawing.specs.Scales.{IsScale};
 
@@ -57,8 +56,11 @@ pub(crate) fn rows_of(alloc: Global, view: &View, shown: &Shown) -> Result<u32, 
     }
 }
 
+/// What is drawn, or want of memory.
+type Text = Result<Vec<u8>, AllocError>;
+
 /// The pieces of a run of one processor, each once.
-fn run_pieces(alloc: Global, view: &View, pieces: &[Piece]) -> Result<Vec<u8>, AllocError>
+fn run_pieces(alloc: Global, view: &View, pieces: &[Piece]) -> Text
     requires range { IsScale view.now.scale }
     requires few { length view.now.rows ≤ MAX_TASKS }
     ensures { IfOk result (λ text. text.items ≡ flat_map (piece_text view.now) pieces.now) }
@@ -70,28 +72,8 @@ fn run_pieces(alloc: Global, view: &View, pieces: &[Piece]) -> Result<Vec<u8>, A
     Ok(text)
 }
 
-/// The entries of a table, each once.
-fn table_pieces(
-    alloc: Global,
-    plan: &Plan,
-    view: &View,
-    table: &Table,
-) -> Result<Vec<u8>, AllocError>
-    requires view { IsView plan.now view.now }
-    requires table { IsGood plan.now table.now.entries }
-    ensures { IfOk result (λ text. text.items ≡ flat_map (piece_text view.now) (map piece_of table.now.entries)) }
-{
-    let pieces = pieces_of(alloc, plan, table)?;
-    run_pieces(alloc, view, &pieces)
-}
-
 /// The parts of ticks in which tasks act in a run, each once, in the rows of their processors.
-fn run_parts(
-    alloc: Global,
-    view: &View,
-    spread: &Spread,
-    events: &[Event],
-) -> Result<Vec<u8>, AllocError>
+fn run_parts(alloc: Global, view: &View, spread: &Spread, events: &[Event]) -> Text
     requires range { IsScale view.now.scale }
     requires few { length view.now.rows ≤ MAX_TASKS }
     ensures { IfOk result (λ text. IsPartsText view.now spread.now events.now text.items) }
@@ -102,12 +84,7 @@ fn run_parts(
 }
 
 /// The pieces of the run, each once, where there is one.
-pub(crate) fn pieces(
-    alloc: Global,
-    plan: &Plan,
-    view: &View,
-    shown: &Shown,
-) -> Result<Vec<u8>, AllocError>
+pub(crate) fn pieces(alloc: Global, plan: &Plan, view: &View, shown: &Shown) -> Text
     requires view { IsView plan.now view.now }
     requires shown { IsOfPlan plan.now shown.now }
     ensures { IfOk result (λ text. IsPiecesText view.now shown.now text.items) }
@@ -117,7 +94,7 @@ pub(crate) fn pieces(
         Shown::Verdict(_, Verdict::Overload { .. }) => Ok(Vec::new(alloc)),
         Shown::Verdict(_, Verdict::Run(timed)) => run_pieces(alloc, view, timed.pieces.as_slice()),
         Shown::Cores(spread, events) => run_parts(alloc, view, spread, events),
-        Shown::Table(table) => table_pieces(alloc, plan, view, table),
+        Shown::Table(table) => run_pieces(alloc, view, &pieces_of(alloc, plan, table)?),
     }
 }
 
@@ -152,20 +129,6 @@ fn load_of_run(busy: u64, ticks: u64) -> Load {
     }
 }
 
-/// Appends the signs of what a schedule does.
-fn push_events(
-    alloc: Global,
-    text: &mut Vec<u8>,
-    plan: &Plan,
-    view: &View,
-    events: &[Event],
-) -> Result<(), AllocError>
-    requires { IsView plan.now view.now }
-{
-    let acts = acts_of(alloc, events)?;
-    push_signs(text, plan, view, &acts)
-}
-
 /// Appends what a schedule does; or the load of the processor; or the mark of an overloaded interval
 /// with frames round the windows inside it; or what a run on processors does; or the load of a table.
 pub(crate) fn push_shown(
@@ -181,7 +144,7 @@ pub(crate) fn push_shown(
 {
     let row = view.count();
     match shown {
-        Shown::Events(events) => push_events(alloc, text, plan, view, events),
+        Shown::Events(events) => push_signs(text, plan, view, &acts_of(alloc, events)?),
         Shown::Verdict(horizon, Verdict::Run(timed)) => {
             push_load(text, row, load_of_run(timed.ticks(), horizon.end))
         }

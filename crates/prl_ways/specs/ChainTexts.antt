@@ -41,12 +41,9 @@ span_text graph chain = begin_text graph chain ++ until_text chain
 unfoldable pub due_text : TaskGraph → Chain → List ℕ
 due_text graph chain = codes ", and its due is " ++ decimal (task_at graph (end_of chain).task).due ++ codes ".\n"
 
-unfoldable pub released_text : Chain → List ℕ
-released_text chain = dated (codes ".\nThe last of these jobs is released at tick ") chain.released
-
 -- the release of the last job, and its due
 unfoldable pub last_text : TaskGraph → Chain → List ℕ
-last_text graph chain = released_text chain ++ due_text graph chain
+last_text graph chain = dated (codes ".\nThe last of these jobs is released at tick ") chain.released ++ due_text graph chain
 
 -- the chain with its dates
 abbrev pub chain_text : TaskGraph → Chain → List ℕ

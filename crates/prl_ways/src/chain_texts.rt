@@ -4,7 +4,7 @@ ghost use Rattle.std.specs.Prelude.{◌≡◌, ◌++◌, OnOk};
 ghost use Rattle.std.specs.List.{flat_map};
 ghost use Rattle.prl_plan.specs.Jobs.{task_at};
 ghost use Rattle.prl_ways.specs.Chains.{end_of};
-ghost use Rattle.prl_ways.specs.ChainTexts.{again_text, begin_text, chain_text, circle_text, dated, due_text, last_text, loop_text, more_text, on_text, released_text, span_text, step_text, steps_text, until_text};
+ghost use Rattle.prl_ways.specs.ChainTexts.{again_text, begin_text, chain_text, circle_text, dated, due_text, last_text, loop_text, more_text, on_text, span_text, step_text, steps_text, until_text};
 
 use crate::chains::Chain;
 use crate::jobs::{WayJob, last_of};
@@ -55,21 +55,14 @@ fn push_step(text: &mut Vec<u8>, graph: &TaskGraph, job: WayJob) -> Result<(), A
     push_number(text, wcet_or_one(graph, job))
 }
 
-/// Appends a job after another one.
-#[tactic(auto, unfolding(crate::specs::ChainTexts::more_text))]
-fn push_next(text: &mut Vec<u8>, graph: &TaskGraph, job: WayJob) -> Result<(), AllocError>
-    ensures { OnOk result (text.new.items ≡ text.old.items ++ more_text graph.now job) }
-{
-    text.extend_from_slice(b", then ")?;
-    push_step(text, graph, job)
-}
-
 /// Appends jobs, each after another one.
+#[tactic(auto, unfolding(crate::specs::ChainTexts::more_text))]
 fn push_more(text: &mut Vec<u8>, graph: &TaskGraph, jobs: &[WayJob]) -> Result<(), AllocError>
     ensures { OnOk result (text.new.items ≡ text.old.items ++ flat_map (more_text graph.now) jobs.now) }
 {
     for job in jobs {
-        push_next(text, graph, *job)?;
+        text.extend_from_slice(b", then ")?;
+        push_step(text, graph, *job)?;
     }
     Ok(())
 }
@@ -118,16 +111,11 @@ fn push_until(text: &mut Vec<u8>, chain: &Chain) -> Result<(), AllocError>
     push_dated(text, ": until tick ", chain.needs)
 }
 
-/// Appends when the last job is released.
-#[tactic(auto, unfolding(crate::specs::ChainTexts::released_text))]
-fn push_released(text: &mut Vec<u8>, chain: &Chain) -> Result<(), AllocError>
-    ensures { OnOk result (text.new.items ≡ text.old.items ++ released_text chain.now) }
+/// Appends words, and when the last job is released.
+fn push_released(text: &mut Vec<u8>, front: &str, chain: &Chain) -> Result<(), AllocError>
+    ensures { OnOk result (text.new.items ≡ text.old.items ++ dated front.now chain.now.released) }
 {
-    push_dated(
-        text,
-        ".\nThe last of these jobs is released at tick ",
-        chain.released,
-    )
+    push_dated(text, front, chain.released)
 }
 
 /// Appends from when on the chain goes, its jobs, and until when it needs at the earliest.
@@ -158,11 +146,11 @@ fn push_due(text: &mut Vec<u8>, graph: &TaskGraph, chain: &Chain) -> Result<(), 
 }
 
 /// Appends the release and the due of the last job.
-#[tactic(auto, using(crate::proofs::Joins::joined), unfolding(crate::specs::ChainTexts::last_text))]
 fn push_last(text: &mut Vec<u8>, graph: &TaskGraph, chain: &Chain) -> Result<(), AllocError>
     ensures { OnOk result (text.new.items ≡ text.old.items ++ last_text graph.now chain.now) }
 {
-    push_released(text, chain)?;
+    let front = ".\nThe last of these jobs is released at tick ";
+    push_released(text, front, chain)?;
     push_due(text, graph, chain)
 }
 
@@ -180,11 +168,8 @@ pub fn push_chain(text: &mut Vec<u8>, graph: &TaskGraph, chain: &Chain) -> Resul
 fn push_again(text: &mut Vec<u8>, chain: &Chain) -> Result<(), AllocError>
     ensures { OnOk result (text.new.items ≡ text.old.items ++ again_text chain.now) }
 {
-    push_dated(
-        text,
-        ".\nThe last of these jobs, of the task of the first, is released at tick ",
-        chain.released,
-    )?;
+    let front = ".\nThe last of these jobs, of the task of the first, is released at tick ";
+    push_released(text, front, chain)?;
     text.extend_from_slice(b" already.\n")
 }
 

@@ -6,7 +6,7 @@ ghost use Rattle.std.specs.Bool.{OnTrue};
 ghost use Rattle.prl_ways.specs.Chains.{IsChainOf, IsChainTo, IsCircle, job_of};
 
 use crate::jobs::{WayJob, is_chain, last_of, later, needs_of, release_in, wcet_in};
-use crate::searches::{searched_chain, searched_circle};
+use crate::searches::{Goal, searched, searched_circle};
 use prl_base::Seq;
 use prl_plan::TaskGraph;
 use std::alloc::{AllocError, Global};
@@ -79,7 +79,7 @@ pub fn chain_to(
 ) -> Result<Option<Chain>, AllocError>
     ensures { IfOk result (λ found. IfSome found (IsChainTo graph.now (job_of job) needs)) }
 {
-    let Some((first, rest)) = searched_chain(alloc, graph, job, needs)? else {
+    let Some((first, rest)) = searched(alloc, graph, job, Goal::Until(needs))? else {
         return Ok(None);
     };
     match chained(graph, first, rest) {

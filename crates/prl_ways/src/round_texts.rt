@@ -35,10 +35,7 @@ pub fn flow_named(flat: &Flat, label: &[u8]) -> Option<u32>
 fn is_made(label: &[u8]) -> bool
     ensures { result ≡ is_made label.now }
 {
-    match label {
-        [] => false,
-        [first, ..] => *first == b'$',
-    }
+    matches!(label, [b'$', ..])
 }
 
 /// Appends words and a label.

@@ -9,9 +9,6 @@ use prl_base::Seq;
 use prl_flow::{Arg, Flat};
 use std::alloc::{AllocError, Global};
 
-/// Stands where no flow is.
-const NO_FLOW: u32 = u32::MAX;
-
 /// A cycle: a flow, and those after it round the cycle, each used by the one before it and the last using the first.
 #[derive(Drop)]
 pub struct Round {
@@ -20,11 +17,11 @@ pub struct Round {
     pub rest: Seq<u32>,
 }
 
-/// A search: which flows were met, in their order, and for each flow the one that uses it, or `NO_FLOW`.
+/// A search: which flows were met, in their order, and for each flow the one that uses it, where one was met.
 #[derive(Drop)]
 struct Search {
     met: Vec<u32>,
-    users: Vec<u32>,
+    users: Vec<Option<u32>>,
 }
 
 /// Whether each flow uses the next, and the last one the end.
@@ -42,7 +39,7 @@ fn is_way(flat: &Flat, along: Along, first: u32, rest: &[u32], end: u32) -> bool
 /// Meets a flow that another one uses.
 fn meet(search: &mut Search, user: u32, flow: u32) -> Result<(), AllocError> {
     match search.users.get_mut(flow as usize) {
-        Some(place) if *place == NO_FLOW => *place = user,
+        Some(place) if place.is_none() => *place = Some(user),
         _ => return Ok(()),
     }
     search.met.push(flow)?;
@@ -74,7 +71,7 @@ fn searched(alloc: Global, flat: &Flat, along: Along, first: u32) -> Result<Sear
     let count = flat.flows().len();
     let mut search = Search {
         met: Vec::new(alloc),
-        users: vec![in alloc; NO_FLOW; count]?,
+        users: vec![in alloc; None; count]?,
     };
     meet_used(&mut search, flat, along, first)?;
     for k in 0..count {
@@ -91,13 +88,13 @@ fn way_back(alloc: Global, search: &Search, first: u32) -> Result<Vec<u32>, Allo
     let mut way = Vec::new(alloc);
     let mut flow = first;
     for _ in 0..search.users.len() {
-        let Some(user) = search.users.as_slice().get(flow as usize) else {
+        let Some(Some(user)) = search.users.as_slice().get(flow as usize).copied() else {
             break;
         };
-        if *user == first || *user == NO_FLOW {
+        if user == first {
             break;
         }
-        flow = *user;
+        flow = user;
         way.push(flow)?;
     }
     way.reverse();

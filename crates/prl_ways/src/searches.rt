@@ -10,6 +10,13 @@ const MOST_STEPS: usize = 20_000;
 /// A first job, and those after it.
 pub(crate) type Found = (WayJob, Vec<WayJob>);
 
+/// What is searched for: a chain that needs until a date, or a circle.
+#[derive(Clone, Copy)]
+pub(crate) enum Goal {
+    Until(i64),
+    Circle,
+}
+
 /// A job from which a chain leads to the one that is looked at: the WCETs from it on, and the step of the next job.
 #[derive(Clone, Copy)]
 struct Step {
@@ -45,9 +52,11 @@ fn push_before(
     steps: &mut Vec<Step>,
     graph: &TaskGraph,
     k: usize,
-    step: Step,
     edge: &Edge,
 ) -> Result<(), AllocError> {
+    let Some(step) = steps.as_slice().get(k).copied() else {
+        return Ok(());
+    };
     let Some(job) = job_before(edge, step.job) else {
         return Ok(());
     };
@@ -63,14 +72,9 @@ fn push_before(
 }
 
 /// Adds the jobs that precede that of a step.
-fn push_all_before(
-    steps: &mut Vec<Step>,
-    graph: &TaskGraph,
-    k: usize,
-    step: Step,
-) -> Result<(), AllocError> {
+fn push_all_before(steps: &mut Vec<Step>, graph: &TaskGraph, k: usize) -> Result<(), AllocError> {
     for edge in graph.edges.as_slice() {
-        push_before(steps, graph, k, step, edge)?;
+        push_before(steps, graph, k, edge)?;
     }
     Ok(())
 }
@@ -132,12 +136,21 @@ fn circle_end(graph: &TaskGraph, steps: &[Step], from: usize, first: Step) -> Op
     None
 }
 
-/// The search for a chain that needs until a date.
-pub(crate) fn searched_chain(
+/// The number of the step that the goal ends at, where it begins at this step.
+fn end_of(graph: &TaskGraph, steps: &[Step], k: usize, step: Step, goal: Goal) -> Option<usize> {
+    match goal {
+        Goal::Until(needs) if needs_until(graph, step, needs) => Some(0),
+        Goal::Until(_) => None,
+        Goal::Circle => circle_end(graph, steps, k, step),
+    }
+}
+
+/// The search for a goal, back from a job.
+pub(crate) fn searched(
     alloc: Global,
     graph: &TaskGraph,
     job: WayJob,
-    needs: i64,
+    goal: Goal,
 ) -> Result<Option<Found>, AllocError> {
     let mut steps = Vec::new(alloc);
     let Some(tail) = wcet_in(graph, job) else {
@@ -148,10 +161,10 @@ pub(crate) fn searched_chain(
         let Some(step) = steps.as_slice().get(k).copied() else {
             return Ok(None);
         };
-        if needs_until(graph, step, needs) {
-            return chain_of(alloc, steps.as_slice(), k, 0);
+        if let Some(end) = end_of(graph, steps.as_slice(), k, step, goal) {
+            return chain_of(alloc, steps.as_slice(), k, end);
         }
-        push_all_before(&mut steps, graph, k, step)?;
+        push_all_before(&mut steps, graph, k)?;
     }
     Ok(None)
 }
@@ -177,22 +190,8 @@ pub(crate) fn searched_circle(
     graph: &TaskGraph,
     job: WayJob,
 ) -> Result<Option<Found>, AllocError> {
-    let mut steps = Vec::new(alloc);
-    let Some(job) = later_job(graph, job) else {
-        return Ok(None);
-    };
-    let Some(tail) = wcet_in(graph, job) else {
-        return Ok(None);
-    };
-    steps.push(Step { job, tail, next: 0 })?;
-    for k in 0..MOST_STEPS {
-        let Some(step) = steps.as_slice().get(k).copied() else {
-            return Ok(None);
-        };
-        if let Some(end) = circle_end(graph, steps.as_slice(), k, step) {
-            return chain_of(alloc, steps.as_slice(), k, end);
-        }
-        push_all_before(&mut steps, graph, k, step)?;
+    match later_job(graph, job) {
+        None => Ok(None),
+        Some(job) => searched(alloc, graph, job, Goal::Circle),
     }
-    Ok(None)
 }

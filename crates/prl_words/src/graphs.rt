@@ -18,17 +18,6 @@ pub enum WordFault {
     Memory,
 }
 
-impl From<AllocError> for WordFault {
-    ghost use Rattle.std.specs.Prelude.{◌≡◌};
-    ghost use Rattle.prl_words.specs.declared.graphs.WordFault.TheVariants.{Memory};
-
-    ghost from_gives = { λ _ e. e ≡ Memory };
-
-    fn from(_error: AllocError) -> WordFault {
-        WordFault::Memory
-    }
-}
-
 /// The words of the edges, where the limit is kept.
 fn listed(alloc: Global, graph: &TaskGraph) -> Result<Words, AllocError>
     requires well { IsWellFormed graph.now }
@@ -59,6 +48,8 @@ pub fn words(alloc: Global, graph: &TaskGraph) -> Result<Words, WordFault>
             found,
         }));
     }
-    let words = listed(alloc, graph)?;
-    Ok(words)
+    match listed(alloc, graph) {
+        Ok(words) => Ok(words),
+        Err(_) => Err(WordFault::Memory),
+    }
 }

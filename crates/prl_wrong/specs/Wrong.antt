@@ -18,7 +18,7 @@ pub data Fault : Type 0 where
   -- an option has to stand there, and the word is none
   NoOption : List ℕ → Fault
   -- the mode has not the option
-  NotTaken : Mode → Setting → Fault
+  NotTaken : Setting → Fault
   -- a later word is the same option
   Again : Setting → Fault
   -- the option has no value
@@ -26,17 +26,17 @@ pub data Fault : Type 0 where
   -- the option may not have this value
   BadValue : Setting → List ℕ → Fault
   -- the mode needs the option
-  Missing : Mode → Setting → Fault
+  Missing : Setting → Fault
 
 abbrev pub shown : Wrong → Fault
 shown wrongs.NoMode = NoMode
 shown (wrongs.NoSuchMode word) = NoSuchMode word.now
 shown (wrongs.NoOption word) = NoOption word.now
-shown (wrongs.NotTaken mode setting) = NotTaken mode setting
+shown (wrongs.NotTaken setting) = NotTaken setting
 shown (wrongs.Again setting) = Again setting
 shown (wrongs.NoValue setting) = NoValue setting
 shown (wrongs.BadValue setting value) = BadValue setting value.now
-shown (wrongs.Missing mode setting) = Missing mode setting
+shown (wrongs.Missing setting) = Missing setting
 
 -- the value is a number, or `gated` or `free`, where the option wants one
 abbrev pub is_spelled : Setting → List ℕ → Bool
@@ -85,7 +85,7 @@ named_sight mode word later None = Faulty (NoOption word)
 named_sight mode word later (Some named) =
     if has mode named.0 then
     (if is_named named.0 later then Faulty (Again named.0) else own_sight named.0 named.1)
-    else Faulty (NotTaken mode named.0)
+    else Faulty (NotTaken named.0)
 
 -- what the word is that stands before these
 abbrev pub sight_of : Mode → List ℕ → List (List ℕ) → Sight
@@ -109,13 +109,13 @@ walked mode None (word ∷ later) = going_on (sight_of mode word later) (λ want
 walked mode (Some setting) (value ∷ later) = or_else (value_fault setting value) (walked mode None later)
 
 -- the first of these options that no word is
-abbrev pub missing : Mode → List Setting → List (List ℕ) → Option Fault
-missing mode [] words = None
-missing mode (setting ∷ rest) words = if is_named setting words then missing mode rest words else Some (Missing mode setting)
+abbrev pub missing : List Setting → List (List ℕ) → Option Fault
+missing [] words = None
+missing (setting ∷ rest) words = if is_named setting words then missing rest words else Some (Missing setting)
 
 abbrev pub wrong_after : Option Mode → List ℕ → List (List ℕ) → Option Fault
 wrong_after None word rest = Some (NoSuchMode word)
-wrong_after (Some mode) word rest = or_else (walked mode None rest) (missing mode (needed mode) rest)
+wrong_after (Some mode) word rest = or_else (walked mode None rest) (missing (needed mode) rest)
 
 -- What is wrong first: with the mode, with a word, or with what is not there.
 abbrev pub wrong_of : List (List ℕ) → Option Fault

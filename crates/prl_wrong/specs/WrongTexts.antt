@@ -1,27 +1,10 @@
 -- How it is told which word of a command line is wrong.
-use Rattle.std.specs.Prelude.{◌++◌, ℕ, List, [], Option, Some, None, codes, drop}
+use Rattle.std.specs.Prelude.{◌++◌, ℕ, List, [], ◌∷◌, Option, Some, None, codes, drop}
 use Rattle.prl_arguments.specs.declared.arguments.Command.{Command}
-use Rattle.prl_arguments.specs.declared.arguments.Mode.{Mode}
-use Rattle.prl_arguments.specs.declared.arguments.Mode.TheVariants as modes
 use Rattle.prl_arguments.specs.declared.arguments.Setting.{Setting}
 use Rattle.prl_arguments.specs.declared.arguments.Setting.TheVariants as settings
 use Rattle.prl_arguments.specs.Arguments.{command_of, name_of}
 use Rattle.prl_wrong.specs.Wrong.{Fault, NoMode, NoSuchMode, NoOption, NotTaken, Again, NoValue, BadValue, Missing, wrong_of}
-
--- the name of a mode
-abbrev pub mode_name : Mode → List ℕ
-mode_name modes.Check = codes "check"
-mode_name modes.Cores = codes "cores"
-mode_name modes.Cycle = codes "cycle"
-mode_name modes.Edf = codes "edf"
-mode_name modes.Flows = codes "flows"
-mode_name modes.Generate = codes "generate"
-mode_name modes.Plan = codes "plan"
-mode_name modes.Print = codes "print"
-mode_name modes.Replay = codes "replay"
-mode_name modes.Run = codes "run"
-mode_name modes.Schedule = codes "schedule"
-mode_name modes.Table = codes "table"
 
 -- a word between others
 unfoldable pub worded : List ℕ → List ℕ → List ℕ → List ℕ
@@ -48,19 +31,19 @@ no_value_text setting =
 unfoldable pub no_option_of_text : Setting → List ℕ
 no_option_of_text setting = option_text setting (codes "`: it is no option of mode `")
 
-unfoldable pub mode_end_text : Mode → List ℕ
-mode_end_text mode = mode_name mode ++ codes "`.\n"
+unfoldable pub mode_end_text : List ℕ → List ℕ
+mode_end_text mode = mode ++ codes "`.\n"
 
-unfoldable pub not_taken_text : Mode → Setting → List ℕ
+unfoldable pub not_taken_text : List ℕ → Setting → List ℕ
 not_taken_text mode setting = no_option_of_text setting ++ mode_end_text mode
 
-unfoldable pub needs_text : Mode → List ℕ
-needs_text mode = worded (codes "Each word is right, and one is missing: mode `") (mode_name mode) (codes "` needs `--")
+unfoldable pub needs_text : List ℕ → List ℕ
+needs_text mode = worded (codes "Each word is right, and one is missing: mode `") mode (codes "` needs `--")
 
 unfoldable pub too_text : Setting → List ℕ
 too_text setting = name_of setting ++ codes "` too.\n"
 
-unfoldable pub missing_text : Mode → Setting → List ℕ
+unfoldable pub missing_text : List ℕ → Setting → List ℕ
 missing_text mode setting = needs_text mode ++ too_text setting
 
 -- what an option wants
@@ -78,25 +61,30 @@ wants_text setting = name_of setting ++ codes "` wants " ++ wanted_text setting 
 unfoldable pub bad_value_text : Setting → List ℕ → List ℕ
 bad_value_text setting value = word_text value (codes "`: `--") ++ wants_text setting
 
-abbrev pub fault_text : Fault → List ℕ
-fault_text NoMode = no_mode_text
-fault_text (NoSuchMode word) = word_text word (codes "`: it is no mode.\n")
-fault_text (NoOption word) = no_option_text word
-fault_text (NotTaken mode setting) = not_taken_text mode setting
-fault_text (Again setting) = option_text setting (codes "`: it stands there twice.\n")
-fault_text (NoValue setting) = no_value_text setting
-fault_text (BadValue setting value) = bad_value_text setting value
-fault_text (Missing mode setting) = missing_text mode setting
+-- what is told of what is wrong, by the word of the mode
+abbrev pub fault_text : List ℕ → Fault → List ℕ
+fault_text mode NoMode = no_mode_text
+fault_text mode (NoSuchMode word) = word_text word (codes "`: it is no mode.\n")
+fault_text mode (NoOption word) = no_option_text word
+fault_text mode (NotTaken setting) = not_taken_text mode setting
+fault_text mode (Again setting) = option_text setting (codes "`: it stands there twice.\n")
+fault_text mode (NoValue setting) = no_value_text setting
+fault_text mode (BadValue setting value) = bad_value_text setting value
+fault_text mode (Missing setting) = missing_text mode setting
 
-abbrev pub fault_told : Option Fault → List ℕ
-fault_told None = []
-fault_told (Some fault) = fault_text fault
+abbrev pub fault_told : List ℕ → Option Fault → List ℕ
+fault_told mode None = []
+fault_told mode (Some fault) = fault_text mode fault
+
+abbrev pub first_of : List (List ℕ) → List ℕ
+first_of [] = []
+first_of (word ∷ words) = word
 
 unfoldable pub command_text : List ℕ
 command_text = codes "These words are a command, which was not refused: give the words of the one that was.\n"
 
 abbrev pub told_of : List (List ℕ) → Option Command → List ℕ
-told_of words None = fault_told (wrong_of words)
+told_of words None = fault_told (first_of words) (wrong_of words)
 told_of words (Some command) = command_text
 
 -- what is told of the words of a command line, of which the first is not read

@@ -3,31 +3,11 @@
 ghost use Rattle.std.specs.Prelude.{◌≡◌, ◌++◌, IfOk, OnOk, drop, map};
 ghost use Rattle.std.specs.String.{string_bytes};
 ghost use Rattle.prl_wrong.specs.Wrong.{shown};
-ghost use Rattle.prl_wrong.specs.WrongTexts.{bad_value_text, command_text, fault_text, missing_text, mode_end_text, mode_name, needs_text, no_mode_text, no_option_of_text, no_option_text, no_value_text, not_taken_text, option_text, too_text, wanted_text, wants_text, word_text, words_text, worded};
+ghost use Rattle.prl_wrong.specs.WrongTexts.{bad_value_text, command_text, fault_text, first_of, missing_text, mode_end_text, needs_text, no_mode_text, no_option_of_text, no_option_text, no_value_text, not_taken_text, option_text, too_text, wanted_text, wants_text, word_text, words_text, worded};
 
 use crate::wrongs::{Wrong, wrong_of};
-use prl_arguments::{Mode, Setting, WordsFault, name_of, read_words};
+use prl_arguments::{Setting, WordsFault, name_of, read_words};
 use std::alloc::{AllocError, Global};
-
-/// The name of a mode.
-fn mode_name(mode: Mode) -> &'static str
-    ensures { result.now ≡ mode_name mode }
-{
-    match mode {
-        Mode::Check => "check",
-        Mode::Cores => "cores",
-        Mode::Cycle => "cycle",
-        Mode::Edf => "edf",
-        Mode::Flows => "flows",
-        Mode::Generate => "generate",
-        Mode::Plan => "plan",
-        Mode::Print => "print",
-        Mode::Replay => "replay",
-        Mode::Run => "run",
-        Mode::Schedule => "schedule",
-        Mode::Table => "table",
-    }
-}
 
 /// Appends a word between others.
 #[tactic(auto, unfolding(crate::specs::WrongTexts::worded))]
@@ -82,10 +62,10 @@ fn push_no_value(told: &mut Vec<u8>, setting: Setting) -> Result<(), AllocError>
 
 /// Appends the name of a mode at the end of the line.
 #[tactic(auto, unfolding(crate::specs::WrongTexts::mode_end_text))]
-fn push_mode_end(told: &mut Vec<u8>, mode: Mode) -> Result<(), AllocError>
-    ensures { OnOk result (told.new.items ≡ told.old.items ++ mode_end_text mode) }
+fn push_mode_end(told: &mut Vec<u8>, mode: &[u8]) -> Result<(), AllocError>
+    ensures { OnOk result (told.new.items ≡ told.old.items ++ mode_end_text mode.now) }
 {
-    told.extend_from_slice(mode_name(mode).as_bytes())?;
+    told.extend_from_slice(mode)?;
     told.extend_from_slice(b"`.\n")
 }
 
@@ -99,8 +79,8 @@ fn push_no_option_of(told: &mut Vec<u8>, setting: Setting) -> Result<(), AllocEr
 
 /// Appends that a mode has not the option.
 #[tactic(auto, using(crate::proofs::Joins::joined), unfolding(crate::specs::WrongTexts::not_taken_text))]
-fn push_not_taken(told: &mut Vec<u8>, mode: Mode, setting: Setting) -> Result<(), AllocError>
-    ensures { OnOk result (told.new.items ≡ told.old.items ++ not_taken_text mode setting) }
+fn push_not_taken(told: &mut Vec<u8>, mode: &[u8], setting: Setting) -> Result<(), AllocError>
+    ensures { OnOk result (told.new.items ≡ told.old.items ++ not_taken_text mode.now setting) }
 {
     push_no_option_of(told, setting)?;
     push_mode_end(told, mode)
@@ -108,13 +88,13 @@ fn push_not_taken(told: &mut Vec<u8>, mode: Mode, setting: Setting) -> Result<()
 
 /// Appends that a mode needs an option, but for the option.
 #[tactic(auto, unfolding(crate::specs::WrongTexts::needs_text))]
-fn push_needs(told: &mut Vec<u8>, mode: Mode) -> Result<(), AllocError>
-    ensures { OnOk result (told.new.items ≡ told.old.items ++ needs_text mode) }
+fn push_needs(told: &mut Vec<u8>, mode: &[u8]) -> Result<(), AllocError>
+    ensures { OnOk result (told.new.items ≡ told.old.items ++ needs_text mode.now) }
 {
     push_worded(
         told,
         b"Each word is right, and one is missing: mode `",
-        mode_name(mode).as_bytes(),
+        mode,
         b"` needs `--",
     )
 }
@@ -130,8 +110,8 @@ fn push_too(told: &mut Vec<u8>, setting: Setting) -> Result<(), AllocError>
 
 /// Appends that a mode needs an option.
 #[tactic(auto, using(crate::proofs::Joins::joined), unfolding(crate::specs::WrongTexts::missing_text))]
-fn push_missing(told: &mut Vec<u8>, mode: Mode, setting: Setting) -> Result<(), AllocError>
-    ensures { OnOk result (told.new.items ≡ told.old.items ++ missing_text mode setting) }
+fn push_missing(told: &mut Vec<u8>, mode: &[u8], setting: Setting) -> Result<(), AllocError>
+    ensures { OnOk result (told.new.items ≡ told.old.items ++ missing_text mode.now setting) }
 {
     push_needs(told, mode)?;
     push_too(told, setting)
@@ -171,19 +151,19 @@ fn push_bad_value(told: &mut Vec<u8>, setting: Setting, value: &[u8]) -> Result<
     push_wants(told, setting)
 }
 
-/// Appends what is wrong.
-fn push_wrong(told: &mut Vec<u8>, wrong: &Wrong<'_>) -> Result<(), AllocError>
-    ensures { OnOk result (told.new.items ≡ told.old.items ++ fault_text (shown wrong.now)) }
+/// Appends what is wrong, by the word of the mode.
+fn push_wrong(told: &mut Vec<u8>, mode: &[u8], wrong: &Wrong<'_>) -> Result<(), AllocError>
+    ensures { OnOk result (told.new.items ≡ told.old.items ++ fault_text mode.now (shown wrong.now)) }
 {
     match wrong {
         Wrong::NoMode => push_no_mode(told),
         Wrong::NoSuchMode(word) => push_word(told, word, b"`: it is no mode.\n"),
         Wrong::NoOption(word) => push_no_option(told, word),
-        Wrong::NotTaken(mode, setting) => push_not_taken(told, *mode, *setting),
+        Wrong::NotTaken(setting) => push_not_taken(told, mode, *setting),
         Wrong::Again(setting) => push_option(told, *setting, b"`: it stands there twice.\n"),
         Wrong::NoValue(setting) => push_no_value(told, *setting),
         Wrong::BadValue(setting, value) => push_bad_value(told, *setting, value),
-        Wrong::Missing(mode, setting) => push_missing(told, *mode, *setting),
+        Wrong::Missing(setting) => push_missing(told, mode, *setting),
     }
 }
 
@@ -207,6 +187,16 @@ fn after_first(words: &[String]) -> &[String]
     }
 }
 
+/// The first of the words; no bytes where there is none.
+fn first_of(words: &[String]) -> &[u8]
+    ensures { result.now ≡ first_of (map string_bytes words.now) }
+{
+    match words {
+        [] => &[],
+        [word, ..] => word.as_bytes(),
+    }
+}
+
 /// What is told of the words of a command line, of which the first is not read: which one is
 /// wrong first and why, or that they are a command.
 pub fn words_told(alloc: Global, words: &[String]) -> Result<Vec<u8>, AllocError>
@@ -217,8 +207,9 @@ pub fn words_told(alloc: Global, words: &[String]) -> Result<Vec<u8>, AllocError
         Ok(_) => push_command(&mut told)?,
         Err(WordsFault::Memory) => return Err(AllocError),
         Err(WordsFault::Refused) => {
-            if let Some(wrong) = wrong_of(after_first(words)) {
-                push_wrong(&mut told, &wrong)?;
+            let words = after_first(words);
+            if let Some(wrong) = wrong_of(words) {
+                push_wrong(&mut told, first_of(words), &wrong)?;
             }
         }
     }

@@ -23,7 +23,7 @@ pub enum Wrong<'a> {
     /// An option has to stand there, and the word is none.
     NoOption(&'a [u8]),
     /// The mode has not the option.
-    NotTaken(Mode, Setting),
+    NotTaken(Setting),
     /// A later word is the same option.
     Again(Setting),
     /// The option has no value.
@@ -31,7 +31,7 @@ pub enum Wrong<'a> {
     /// The option may not have this value.
     BadValue(Setting, &'a [u8]),
     /// The mode needs the option.
-    Missing(Mode, Setting),
+    Missing(Setting),
 }
 
 /// What a word is, where an option has to stand.
@@ -157,7 +157,7 @@ fn named_sight<'a>(
         return Look::Faulty(Wrong::NoOption(word));
     };
     if !has(mode, setting) {
-        return Look::Faulty(Wrong::NotTaken(mode, setting));
+        return Look::Faulty(Wrong::NotTaken(setting));
     }
     if is_named(setting, later) {
         return Look::Faulty(Wrong::Again(setting));
@@ -196,16 +196,16 @@ fn walked<'a>(mode: Mode, wants: Option<Setting>, words: &'a [String]) -> Option
 }
 
 /// The first of these options that no word is.
-fn missing<'a>(mode: Mode, settings: &[Setting], words: &[String]) -> Option<Wrong<'a>>
-    ensures { option_map shown result ≡ missing mode settings.now (map string_bytes words.now) }
+fn missing<'a>(settings: &[Setting], words: &[String]) -> Option<Wrong<'a>>
+    ensures { option_map shown result ≡ missing settings.now (map string_bytes words.now) }
 {
     match settings {
         [] => None,
         [first, rest @ ..] => {
             if is_named(*first, words) {
-                missing(mode, rest, words)
+                missing(rest, words)
             } else {
-                Some(Wrong::Missing(mode, *first))
+                Some(Wrong::Missing(*first))
             }
         }
     }
@@ -220,7 +220,7 @@ fn wrong_after<'a>(mode: Option<Mode>, word: &'a [u8], rest: &'a [String]) -> Op
     };
     match walked(mode, None, rest) {
         Some(wrong) => Some(wrong),
-        None => missing(mode, needed(mode), rest),
+        None => missing(needed(mode), rest),
     }
 }
 

@@ -31,3 +31,10 @@ pub record IsUnderWay (U : ℕ → ℕ → Type 0) (n from done : ℕ) (reached 
 -- the arguments of each application with a mark of its own have their marks
 pub record AreOpened (p : FlatProgram) (marks opened : List Bool) : Type 0 where
   pub marked : (k : ℕ) → IsMarked opened k → (i : ℕ) → IsArgument p k i → IsMarked marks i
+
+-- what a search keeps while it goes on: the flows that are reached, and the applications whose arguments are
+pub record IsSearch (p : FlatProgram) (reached : List ℕ) (marks looked : List Bool) : Type 0 where
+  pub list : IsList reached marks
+  pub len : length marks ≡ length p.flows
+  pub apps : length looked ≡ length p.apps
+  pub opened : AreOpened p marks looked

@@ -7,6 +7,7 @@ use Rattle.prl_flow.specs.declared.programs.Def.{Def}
 use Rattle.prl_flow.specs.declared.programs.Def.TheVariants as definitions
 use Rattle.prl_flow.specs.Programs.{FlatProgram}
 use Rattle.prl_flow.specs.Uses.{IsArgument}
+use Rattle.prl_causal.specs.declared.causality.Uses.{Uses}
 use Rattle.prl_causal.specs.declared.sources.Source.{Source}
 use Rattle.prl_causal.specs.declared.sources.Source.TheVariants as sources
 
@@ -33,6 +34,11 @@ all_undelayed p = map (λ f. undelayed_of f.def) p.flows
 -- what each flow uses, delayed or not, and not through an application
 abbrev pub all_inside : FlatProgram → List Source
 all_inside p = map (λ f. inside_of f.def) p.flows
+
+-- the two lists are those of the flat program
+pub record AreUses (uses : Uses) : Type 0 where
+  pub undelayed : uses.undelayed.now ≡ all_undelayed uses.flat.now
+  pub inside : uses.inside.now ≡ all_inside uses.flat.now
 
 -- flow `j` is among what is used
 abbrev pub Names : FlatProgram → Source → ℕ → Type 0

@@ -11,11 +11,8 @@ RunsNothing mode = Unit {0}
 
 -- the mode runs nothing, and keeps the texts of its files to its end
 abbrev pub KeepsTexts : Mode → Type 0
-KeepsTexts modes.Run = ⊥
-KeepsTexts modes.Generate = ⊥
-KeepsTexts modes.Cycle = ⊥
 KeepsTexts modes.Flows = ⊥
-KeepsTexts mode = Unit {0}
+KeepsTexts mode = RunsNothing mode
 
 -- the texts of the mode are those of files
 abbrev pub HasFiles : Mode → Type 0

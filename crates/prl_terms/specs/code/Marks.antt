@@ -1,6 +1,5 @@
 -- How the rules that were met so far are kept: each parameter has a mark, its type or the parameter whose type it shares.
 use Rattle.std.specs.Prelude.{◌≡◌, ◌≢◌, ◌==◌, ◌<◌, ℕ, List, [], ◌++◌, length, slice_index_or, slice_set, Contains, map, ◌⊎◌, if◌then◌else◌}
-use Rattle.prl_base.specs.declared.values.Ty.{Ty}
 use Rattle.prl_terms.specs.declared.terms.Term.{Term}
 use Rattle.prl_terms.specs.declared.terms.Term.TheVariants as terms
 use Rattle.prl_terms.specs.declared.terms.Rule.{Rule}
@@ -8,6 +7,7 @@ use Rattle.prl_terms.specs.declared.solving.Marks.{Marks}
 use Rattle.prl_terms.specs.declared.solving.Unsolved.{Unsolved}
 use Rattle.prl_terms.specs.declared.solving.Unsolved.TheVariants as unsolved
 use Rattle.prl_terms.specs.Choices.{Choice, type_in, MeetsAll, FitsTerm}
+use Rattle.prl_terms.specs.Solutions.{Contradicts}
 
 -- the mark of a parameter
 abbrev pub mark_of : List Term → ℕ → Term
@@ -79,15 +79,6 @@ lists_of m = map (λ c. c.items) m.members.items
 pub record IsKept (m : Marks) : Type 0 where
   pub settled : IsSettled m.marks.items
   pub members : AreMembers m.marks.items (lists_of m)
-
--- the two sides of the rule contradict each other, for each choice that meets the rules before it
-pub record Contradicts (rules : List Rule) (rule : Rule) (at : ℕ) (wanted found : Ty) : Type 0 where
-  pub choice : Choice
-  pub meets : MeetsAll choice rules
-  pub place : at ≡ rule.at
-  pub wanted_is : (c : Choice) → MeetsAll c rules → type_in c rule.wanted ≡ wanted
-  pub found_is : (c : Choice) → MeetsAll c rules → type_in c rule.found ≡ found
-  pub differ : wanted ≢ found
 
 abbrev pub Refuses : List Rule → Rule → Unsolved → Type 0
 Refuses rules rule (unsolved.Mismatch at wanted found) = Contradicts rules rule at wanted found

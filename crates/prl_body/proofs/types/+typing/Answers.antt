@@ -1,6 +1,7 @@
-use Rattle.prl_base.proofs.Standard.{◌≡◌, suc, List, ◌+◌, Result, Ok, sym, ap, ◌∙◌, subst, drop, drop-cons, [], ◌∷◌, add-one, drop_all, err_from_is_err_and}
+use Rattle.prl_base.proofs.Standard.{◌≡◌, List, ◌+◌, Result, Ok, sym, ap, ◌∙◌, subst, drop, [], drop_all, err_from_is_err_and}
 use Rattle.prl_base.specs.declared.values.Ty.{Ty}
 use Rattle.prl_body.specs.Vocabulary.{BodyFault, ExprRight, expression_of, pair_expressions, Expression, Rights, tree_of, pair_trees, typed, typed_rights}
+use Rattle.prl_body.proofs.Lists.{next_of}
 use Rattle.prl_body.proofs.TextSeries.{tree_of_Series}
 use Rattle.prl_body.proofs.Typing.{expression_of_Series, typed_series, fails_series, rights_step, with_rights_none, prepended}
 use Rattle.prl_body.proofs.types.+typing.Goals as goal
@@ -10,14 +11,13 @@ typed-returns-in_err-rights-in-Series t c =
     let ins = c.args.scope.now.ins in
     let registers = c.args.scope.now.registers in
     let tree = tree_of c.in-Series.first.value in
-    let rights = pair_trees c.in-Series.rights.items in
     let p = err_from_is_err_and c.from_residual-in_err-rights-in-Series.result c.from_residual-in_err-rights-in-Series.ensures.1 in
     let code = expression_of c.in_ok-first-in-Series.first.value in
     let first : typed ins registers tree ≡ Ok (code, c.in_ok-first-in-Series.left) = rw c.deref-in-Series.ensures at c.in_ok-first-in-Series.ensures in
     let later = rw c.deref-in-Series-2.ensures.value at c.in_err-rights-in-Series.ensures in
-    let whole = ap (typed ins registers) (tree_of_Series c.in-Series.first c.in-Series.rights) in
     let fault = c.in_err-rights-in-Series.field-0.0 in
-    rw (p.1, p.2, c.in-Series.is) (λ other. whole ∙ fails_series ins registers tree rights code c.in_ok-first-in-Series.left fault first (later other))
+    rw (p.1, p.2, c.in-Series.is) (λ other. ap (typed ins registers) (tree_of_Series c.in-Series.first c.in-Series.rights)
+    ∙ fails_series ins registers tree (pair_trees c.in-Series.rights.items) code c.in_ok-first-in-Series.left fault first (later other))
 
 pub typed-returns-in_ok-rights-in-Series : goal.typed-returns-in_ok-rights-in-Series
 typed-returns-in_ok-rights-in-Series t c =
@@ -42,8 +42,7 @@ typed_rights-loop-pair-preserved t c =
     let rights = c.args.rights.now in
     let k = c.loop-pair.pair-index in
     let whole = typed_rights ins registers c.args.left (pair_trees rights) in
-    let next : drop k rights ≡ c.pair-item.result ∷ drop (k + 1) rights =
-    rw add-one (drop-cons rights k c.pair-item.result c.loop-pair-test.true ∙ ap (λ (x : ExprRight). x ∷ drop (suc k) rights) (sym c.pair-item.is)) in
+    let next = next_of rights k c.pair-item.result c.loop-pair-test.true c.pair-item.is in
     let Before : List ExprRight → Type 0 = λ rest. prepended c.loop-pair.typed_ones.items (typed_rights ins registers c.loop-pair.ty (pair_trees rest)) ≡ whole in
     rw (c.in_ok-push.ensures.items, c.result_type-ty.ensures)
     (rights_step ins registers c.loop-pair.ty c.loop-pair.typed_ones.items c.pair-item.result (drop (k + 1) rights) c.in_ok-right.right c.in_ok-right.right_ty whole

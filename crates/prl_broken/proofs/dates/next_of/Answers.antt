@@ -6,15 +6,13 @@ pub release-requires-clause-small : goal.release-requires-clause-small
 release-requires-clause-small c =
     let fit = next_fits c.args.plan.now c.plan_is_one.ensures c.look_ups_fit.ensures.horizon c.args.i.0 c.requires c.args.n c.clock_of-clock.result
     c.clock_of-clock.ensures.clock c.if-own-ge-DATES.false in
-    let small = fit.2 in
-    omega (arith, small)
+    omega (arith, fit.2)
 
 pub deadline-requires-clause-small : goal.deadline-requires-clause-small
 deadline-requires-clause-small c =
     let fit = next_fits c.args.plan.now c.plan_is_one.ensures c.look_ups_fit.ensures.horizon c.args.i.0 c.requires c.args.n c.clock_of-clock.result
     c.clock_of-clock.ensures.clock c.if-own-ge-DATES.false in
-    let small = fit.3 in
-    omega (arith, small)
+    omega (arith, fit.3)
 
 pub returns : goal.returns
 returns c =

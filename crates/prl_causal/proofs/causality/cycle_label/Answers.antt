@@ -7,7 +7,7 @@ use Rattle.prl_causal.proofs.causality.cycle_label.Goals as goal
 
 pub returns-in-Some : goal.returns-in-Some
 returns-in-Some c =
-    let p = c.args.flat.now in
+    let p = c.args.uses.flat.now in
     let i = c.in-Some.flow in
     let first = rw c.in-Some.is at c.in_ok-flow.ensures in
     elim c.label_of.result as (λ r. IfOk r (IsLabelOf p i) → IfOk r (IsCycleLabel p)) [
@@ -17,7 +17,7 @@ returns-in-Some c =
 
 pub returns-in-Some-2 : goal.returns-in-Some-2
 returns-in-Some-2 c =
-    let p = c.args.flat.now in
+    let p = c.args.uses.flat.now in
     let i = c.in-Some-2.flow in
     let made = rw c.in-None.is at c.in_ok-flow.ensures in
     let first = rw c.in-Some-2.is at c.in_ok-flow-in-None.ensures in

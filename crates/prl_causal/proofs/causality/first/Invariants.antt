@@ -4,4 +4,4 @@ use Rattle.prl_flow.specs.declared.programs.Flow.{Flow}
 use Rattle.prl_causal.proofs.causality.first.Given as goal
 
 abbrev pub invariant-loop-i : goal.invariant-loop-i
-invariant-loop-i l = (j : ℕ) → j < l.i → (other : Flow) → IsCyclic l.flat j other → ⊥
+invariant-loop-i l = (j : ℕ) → j < l.i → (other : Flow) → IsCyclic l.uses.flat.now j other → ⊥

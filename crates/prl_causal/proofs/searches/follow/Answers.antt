@@ -3,6 +3,14 @@ use Rattle.prl_causal.specs.code.Sources.{UsesBy}
 use Rattle.prl_causal.proofs.Searching.{search_begun, search_goes_on, search_ended, source_there, reached_within}
 use Rattle.prl_causal.proofs.searches.follow.Goals as goal
 
+pub reach_used-requires-clause-search : goal.reach_used-requires-clause-search
+reach_used-requires-clause-search c = record {
+  list = rw c.new-reached.ensures.items c.requires.unmarked;
+  len = c.requires.len ∙ c.requires.sources.count;
+  apps = c.requires.apps;
+  opened = c.requires.opened;
+}
+
 pub loop-done-init : goal.loop-done-init
 loop-done-init c = record {
   way = search_begun c.args.flat.now c.args.sources.now _ c.args.from c.reach_used.new.reached.items c.args.marks.now c.reach_used.new.marks
@@ -16,6 +24,14 @@ bounds-sources-next c =
     let below : c.loop-done.done < length reached = omega arith in
     let at = slice_get_read reached (length reached) c.loop-done.done c.index-next.result.now refl below c.index-next.ensures in
     reached_within (UsesBy c.args.flat.now c.args.sources.now) (length c.args.sources.now) c.args.from c.loop-done.done reached c.loop-done.marks c.index-next.result.now c.loop-done.invariant.way at
+
+pub reach_used-requires-in-loop-done-clause-search : goal.reach_used-requires-in-loop-done-clause-search
+reach_used-requires-in-loop-done-clause-search c = record {
+  list = c.loop-done.invariant.way.list;
+  len = c.loop-done.invariant.way.len ∙ c.requires.sources.count;
+  apps = omega arith;
+  opened = c.loop-done.invariant.opened;
+}
 
 pub reach_used-requires-in-loop-done-clause-there : goal.reach_used-requires-in-loop-done-clause-there
 reach_used-requires-in-loop-done-clause-there c =

@@ -9,10 +9,10 @@ returns-clause-adds c =
 
 pub returns-clause-opened : goal.returns-clause-opened
 returns-clause-opened c =
-    opened_set c.args.flat.now c.args.app c.args.reached.now.items c.reach_all.new.reached.items c.args.marks.now c.reach_all.new.marks c.args.opened.now c.requires.opened
+    opened_set c.args.flat.now c.args.app c.args.reached.now.items c.reach_all.new.reached.items c.args.marks.now c.reach_all.new.marks c.args.opened.now c.requires.search.opened
     (adds_arguments c.args.flat.now c.args.app c.arguments.result.now c.args.reached.now.items c.reach_all.new.reached.items c.args.marks.now c.reach_all.new.marks
     c.arguments.ensures.arguments c.in_ok-reach_all.ensures)
 
 pub returns-then-opened-app-clause-adds : goal.returns-then-opened-app-clause-adds
 returns-then-opened-app-clause-adds c =
-    adds_known c.args.reached.now.items c.args.marks.now (IsArgument c.args.flat.now c.args.app) c.requires.list (c.requires.opened.marked c.args.app c.if-opened-app.true)
+    adds_known c.args.reached.now.items c.args.marks.now (IsArgument c.args.flat.now c.args.app) c.requires.search.list (c.requires.search.opened.marked c.args.app c.if-opened-app.true)

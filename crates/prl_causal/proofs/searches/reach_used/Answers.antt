@@ -14,6 +14,6 @@ returns-in-Flow-clause-opened c =
     let marks' = c.reach.new.marks in
     let opened = c.args.opened.now in
     elim c.reach.result as (λ r. IfOk r (λ done. Adds named reached reached' marks marks') → IfOk r (λ done. AreOpened p marks' opened)) [
-      | Ok done ↦ λ h. opened_kept p named reached reached' marks marks' opened c.requires.opened h
+      | Ok done ↦ λ h. opened_kept p named reached reached' marks marks' opened c.requires.search.opened h
       | Err e ↦ λ h. h
     ] c.reach.ensures

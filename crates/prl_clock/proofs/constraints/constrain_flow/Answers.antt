@@ -1,17 +1,13 @@
-use Rattle.prl_base.proofs.Standard.{◌≡◌, ◌<◌, List, Some, slice_get, length, subst, ap, arith, refl, slice_get_read}
+use Rattle.prl_base.proofs.Standard.{◌≡◌, Some, slice_get}
 use Rattle.prl_flow.specs.declared.programs.Flow.{Flow}
 use Rattle.prl_clock.specs.Constraints.{rate_constraints, definition_constraints}
 use Rattle.prl_clock.proofs.Fine.{stopped_within as stopped_front}
-use Rattle.prl_clock.proofs.Taking.{if_err_same, flow_found, reached_as, reached_twice, stopped_as, stopped_twice}
+use Rattle.prl_clock.proofs.Taking.{found_at, if_err_same, flow_found, reached_as, reached_twice, stopped_as, stopped_twice}
 use Rattle.prl_clock.proofs.constraints.constrain_flow.Goals as goal
 use Rattle.prl_clock.proofs.constraints.constrain_flow.Goals.{After-index-flows-x}
 
 found : (c : After-index-flows-x) → slice_get c.args.flat.now.flows c.args.x ≡ Some c.index-flows-x.result
-found c =
-    let e = c.flows.ensures.flows in
-    let P : List Flow → Type 0 = λ xs. slice_get xs c.args.x ≡ Some c.index-flows-x.result in
-    let here : c.args.x < length c.flows.result.now = let l = ap length e in let h = c.requires.x in omega (arith, l, h) in
-    subst P e (slice_get_read c.flows.result.now (length c.flows.result.now) c.args.x c.index-flows-x.result refl here c.index-flows-x.is)
+found c = found_at c.args.flat.now.flows c.flows.result.now c.args.x c.index-flows-x.result c.flows.ensures.flows c.requires.x c.index-flows-x.is
 
 pub constrain_definition-requires-clause-reached : goal.constrain_definition-requires-clause-reached
 constrain_definition-requires-clause-reached c = (_, c.in_ok-constrain_rate.ensures.reached c.requires.reached.0 c.requires.reached.1)

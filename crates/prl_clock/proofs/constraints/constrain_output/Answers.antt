@@ -1,19 +1,14 @@
-use Rattle.prl_base.proofs.Standard.{◌≡◌, ◌<◌, ◌≤◌, ◌∷◌, [], List, length, map, get_or, Some, slice_get, subst, ap, ◌∙◌, arith, refl, slice_get-get_or, slice_get_read, slice_get_within}
+use Rattle.prl_base.proofs.Standard.{◌≡◌, ◌<◌, ◌≤◌, ◌∷◌, [], List, length, map, get_or, Some, slice_get, subst, ap, ◌∙◌, arith, slice_get-get_or, slice_get_within}
 use Rattle.prl_base.specs.declared.numbers.FlowNo.{FlowNo}
 use Rattle.prl_flow.specs.Programs.{IsApplication}
-use Rattle.prl_flow.specs.declared.programs.App.{App}
 use Rattle.prl_flow.specs.declared.programs.Arg.{Arg}
 use Rattle.prl_clock.specs.Vocabulary.{Timing, argument_constraint, output_constraints, related, same_clock}
-use Rattle.prl_clock.proofs.Taking.{first_constraints, later_constraints, reached_as, stopped_as}
+use Rattle.prl_clock.proofs.Taking.{found_at, first_constraints, later_constraints, reached_as, stopped_as}
 use Rattle.prl_clock.proofs.constraints.constrain_output.Goals as goal
-use Rattle.prl_clock.proofs.constraints.constrain_output.Goals.{After-index-apps-app, After-as_slice-else-out-eq0, After-same_clock}
+use Rattle.prl_clock.proofs.constraints.constrain_output.Goals.{After-index-apps-app}
 
 found : (c : After-index-apps-app) → slice_get c.args.flat.now.apps c.args.app ≡ Some c.index-apps-app.result
-found c =
-    let e = c.apps.ensures.apps in
-    let P : List App → Type 0 = λ xs. slice_get xs c.args.app ≡ Some c.index-apps-app.result in
-    let here : c.args.app < length c.apps.result.now = let l = ap length e in let h = c.requires.app in omega (arith, l, h) in
-    subst P e (slice_get_read c.apps.result.now (length c.apps.result.now) c.args.app c.index-apps-app.result refl here c.index-apps-app.is)
+found c = found_at c.args.flat.now.apps c.apps.result.now c.args.app c.index-apps-app.result c.apps.ensures.apps c.requires.app c.index-apps-app.is
 
 its : (c : After-index-apps-app) → IsApplication c.args.flat.now c.args.app c.index-apps-app.result
 its c = c.apps.ensures.well_formed.apps c.args.app c.index-apps-app.result (found c)

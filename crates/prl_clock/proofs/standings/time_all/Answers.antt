@@ -1,7 +1,7 @@
 use Rattle.std.proofs.Common.{◌<◌, length, arith}
 use Rattle.prl_clock.specs.code.Standings.{IsTimed}
 use Rattle.prl_clock.proofs.Terms.{on_err}
-use Rattle.prl_clock.proofs.Loops.{one_more, one_less, item_was, one_past_at}
+use Rattle.prl_clock.proofs.Loops.{one_more, one_less, one_past_at}
 use Rattle.prl_clock.proofs.standings.time_all.Goals as goal
 
 pub loop-standing-preserved : goal.loop-standing-preserved
@@ -16,6 +16,4 @@ loop-standing-preserved c =
 
 pub returns-in_err-standing-clause-past : goal.returns-in_err-standing-clause-past
 returns-in_err-standing-clause-past c =
-    let here : c.loop-standing.standing-index < length c.loop-standing.standings = omega arith in
-    on_err c.from_residual.result _ (one_past_at c.args.standings.now c.args.root c.loop-standing.standing-index c.args.clock.now _ (omega arith)
-    (item_was c.args.standings.now c.loop-standing.standings c.loop-standing.standing-index c.standing-item.result here c.loop-standing.invariant.left) c.in_err-standing.ensures.past)
+    on_err c.from_residual.result _ (one_past_at c.args.standings.now _ _ c.loop-standing.standing-index _ _ (omega arith) (omega arith) c.loop-standing.invariant.left c.in_err-standing.ensures.past)

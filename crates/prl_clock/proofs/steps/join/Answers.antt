@@ -34,15 +34,13 @@ returns-in-None-clause-solved c =
 pub returns-in-Some-clause-solved : goal.returns-in-Some-clause-solved
 returns-in-Some-clause-solved c =
     λ cs m.
-    let n = low_some _ _ _ c.in-Some.clock c.in_ok-clock.field-0 c.in-Some.is c.in_ok-clock.ensures.clock in
     on_ok c.time_all.result _ _ c.time_all.ensures.timed
     (joined_some cs _ _ _ _ m c.in_ok-shift.shift c.in_ok-shift.ensures.small c.in_ok-shift.ensures.composed c.move_all.new.standings c.move_all.auto.standings
-    c.in_ok-move_all.ensures.moved c.in-Some.clock n.0 n.1 c.time_all.new.standings c.time_all.auto.standings)
+    c.in_ok-move_all.ensures.moved c.in-Some.clock (low_some _ _ _ c.in-Some.clock c.in_ok-clock.field-0 c.in-Some.is c.in_ok-clock.ensures.clock) c.time_all.new.standings c.time_all.auto.standings)
 
 pub returns-in-Some-clause-past : goal.returns-in-Some-clause-past
 returns-in-Some-clause-past c =
     λ cs m.
-    let n = low_some _ _ _ c.in-Some.clock c.in_ok-clock.field-0 c.in-Some.is c.in_ok-clock.ensures.clock in
     on_err_by c.time_all.result _ _ c.time_all.ensures.past
     (joined_past cs _ _ _ _ m c.in_ok-shift.shift c.in_ok-shift.ensures.small c.in_ok-shift.ensures.composed c.move_all.new.standings c.move_all.auto.standings
-    c.in_ok-move_all.ensures.moved c.in-Some.clock n.0 n.1)
+    c.in_ok-move_all.ensures.moved c.in-Some.clock (low_some _ _ _ c.in-Some.clock c.in_ok-clock.field-0 c.in-Some.is c.in_ok-clock.ensures.clock))

@@ -28,7 +28,7 @@ loop-line-preserved c =
 
 pub returns-in_err-place-2-clause-exact : goal.returns-in_err-place-2-clause-exact
 returns-in_err-place-2-clause-exact c =
-    let cut = option_map_none _ c.cut_line.result _ c.cut_line.ensures c.in_default.not-Some in
+    let cut = option_map_none _ c.cut_line.result _ c.cut_line.ensures c.in_default-cut_line.not-Some in
     let some : length c.loop-line.rest.now ≡ 0 → ⊥ = eqb-false _ _ (sym c.is_empty.ensures ∙ c.if-is_empty.false) in
     let at : c.in_err-place-2.field-0.0 ≢ faults.Memory → placed_from c.args.names.now 1 (replicate (length c.args.names.now) None) (lines_of c.args.text.now) ≡ Err c.in_err-place-2.field-0.0 =
     λ told. sym c.loop-line.invariant.told
@@ -38,6 +38,6 @@ returns-in_err-place-2-clause-exact c =
 
 pub returns-clause-exact : goal.returns-clause-exact
 returns-clause-exact c =
-    let cut = option_map_none _ c.cut_line.result _ c.cut_line.ensures c.in_default.not-Some in
+    let cut = option_map_none _ c.cut_line.result _ c.cut_line.ensures c.in_default-cut_line.not-Some in
     let some : length c.loop-line.rest.now ≡ 0 → ⊥ = eqb-false _ _ (sym c.is_empty.ensures ∙ c.if-is_empty.false) in
     sym c.loop-line.invariant.told ∙ placed_last c.args.names.now c.loop-line.number c.loop-line.table.items c.loop-line.rest.now cut some ∙ c.in_ok-place-2.ensures.exact

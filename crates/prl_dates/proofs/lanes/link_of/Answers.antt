@@ -24,21 +24,18 @@ small c = to_z_pos w64 c.args.n (omega (arith, few_jobs c.args.graph.now c.requi
 near : (c : After-index-tasks-from) → AreNear c.args.graph.now c.requires.well c.args.from.0 c.args.to.0 c.args.n c.args.before
 near c = are_near c.args.graph.now c.requires.well c.args.from.0 c.args.to.0 c.args.n c.args.before c.requires.from c.requires.to c.requires.job c.requires.greatest
 
-pub release-earlier-requires-clause-start : goal.release-earlier-requires-clause-start
-release-earlier-requires-clause-start c =
-    let d = (goal.at.release-earlier-requires-clause-start c).After-index-tasks-from in
-    subst (λ (x : Task). x.clock.start < 2 ^ 31) (sym (from_is d)) (task_is c.args.graph.now c.requires.well c.args.from.0 c.requires.from).start
-
-pub release-earlier-requires-clause-product : goal.release-earlier-requires-clause-product
-release-earlier-requires-clause-product c =
-    let d = (goal.at.release-earlier-requires-clause-product c).After-index-tasks-from in
-    subst (λ (z : ℤ). Fits64 (z *ℤ pos c.index-tasks-from.result.clock.period)) (sym (seam d))
-    (subst (λ (x : Task). Fits64 (c.args.before *ℤ pos x.clock.period)) (sym (from_is d)) (near d).product)
-
-pub release-earlier-requires-clause-fits : goal.release-earlier-requires-clause-fits
-release-earlier-requires-clause-fits c =
-    let d = (goal.at.release-earlier-requires-clause-fits c).After-index-tasks-from in
-    subst (λ (z : ℤ). Fits64 (release_of c.index-tasks-from.result z)) (sym (seam d)) (subst (λ (x : Task). Fits64 (release_of x c.args.before)) (sym (from_is d)) (near d).earlier)
+pub release-earlier-requires : goal.release-earlier-requires
+release-earlier-requires c =
+    let d = (goal.at.release-earlier-requires c).After-index-tasks-from in
+    let is = task_is c.args.graph.now c.requires.well c.args.from.0 c.requires.from in
+    record {
+      start = subst (λ (x : Task). x.clock.start < 2 ^ 31) (sym (from_is d)) is.start;
+      period = subst (λ (x : Task). x.clock.period < 2 ^ 31) (sym (from_is d)) is.period.1;
+      product = subst (λ (z : ℤ). Fits64 (z *ℤ pos c.index-tasks-from.result.clock.period)) (sym (seam d))
+          (subst (λ (x : Task). Fits64 (c.args.before *ℤ pos x.clock.period)) (sym (from_is d)) (near d).product);
+      fits = subst (λ (z : ℤ). Fits64 (release_of c.index-tasks-from.result z)) (sym (seam d))
+          (subst (λ (x : Task). Fits64 (release_of x c.args.before)) (sym (from_is d)) (near d).earlier);
+    }
 
 pub release-later-requires-clause-start : goal.release-later-requires-clause-start
 release-later-requires-clause-start c =
@@ -76,11 +73,6 @@ returns c =
     ap (λ (z : ℤ). to_z w64 (of_z w64 z)) earlier ∙ to_z-of_z w64 (release_of (task_at graph c.args.from.0) c.args.before) (near a).earlier in
     c.abs_diff.ensures ∙ ap (λ (z : ℤ). unsigned_abs (z -ℤ to_z w64 (of_z w64 c.release-earlier.result))) x
     ∙ ap (λ (z : ℤ). unsigned_abs (release_of (task_at graph c.args.to.0) (pos c.args.n) -ℤ z)) y)
-
-pub release-earlier-requires-clause-period : goal.release-earlier-requires-clause-period
-release-earlier-requires-clause-period c =
-    let d = (goal.at.release-earlier-requires-clause-period c).After-index-tasks-from in
-    subst (λ (x : Task). x.clock.period < 2 ^ 31) (sym (from_is d)) (task_is c.args.graph.now c.requires.well c.args.from.0 c.requires.from).period.1
 
 pub release-later-requires-clause-period : goal.release-later-requires-clause-period
 release-later-requires-clause-period c =

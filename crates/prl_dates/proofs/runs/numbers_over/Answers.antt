@@ -2,37 +2,31 @@ use Rattle.prl_base.proofs.Standard.{◌≡◌, ◌+◌, ◌-◌, ◌<◌, ◌�
 use Rattle.prl_base.proofs.Standard.{to_z-of_z, get_or_append_left, get_or_push, length_push}
 use Rattle.prl_plan.specs.Vocabulary.{preceding, Fits64}
 use Rattle.prl_dates.proofs.TurnSteps.{first_fits, next_sum}
+use Rattle.prl_dates.proofs.runs.numbers_over.Goals.{After-index-before}
 use Rattle.prl_dates.proofs.runs.numbers_over.Goals as goal
 
-pub overflow_add-before : goal.overflow_add-before
-overflow_add-before c =
+sum_is : (c : After-index-before) → to_z w64 (of_z w64 c.index-before.result.now) +ℤ to_z w64 c.turn_within-turn.result.higher ≡ preceding c.args.ops.now (pos c.loop-n.n)
+sum_is c =
     let turn = c.turn_within-turn.result in
     let n = c.loop-n.n in
-    let ops = c.args.ops.now in
-    let jobs = c.args.jobs in
-    let some = c.turn_within-turn.ensures.some in
     let past : turn.jobs ≤ n = omega arith in
-    let below : n < jobs = omega arith in
-    let sum = next_sum ops jobs n c.requires.fits c.requires.few below turn some past c.turn_within-turn.ensures.small (c.turn_within-turn.ensures.steps (omega (arith, past, below)))
-    c.loop-n.numbers.items c.loop-n.invariant.long c.loop-n.invariant.each c.index-before.result.now c.index-before.ensures in
-    subst (λ (z : ℤ). FitsSigned w64 z) (sym sum) (first_fits ops jobs n c.requires.fits c.requires.few below)
+    let below : n < c.args.jobs = omega arith in
+    next_sum c.args.ops.now c.args.jobs n c.requires.fits c.requires.few below turn c.turn_within-turn.ensures.some past c.turn_within-turn.ensures.small
+    (c.turn_within-turn.ensures.steps (omega (arith, past, below))) c.loop-n.numbers.items c.loop-n.invariant.long c.loop-n.invariant.each c.index-before.result.now c.index-before.ensures
+
+pub overflow_add-before : goal.overflow_add-before
+overflow_add-before c = subst (λ (z : ℤ). FitsSigned w64 z) (sym (sum_is (goal.at.overflow_add-before c).After-index-before))
+    (first_fits c.args.ops.now c.args.jobs c.loop-n.n c.requires.fits c.requires.few (omega arith))
 
 pub loop-n-preserved : goal.loop-n-preserved
 loop-n-preserved c =
-    let turn = c.turn_within-turn.result in
     let n = c.loop-n.n in
     let ops = c.args.ops.now in
-    let jobs = c.args.jobs in
-    let some = c.turn_within-turn.ensures.some in
-    let past : turn.jobs ≤ n = omega arith in
-    let below : n < jobs = omega arith in
     let numbers = c.loop-n.numbers.items in
-    let computed : ℤ = to_z w64 (of_z w64 c.index-before.result.now) +ℤ to_z w64 turn.higher in
-    let sum : computed ≡ preceding ops (pos n) =
-    next_sum ops jobs n c.requires.fits c.requires.few below turn some past c.turn_within-turn.ensures.small (c.turn_within-turn.ensures.steps (omega (arith, past, below)))
-    numbers c.loop-n.invariant.long c.loop-n.invariant.each c.index-before.result.now c.index-before.ensures in
+    let computed : ℤ = to_z w64 (of_z w64 c.index-before.result.now) +ℤ to_z w64 c.turn_within-turn.result.higher in
+    let sum : computed ≡ preceding ops (pos n) = sum_is (goal.at.loop-n-preserved c).After-index-before in
     let pushed : to_z w64 (of_z w64 computed) ≡ preceding ops (pos n) =
-    to_z-of_z w64 computed (subst (λ (z : ℤ). Fits64 z) (sym sum) (first_fits ops jobs n c.requires.fits c.requires.few below)) ∙ sum in
+    to_z-of_z w64 computed (subst (λ (z : ℤ). Fits64 z) (sym sum) (first_fits ops c.args.jobs n c.requires.fits c.requires.few (omega arith))) ∙ sum in
     let items : c.push.new.self.items ≡ numbers ++ to_z w64 (of_z w64 computed) ∷ [] = c.in_ok-push.ensures.items in
     record {
       long = ap (λ (xs : List ℤ). length xs) items ∙ length_push numbers (to_z w64 (of_z w64 computed)) ∙ ap (λ (k : ℕ). k + 1) c.loop-n.invariant.long;

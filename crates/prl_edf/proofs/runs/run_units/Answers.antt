@@ -16,16 +16,15 @@ returns-then-best-horizon c =
 pub loop-pieces-preserved-in-None : goal.loop-pieces-preserved-in-None
 loop-pieces-preserved-in-None c =
     let k : RunConstants = constants_of c.args.plan.now c.args.horizon in
-    let u : ℕ → ℕ → ℕ = units_of (map vec_items c.args.units.now) in
     let chosen = of_all c.deref.result.now c.loop-pieces.rests.items c.loop-pieces.now k.end k.tasks c.choose-best.result
     c.deref.ensures.value c.loop-pieces.invariant.going.kept_rests.tasks c.choose-best.ensures in
-    (waits k c.plan_facts.ensures u c.loop-pieces.pieces.items c.loop-pieces.now c.loop-pieces.rests.items c.loop-pieces.invariant c.choose-best.result chosen c.in-None.is c.if-best-horizon.false).1
+    (waits k c.plan_facts.ensures (units_of (map vec_items c.args.units.now)) c.loop-pieces.pieces.items c.loop-pieces.now c.loop-pieces.rests.items c.loop-pieces.invariant
+    c.choose-best.result chosen c.in-None.is c.if-best-horizon.false).1
 
 pub returns-then-ready-now : goal.returns-then-ready-now
 returns-then-ready-now c =
     let k : RunConstants = constants_of c.args.plan.now c.args.horizon in
-    let u : ℕ → ℕ → ℕ = units_of (map vec_items c.args.units.now) in
     let chosen = of_all c.deref.result.now c.loop-pieces.rests.items c.loop-pieces.now k.end k.tasks c.choose-best.result
     c.deref.ensures.value c.loop-pieces.invariant.going.kept_rests.tasks c.choose-best.ensures in
-    misses k c.plan_facts.ensures u c.loop-pieces.pieces.items c.loop-pieces.now c.loop-pieces.rests.items c.loop-pieces.invariant c.choose-best.result chosen
+    misses k c.plan_facts.ensures (units_of (map vec_items c.args.units.now)) c.loop-pieces.pieces.items c.loop-pieces.now c.loop-pieces.rests.items c.loop-pieces.invariant c.choose-best.result chosen
     c.in-Some.ready c.in-Some.is c.if-ready-now.true

@@ -8,11 +8,13 @@ loop-done-smaller g c =
     let so_far = c.loop-done.invariant.stands in
     let more = c.loop-done-test.ensures.told so_far.1 so_far.0 so_far.3 in
     let k = c.args.board.now.known in
-    let short = c.free_list_is_short.ensures k.plan (alone k.plan) k.horizon c.requires.horizon.1 (so_far.0 ++ more.0 ∷ []) more.2.free in
-    let count = so_far.2 in
-    let long = length-append so_far.0 (more.0 ∷ []) in
-    let same = ap (λ (h : Horizon). h.events) c.requires.horizon.0 in
-    omega (arith, short, count, long, same)
+    omega (
+      arith,
+      c.free_list_is_short.ensures k.plan (alone k.plan) k.horizon c.requires.horizon.1 (so_far.0 ++ more.0 ∷ []) more.2.free,
+      so_far.2,
+      length-append so_far.0 (more.0 ∷ []),
+      ap (λ (h : Horizon). h.events) c.requires.horizon.0,
+    )
 
 pub loop-done-preserved : goal.loop-done-preserved
 loop-done-preserved g c =

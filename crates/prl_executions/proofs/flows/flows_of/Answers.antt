@@ -6,8 +6,9 @@ use Rattle.prl_evaluation.specs.Evaluations.{AreSolution}
 use Rattle.prl_flow.specs.Vocabulary.{AreUpTo, actuator_text, HaveBodies, FlatProgram, Timed}
 use Rattle.prl_solutions.specs.Conditions.{clocks_in}
 use Rattle.prl_stages.specs.Runs.{rows_for}
+use Rattle.prl_stages.specs.Vocabulary.{SolutionLaws}
 use Rattle.prl_stages.proofs.Inputs.{few_outputs}
-use Rattle.prl_stages.proofs.Meaning.{Laws, one, outs, state_is, up_to}
+use Rattle.prl_stages.proofs.Meaning.{one, outs, state_is, up_to}
 use Rattle.prl_executions.proofs.flows.flows_of.Goals as goal
 
 pub values-requires-clause-bodies : goal.values-requires-clause-bodies
@@ -16,7 +17,7 @@ values-requires-clause-bodies c =
     let x = c.requires.expanded in
     let (g, is) = c.requires.given in
     subst (λ (f : FlatProgram). HaveBodies f c.args.run.now.bodies) (sym x.flat_is)
-    (c.expansions_have_bodies.ensures (program_tree t.program) g.node t.main t.types x.expansion
+    (c.runs_tell_of_behaviours.ensures.fitted (program_tree t.program) g.node t.main t.types x.expansion
     c.main-main.ensures.range is.typed x.is c.args.run.now.bodies c.requires.have)
 
 pub values-requires-clause-rows : goal.values-requires-clause-rows
@@ -37,11 +38,7 @@ lent_text-requires c =
     let run = c.args.run.now in
     let until = c.args.until in
     let (g, is) = c.requires.given in
-    let law : Laws = record {
-      solutions = c.behaviours_are_solutions.ensures;
-      states = c.behaviours_are_of_their_states.ensures;
-      clocks = c.clocks_are_unique.ensures.solutions;
-    } in
+    let law : SolutionLaws = c.runs_tell_of_behaviours.ensures.meaning_laws in
     let told = c.deref.ensures.value ∙ c.in_ok-outs.ensures in
     let all = up_to law (program_tree t.program) g.node t.main t.types run.flat is.typed c.requires.expanded
     c.flows-flows.ensures.well_formed run.clocks.of is.has.rows.clocked.only run.bodies run.sensors until c.in_ok-table.table c.in_ok-table.ensures.solution in
@@ -58,11 +55,7 @@ returns-clause-text c = λ g is.
     let only = is.has.rows.clocked.only in
     let table = c.in_ok-table.table in
     let solution = subst (λ (u : ℕ). AreSolution run.flat run.clocks.of run.bodies run.sensors u c.in_ok-table.table) (sym is.has.date) c.in_ok-table.ensures.solution in
-    let law : Laws = record {
-      solutions = c.behaviours_are_solutions.ensures;
-      states = c.behaviours_are_of_their_states.ensures;
-      clocks = c.clocks_are_unique.ensures.solutions;
-    } in
+    let law : SolutionLaws = c.runs_tell_of_behaviours.ensures.meaning_laws in
     let told = c.deref.ensures.value ∙ c.in_ok-outs.ensures in
     let all = up_to law p asked t.main t.types run.flat is.typed c.requires.expanded formed run.clocks.of only run.bodies run.sensors until table solution in
     let behaviour = one law p asked t.main t.types run.flat is.typed c.requires.expanded formed run.clocks.of only run.bodies run.sensors until table solution in

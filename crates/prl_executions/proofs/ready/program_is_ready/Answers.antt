@@ -1,6 +1,7 @@
 use Rattle.prl_ast.specs.Trees.{program_tree}
 use Rattle.prl_calls.specs.Stops.{given_of}
-use Rattle.prl_stages.proofs.Running.{Laws, bodies_are, bodies_there, execution, horizon_is, placed_outs, plan_is, rows_are, rows_there}
+use Rattle.prl_stages.specs.Vocabulary.{RunningLaws}
+use Rattle.prl_stages.proofs.Running.{bodies_are, bodies_there, execution, horizon_is, placed_outs, plan_is, rows_are, rows_there}
 use Rattle.prl_executions.proofs.Preparing.{same_ready}
 use Rattle.prl_executions.proofs.ready.program_is_ready.Goals as goal
 
@@ -13,25 +14,7 @@ returns c =
     let plan = c.args.plan.now in
     let horizon = c.args.horizon in
     let q = c.requires in
-    let law : Laws = record {
-      meaning_laws = record {
-        solutions = c.behaviours_are_solutions.ensures;
-        states = c.behaviours_are_of_their_states.ensures;
-        clocks = c.clocks_are_unique.ensures.solutions;
-      };
-      fitted = c.expansions_have_bodies.ensures;
-      solved = c.programs_have_one_solution.ensures;
-      solves = c.solutions_are_of_their_clocks.ensures;
-      read = c.rows_are_typed_and_enough.ensures;
-      task_bodies = c.bodies_and_rows_serve_tasks.ensures.bodies;
-      task_rows = c.bodies_and_rows_serve_tasks.ensures.rows;
-      exist = c.job_values_exist.ensures;
-      agree = c.job_values_are_one.ensures.edges;
-      given = c.solutions_give_job_values.ensures.given;
-      operands = c.solutions_give_job_values.ensures.operands;
-      clock_of_task = c.ports_have_the_clock_of_their_task.ensures;
-      got = c.actuators_get_the_outputs.ensures;
-    } in
+    let law : RunningLaws = c.runs_tell_of_behaviours.ensures in
     let range = c.main-main.ensures.range in
     let well_formed = c.flows-flows.ensures.well_formed in
     record {

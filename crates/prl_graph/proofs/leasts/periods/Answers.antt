@@ -5,18 +5,16 @@ use Rattle.prl_graph.proofs.leasts.periods.Goals as goal
 
 pub application_clock-clock-requires : goal.application_clock-clock-requires
 application_clock-clock-requires c =
-    let apps = c.apps-app-items.result.now in
-    let at = slice_get_read apps (length apps) c.loop-app.app-index c.app-item.result refl c.loop-app-test.true c.app-item.is in
     let found : slice_get c.args.flat.now.apps c.loop-app.app-index ≡ Some c.app-item.result =
-    ap (λ (us : List App). slice_get us c.loop-app.app-index) (sym c.apps-app-items.ensures.apps) ∙ at in
+    ap (λ (us : List App). slice_get us c.loop-app.app-index) (sym c.apps-app-items.ensures.apps)
+    ∙ slice_get_read c.apps-app-items.result.now (length c.apps-app-items.result.now) c.loop-app.app-index c.app-item.result refl c.loop-app-test.true c.app-item.is in
     has_clock c.args.flat.now c.args.clocks.now.of c.loop-app.app-index c.app-item.result c.apps-app-items.ensures.well_formed c.requires found
 
 pub loop-app-preserved : goal.loop-app-preserved
 loop-app-preserved c =
-    let apps = c.apps-app-items.result.now in
-    let at = slice_get_read apps (length apps) c.loop-app.app-index c.app-item.result refl c.loop-app-test.true c.app-item.is in
     let found : slice_get c.args.flat.now.apps c.loop-app.app-index ≡ Some c.app-item.result =
-    ap (λ (us : List App). slice_get us c.loop-app.app-index) (sym c.apps-app-items.ensures.apps) ∙ at in
+    ap (λ (us : List App). slice_get us c.loop-app.app-index) (sym c.apps-app-items.ensures.apps)
+    ∙ slice_get_read c.apps-app-items.result.now (length c.apps-app-items.result.now) c.loop-app.app-index c.app-item.result refl c.loop-app-test.true c.app-item.is in
     let period = c.application_clock-clock.result.period in
     rw c.in_ok-push.ensures.items record {
       count = omega (arith, length_push c.loop-app.periods.items period, c.loop-app.invariant.count);

@@ -1,4 +1,4 @@
-use Rattle.prl_base.proofs.Standard.{◌≡◌, ◌+◌, suc, Bool, true, false, get_or, arith, inl, inr, OnFalse, OnTrue, leb_tells}
+use Rattle.prl_base.proofs.Standard.{◌+◌, suc, get_or, arith, inl, inr, leb_tells}
 use Rattle.prl_overlaps.specs.code.Spots.{no_spot}
 use Rattle.prl_overlaps.proofs.Spotted.{by_before, by_first, by_high, by_next, by_none, long, room}
 use Rattle.prl_overlaps.proofs.clashes.meets_some.Goals as goal
@@ -27,33 +27,16 @@ overflow_add-result c =
 
 pub returns-clause-yes : goal.returns-clause-yes
 returns-clause-yes c = elim (leb_tells (suc ((get_or c.args.spots.now c.args.p no_spot).from + c.args.hyper)) c.args.high) [
-  | inl less ↦
-      on_yes _ (by_high c.args.hyper c.args.entries.now c.args.spots.now c.requires.short c.requires.spots c.requires.sorted c.args.p c.args.high c.requires.place c.requires.high
+  | inl less ↦ rw less.0 (by_high c.args.hyper c.args.entries.now c.args.spots.now c.requires.short c.requires.spots c.requires.sorted c.args.p c.args.high c.requires.place c.requires.high
       (let l = less.1 in omega (arith, l)))
-  | inr not_less ↦ off_yes _ _ not_less.0
+  | inr not_less ↦ rw not_less.0 tt
 ]
-  where
-    on_yes : {P : Type 0} (b : Bool) → P → OnTrue b P
-    on_yes true p = p
-    on_yes false p = tt
-
-    off_yes : (P : Type 0) (b : Bool) → b ≡ false → OnTrue b P
-    off_yes P true e = cc
-    off_yes P false e = tt
 
 pub returns-clause-no : goal.returns-clause-no
 returns-clause-no c = elim (leb_tells (suc ((get_or c.args.spots.now c.args.p no_spot).from + c.args.hyper)) c.args.high) [
-  | inl less ↦ off_no _ _ less.0
-  | inr not_less ↦
-      on_no _ (by_none c.args.hyper c.args.entries.now c.args.spots.now c.requires.short c.requires.spots c.requires.sorted c.args.p c.args.before c.args.high c.requires.place c.requires.before
+  | inl less ↦ rw less.0 tt
+  | inr not_less ↦ rw not_less.0
+      (by_none c.args.hyper c.args.entries.now c.args.spots.now c.requires.short c.requires.spots c.requires.sorted c.args.p c.args.before c.args.high c.requires.place c.requires.before
       c.requires.high
       (let b = c.if-before-spot.false in omega (arith, b)) c.if-meets_next.ensures.no (let f = c.if-spots-hyper.false in omega (arith, f)) (let n = not_less.1 in omega (arith, n)))
 ]
-  where
-    on_no : {P : Type 0} (b : Bool) → P → OnFalse b P
-    on_no true p = tt
-    on_no false p = p
-
-    off_no : (P : Type 0) (b : Bool) → b ≡ true → OnFalse b P
-    off_no P true e = tt
-    off_no P false e = cc

@@ -4,16 +4,16 @@ use Rattle.prl_plantext.proofs.plans.match_text.Goals as goal
 
 pub returns : goal.returns
 returns c = λ text.
-    let same : bytes_eq c.in_ok-again.again.items c.args.text.now ≡ true =
-    (bytes_tell c.in_ok-again.again.items c.args.text.now).then (sym c.in_ok-again.ensures.read_back.printed ∙ text) in
-    let differ : bytes_eq c.in_ok-again.again.items c.args.text.now ≡ false = search rules in
+    let same : bytes_eq c.in-Ok.again.items c.args.text.now ≡ true =
+    (bytes_tell c.in-Ok.again.items c.args.text.now).then (sym c.in-Ok.ensures.read_back.printed ∙ text) in
+    let differ : bytes_eq c.in-Ok.again.items c.args.text.now ≡ false = search rules in
     absurd (false≢true (sym differ ∙ same))
 
 pub returns-then-eq : goal.returns-then-eq
 returns-then-eq c =
-    let yes : bytes_eq c.in_ok-again.again.items c.args.text.now ≡ true = search rules in
+    let yes : bytes_eq c.in-Ok.again.items c.args.text.now ≡ true = search rules in
     record {
-      planned = c.in_ok-again.ensures.read_back.planned;
-      held = c.in_ok-again.ensures.read_back.held;
-      printed = c.in_ok-again.ensures.read_back.printed ∙ (bytes_tell c.in_ok-again.again.items c.args.text.now).so yes;
+      planned = c.in-Ok.ensures.read_back.planned;
+      held = c.in-Ok.ensures.read_back.held;
+      printed = c.in-Ok.ensures.read_back.printed ∙ (bytes_tell c.in-Ok.again.items c.args.text.now).so yes;
     }

@@ -9,13 +9,16 @@ use Rattle.prl_plan.proofs.RoundPeriods.{task_is}
 use Rattle.prl_results.specs.Shown.{AddsShown}
 use Rattle.prl_results.proofs.Results.{actuator_name, drives_in, task_read}
 use Rattle.prl_rule.specs.declared.views.Constants.{Constants}
+use Rattle.prl_results.proofs.flows.push_flow.Goals.{After-index-as_slice-i}
 use Rattle.prl_results.proofs.flows.push_flow.Goals as goal
+
+at_is : (c : After-index-as_slice-i) → c.index-as_slice-i.result ≡ task_at c.args.plan.now.graph c.args.i
+at_is c =
+    task_read c.as_slice.result.now c.args.plan.now.graph.tasks c.args.i c.index-as_slice-i.result (c.as_slice.ensures ∙ ap (λ g. g.tasks) c.graph.ensures.graph) c.requires.task c.index-as_slice-i.is
 
 pub flow_of-requires-clause-name : goal.flow_of-requires-clause-name
 flow_of-requires-clause-name c =
-    let tasks = c.as_slice.ensures ∙ ap (λ g. g.tasks) c.graph.ensures.graph in
-    let at : c.index-as_slice-i.result ≡ task_at c.args.plan.now.graph c.args.i =
-    task_read c.as_slice.result.now c.args.plan.now.graph.tasks c.args.i c.index-as_slice-i.result tasks c.requires.task c.index-as_slice-i.is in
+    let at = at_is (goal.at.flow_of-requires-clause-name c).After-index-as_slice-i in
     let kind = ap (λ (t : Task). t.kind) (sym at) ∙ c.in-Actuator.is in
     subst (λ (t : Task). IsName t.name) (sym at)
     (actuator_name (task_at c.args.plan.now.graph c.args.i).kind c.in-Actuator.actuator (task_at c.args.plan.now.graph c.args.i).name kind
@@ -23,18 +26,14 @@ flow_of-requires-clause-name c =
 
 pub flow_of-requires-clause-drives : goal.flow_of-requires-clause-drives
 flow_of-requires-clause-drives c =
-    let tasks = c.as_slice.ensures ∙ ap (λ g. g.tasks) c.graph.ensures.graph in
-    let at : c.index-as_slice-i.result ≡ task_at c.args.plan.now.graph c.args.i =
-    task_read c.as_slice.result.now c.args.plan.now.graph.tasks c.args.i c.index-as_slice-i.result tasks c.requires.task c.index-as_slice-i.is in
+    let at = at_is (goal.at.flow_of-requires-clause-drives c).After-index-as_slice-i in
     let kind = ap (λ (t : Task). t.kind) (sym at) ∙ c.in-Actuator.is in
     let known = c.requires.known in
     (known.0, c.args.i, known.1, drives_in known.0 c.args.plan.now c.args.i c.in-Actuator.actuator known.2 c.requires.task kind)
 
 pub returns-in_ok-push-in-Actuator : goal.returns-in_ok-push-in-Actuator
 returns-in_ok-push-in-Actuator c =
-    let tasks = c.as_slice.ensures ∙ ap (λ g. g.tasks) c.graph.ensures.graph in
-    let at : c.index-as_slice-i.result ≡ task_at c.args.plan.now.graph c.args.i =
-    task_read c.as_slice.result.now c.args.plan.now.graph.tasks c.args.i c.index-as_slice-i.result tasks c.requires.task c.index-as_slice-i.is in
+    let at = at_is (goal.at.returns-in_ok-push-in-Actuator c).After-index-as_slice-i in
     let kind : (task_at c.args.plan.now.graph c.args.i).kind ≡ kinds.Actuator c.in-Actuator.actuator = ap (λ (t : Task). t.kind) (sym at) ∙ c.in-Actuator.is in
     let known = c.requires.known in
     subst (λ (x : Kind). AddsShown c.args.closed.now c.args.plan.now.graph c.args.i x c.args.flows.now.items c.push.new.self.items) (sym kind) (

@@ -1,4 +1,4 @@
-use Rattle.prl_base.proofs.Standard.{ℕ, List, ◌++◌, ◌∙◌, Some, length, ap, subst, slice_get, slice_index_or, ◌≡◌, arith, pos, slice_get-get_or}
+use Rattle.prl_base.proofs.Standard.{ℕ, ◌++◌, Some, length, ap, subst, slice_get, slice_index_or, ◌≡◌, arith, pos, slice_get-get_or}
 use Rattle.prl_base.specs.Clocks.{date_at}
 use Rattle.prl_base.specs.declared.values.Value.{Value}
 use Rattle.prl_base.specs.declared.values.Value.TheVariants as values
@@ -16,10 +16,8 @@ loop-n-preserved c =
     let v : Value = slice_index_or c.out.inside.values.now n (values.Int (pos 0)) in
     let found : slice_get c.args.out.now.values n ≡ Some v =
     subst (λ (o : OutFlow). slice_get o.values n ≡ Some v) c.out.view_is (slice_get-get_or c.out.inside.values.now n (values.Int (pos 0)) c.loop-n-test.true) in
-    let named : c.push_row.new.text.items ≡ c.loop-n.text.items ++ row_text (record { name = c.out.inside.name.now; instance = n; date = date_at c.out.inside.clock n; value = v }) =
-    c.in_ok-push_row.ensures ∙ ap (λ (name : List ℕ). c.loop-n.text.items ++ row_text (record { name = name; instance = n; date = date_at c.out.inside.clock n; value = v })) c.bytes.ensures.bytes in
     one_more c.args.out.now c.requires c.args.text.now.items c.loop-n.text.items c.push_row.new.text.items n v found c.loop-n.invariant
-    (subst (λ (o : OutFlow). c.push_row.new.text.items ≡ c.loop-n.text.items ++ row_text (record { name = o.name; instance = n; date = date_at o.clock n; value = v })) c.out.view_is named)
+    (subst (λ (o : OutFlow). c.push_row.new.text.items ≡ c.loop-n.text.items ++ row_text (record { name = c.args.out.now.name; instance = n; date = date_at o.clock n; value = v })) c.out.view_is c.in_ok-push_row.ensures)
 
 pub returns : goal.returns
 returns c = λ until up_to.

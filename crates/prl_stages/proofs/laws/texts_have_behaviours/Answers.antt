@@ -1,8 +1,7 @@
-use Rattle.prl_stages.specs.Vocabulary.{FindOne, PartLaws, WholeLaws}
+use Rattle.prl_stages.specs.Vocabulary.{FindOne, PartLaws, RunningLaws, WholeLaws}
 use Rattle.prl_stages.proofs.OneParts.{one_clocks, one_flat}
 use Rattle.prl_stages.proofs.OnePlan.{one_graph}
 use Rattle.prl_stages.proofs.OneRun.{one_plan}
-use Rattle.prl_stages.proofs.Running as running
 use Rattle.prl_stages.proofs.Replaying.{behaviour_there}
 use Rattle.prl_stages.proofs.SomeText.{cores_text, cycle_text, flows_text, replay_text, run_text, summary_text}
 use Rattle.prl_stages.proofs.laws.texts_have_behaviours.Goals as goal
@@ -11,25 +10,7 @@ pub returns : goal.returns
 returns c =
     let ones : FindOne = c.findings_are_one.ensures in
     let one : PartLaws = ones.parts in
-    let law : running.Laws = record {
-      meaning_laws = record {
-        solutions = c.behaviours_are_solutions.ensures;
-        states = c.behaviours_are_of_their_states.ensures;
-        clocks = c.clocks_are_unique.ensures.solutions;
-      };
-      fitted = c.expansions_have_bodies.ensures;
-      solved = c.programs_have_one_solution.ensures;
-      solves = c.solutions_are_of_their_clocks.ensures;
-      read = c.rows_are_typed_and_enough.ensures;
-      task_bodies = c.bodies_and_rows_serve_tasks.ensures.bodies;
-      task_rows = c.bodies_and_rows_serve_tasks.ensures.rows;
-      exist = c.job_values_exist.ensures;
-      agree = c.job_values_are_one.ensures.edges;
-      given = c.solutions_give_job_values.ensures.given;
-      operands = c.solutions_give_job_values.ensures.operands;
-      clock_of_task = c.ports_have_the_clock_of_their_task.ensures;
-      got = c.actuators_get_the_outputs.ensures;
-    } in
+    let law : RunningLaws = c.runs_tell_of_behaviours.ensures in
     let whole : WholeLaws = c.whole_lists_are_there.ensures in
     record {
       behaviour = λ g bodies trees flat clocks rows has p main is. behaviour_there one law whole g bodies trees flat clocks rows has p main is;

@@ -1,15 +1,5 @@
-use Rattle.prl_table.proofs.OneMake.{Laws}
 use Rattle.prl_table.proofs.OneTable.{one_table}
 use Rattle.prl_table.proofs.laws.made_tables_are_one.Goals as goal
 
 pub returns : goal.returns
-returns c =
-    let law : Laws = record {
-      one_horizon = c.horizons_end_one_way.ensures.one_horizon;
-      not_both = c.horizons_end_one_way.ensures.not_both;
-      one_limit = c.horizons_end_one_way.ensures.one_limit;
-      facts = c.plans_keep_facts.ensures;
-      overloaded = c.feasibility.ensures.overloaded;
-      one_verdict = c.verdicts_are_one.ensures.verdicts;
-    } in
-    one_table law c.made_table_is_good.ensures
+returns c = one_table c.make_laws.ensures c.made_table_is_good.ensures

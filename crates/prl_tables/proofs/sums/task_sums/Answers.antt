@@ -13,6 +13,15 @@ entry_there : (plan : PlanView) (entries : List Entry) (back : ℕ) → ArePiece
 entry_there plan entries back pieces inside =
     pieces (length entries - 1 - back) (get_or entries (length entries - 1 - back) no_entry) (slice_get-get_or entries (length entries - 1 - back) no_entry (omega (arith, inside)))
 
+-- the list from the next entry on
+from_next : (entries : List Entry) (back : ℕ) → back < length entries →
+    get_or entries (length entries - 1 - back) no_entry ∷ drop (length entries - back) entries ≡ drop (length entries - (back + 1)) entries
+from_next entries back inside =
+    let one : length entries - 1 - back + 1 ≡ length entries - back = omega (arith, inside) in
+    let front : length entries - 1 - back ≡ length entries - (back + 1) = omega (arith, inside) in
+    ap (λ (k : ℕ). get_or entries (length entries - 1 - back) no_entry ∷ drop k entries) (sym one)
+    ∙ sym (drop_more entries (length entries - 1 - back) no_entry (omega (arith, inside))) ∙ ap (λ (k : ℕ). drop k entries) front
+
 pub loop-back-init : goal.loop-back-init
 loop-back-init c =
     let items : c.in_ok-list.list.items ≡ replicate c.classes.result c.none.result = c.in_ok-list.ensures.items_if_clones_equal (λ y is. is) in
@@ -37,17 +46,8 @@ add_entry-requires-clause-end c =
 pub loop-back-preserved : goal.loop-back-preserved
 loop-back-preserved c =
     let inside : c.loop-back.back < length c.args.entries.now = (let t = c.loop-back-test.true in let e = c.loop-back.auto.back-end in omega (arith, t, e)) in
-    let next : drop (length c.args.entries.now - 1 - c.loop-back.back) c.args.entries.now
-    ≡ get_or c.args.entries.now (length c.args.entries.now - 1 - c.loop-back.back) no_entry ∷ drop (length c.args.entries.now - 1 - c.loop-back.back + 1) c.args.entries.now =
-    drop_more c.args.entries.now (length c.args.entries.now - 1 - c.loop-back.back) no_entry (omega (arith, inside)) in
-    let one : length c.args.entries.now - 1 - c.loop-back.back + 1 ≡ length c.args.entries.now - c.loop-back.back = omega (arith, inside) in
-    let front : length c.args.entries.now - 1 - c.loop-back.back ≡ length c.args.entries.now - (c.loop-back.back + 1) = omega (arith, inside) in
-    let list : get_or c.args.entries.now (length c.args.entries.now - 1 - c.loop-back.back) no_entry ∷ drop (length c.args.entries.now - c.loop-back.back) c.args.entries.now
-    ≡ drop (length c.args.entries.now - (c.loop-back.back + 1)) c.args.entries.now =
-    ap (λ (k : ℕ). get_or c.args.entries.now (length c.args.entries.now - 1 - c.loop-back.back) no_entry ∷ drop k c.args.entries.now) (sym one)
-    ∙ sym next ∙ ap (λ (k : ℕ). drop k c.args.entries.now) front in
     record {
       classes = c.add_entry.ensures.classes ∙ c.loop-back.invariant.classes;
-      sums = subst (λ (es : List Entry). HasSums es c.args.task.0 c.add_entry.new.list.items) list
+      sums = subst (λ (es : List Entry). HasSums es c.args.task.0 c.add_entry.new.list.items) (from_next c.args.entries.now c.loop-back.back inside)
           (c.add_entry.ensures.sums (drop (length c.args.entries.now - c.loop-back.back) c.args.entries.now) c.loop-back.invariant.sums);
     }

@@ -27,15 +27,13 @@ pub base-returns-in_ok-flows-in-Group-clause-flows : goal.base-returns-in_ok-flo
 base-returns-in_ok-flows-in-Group-clause-flows t c =
     let p = program_tree c.args.context.now in
     let node = c.args.node in
-    let whole = ap (root_flows p node) (root_of_Group c.in-Group.exprs) in
-    let trees = ap all_trees c.as_slice-in-Group.ensures.value in
-    let flows = c.in_ok-flows-in-Group.ensures.flows ∙ ap (placed_flows p node) trees in
-    rw c.in-Group.is (sym (terms_of_flows c.in_ok-flows-in-Group.flows.items) ∙ ap terms_of flows ∙ terms_placed_flows p node (all_trees c.in-Group.exprs.items) ∙ sym whole)
+    let flows = c.in_ok-flows-in-Group.ensures.flows ∙ ap (placed_flows p node) (ap all_trees c.as_slice-in-Group.ensures.value) in
+    rw c.in-Group.is (sym (terms_of_flows c.in_ok-flows-in-Group.flows.items) ∙ ap terms_of flows ∙ terms_placed_flows p node (all_trees c.in-Group.exprs.items)
+    ∙ sym (ap (root_flows p node) (root_of_Group c.in-Group.exprs)))
 
 pub base-returns-in_ok-flows-in-Group-clause-rules : goal.base-returns-in_ok-flows-in-Group-clause-rules
 base-returns-in_ok-flows-in-Group-clause-rules t c =
     let p = program_tree c.args.context.now in
-    let node = c.args.node in
-    let whole = ap (root_rules p node) (root_of_Group c.in-Group.exprs) in
-    let trees = ap all_trees c.as_slice-in-Group.ensures.value in
-    rw c.in-Group.is (c.in_ok-flows-in-Group.ensures.rules ∙ ap (λ ts. c.args.rules.now.rules ++ all_rules p node ts) trees ∙ ap (λ (rs : List Rule). c.args.rules.now.rules ++ rs) (sym whole))
+    let added = λ (rs : List Rule). c.args.rules.now.rules ++ rs in
+    rw c.in-Group.is (c.in_ok-flows-in-Group.ensures.rules ∙ ap (λ ts. added (all_rules p c.args.node ts)) (ap all_trees c.as_slice-in-Group.ensures.value)
+    ∙ ap added (sym (ap (root_rules p c.args.node) (root_of_Group c.in-Group.exprs))))

@@ -16,7 +16,7 @@ small_operand plan e n inside is small fit (operands.From m) at = (let low = fit
 pub operand-requires-clause-small : goal.operand-requires-clause-small
 operand-requires-clause-small c =
     let plan = c.args.plan.now in
-    let release = subst (λ (tick : ℕ). tick < 2 ^ 33) c.release_of-release.ensures.exact c.release_of-release.ensures.early in
+    let release = subst (λ (tick : ℕ). tick < 2 ^ 33) c.dates_of-dates.ensures.release c.dates_of-dates.ensures.early in
     let small = subst (λ (edge : Edge). release_at plan edge.to.0 c.args.n < 2 ^ 33) c.edge_of-edge.ensures.edge release in
     small_operand plan c.args.e.0 c.args.n c.requires.edge c.plan_is_one.ensures small c.look_ups_fit.ensures.operand
     (operand_of (edge_at plan.graph c.args.e.0) c.args.n) refl

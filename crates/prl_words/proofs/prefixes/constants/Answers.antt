@@ -3,6 +3,7 @@ use Rattle.prl_base.specs.declared.operators.Op.{Op}
 use Rattle.prl_plan.specs.FirstReaders.{reader_before, first_reader}
 use Rattle.prl_words.specs.Counts.{HaveCounts}
 use Rattle.prl_words.proofs.Constants.{counts_after, counts_start, factor_here, first_reader_fits}
+use Rattle.prl_words.proofs.prefixes.constants.Goals.{After-index-ops-ops}
 use Rattle.prl_words.proofs.prefixes.constants.Goals as goal
 
 -- the operators from one on
@@ -17,20 +18,21 @@ from_one ops jobs j op counts below is =
     let after = counts_after j ops jobs counts (omega (arith, below)) in
     record { split = split; count = after.0; counts = subst (λ (rest : List Op). HaveCounts rest after.0) split after.1 }
 
+from_here : (c : After-index-ops-ops) → IsFrom c.args.ops.now (length c.args.ops.now - 1 - c.loop-k.k) c.index-ops-ops.result
+from_here c =
+    from_one c.args.ops.now c.requires.counts.0 (length c.args.ops.now - 1 - c.loop-k.k) c.index-ops-ops.result c.requires.counts.1 (omega arith) c.index-ops-ops.is
+
 pub reader_before-first-requires-clause-factor : goal.reader_before-first-requires-clause-factor
 reader_before-first-requires-clause-factor c =
-    let ops = c.args.ops.now in
-    let j = length ops - 1 - c.loop-k.k in
-    let op = c.index-ops-ops.result in
-    let from = from_one ops c.requires.counts.0 j op c.requires.counts.1 (omega arith) c.index-ops-ops.is in
-    factor_here op from.count from.counts.1.0 from.counts.1.1 from.counts.0.0 (counts_start (drop (j + 1) ops) from.counts.1.0 from.counts.1.2).0
+    let from = from_here (goal.at.reader_before-first-requires-clause-factor c).After-index-ops-ops in
+    factor_here c.index-ops-ops.result from.count from.counts.1.0 from.counts.1.1 from.counts.0.0 (counts_start _ from.counts.1.0 from.counts.1.2).0
 
 pub reader_before-first-requires-clause-fits : goal.reader_before-first-requires-clause-fits
 reader_before-first-requires-clause-fits c =
     let ops = c.args.ops.now in
     let j = length ops - 1 - c.loop-k.k in
     let op = c.index-ops-ops.result in
-    let from = from_one ops c.requires.counts.0 j op c.requires.counts.1 (omega arith) c.index-ops-ops.is in
+    let from = from_here (goal.at.reader_before-first-requires-clause-fits c).After-index-ops-ops in
     let long : length (op ∷ drop (j + 1) ops) ≡ length ops - j = ap length (sym from.split) ∙ length-drop j ops in
     let whole : first_reader (op ∷ drop (j + 1) ops) < 2 ^ 64 =
     first_reader_fits (op ∷ drop (j + 1) ops) from.count from.counts (omega (arith, long, c.requires.few)) in

@@ -1,8 +1,8 @@
-use Rattle.std.proofs.Common.{rules, ◌≡◌, ◌+◌, ◌<◌, ◌^◌, ℕ, length, take, refl, subst, sym, arith}
-use Rattle.prl_plan.specs.Vocabulary.{Operand, operand_of, PlanView, IsPlan, edge_at, release_at, reads_of, IsSmallOperand}
+use Rattle.std.proofs.Common.{rules, ◌≡◌, ◌<◌, ◌^◌, ℕ, length, refl, subst, sym, arith}
+use Rattle.prl_plan.specs.Vocabulary.{Operand, operand_of, PlanView, IsPlan, edge_at, release_at, IsSmallOperand}
 use Rattle.prl_plan.specs.declared.walks.Operand.TheVariants as operands
-use Rattle.prl_plan.proofs.ActionLists.{read_found, read_passed, read_other}
 use Rattle.prl_plan.proofs.PlanNumbers.{operand_within}
+use Rattle.prl_plan.proofs.ActionLists.{read_passed, read_other}
 use Rattle.prl_plan.proofs.plans.Plan.read_at.Goals.{then-leads_to+in-Err, else-leads_to}
 use Rattle.prl_plan.proofs.plans.Plan.read_at.Goals as goal
 
@@ -18,19 +18,9 @@ read_on-requires-clause-small c =
     small_operand c.args.self.now c.graph.ensures.plan c.loop-e.e c.args.n c.args.i.0 inside c.if-leads_to.ensures.yes c.requires.small
     (operand_of (edge_at c.args.self.now.graph c.loop-e.e) c.args.n) refl
 
-pub returns-in-Ok : goal.returns-in-Ok
-returns-in-Ok c =
-    let inside : c.loop-e.e < length c.args.self.now.graph.edges = search rules in
-    read_found c.args.self.now c.args.i.0 c.args.n c.loop-e.e inside c.args.place c.loop-e.left c.in-Ok.action c.if-leads_to.ensures.yes c.loop-e.invariant c.in-Ok.ensures
-
 pub loop-e-preserved : goal.loop-e-preserved
-loop-e-preserved c =
-    let inside : c.loop-e.e < length c.args.self.now.graph.edges = search rules in
-    elim c.if-leads_to.branch [
-      | then-leads_to+in-Err w ↦
-          subst (λ (x : ℕ). c.args.place ≡ length (reads_of c.args.self.now c.args.i.0 c.args.n 0 (take (c.loop-e.e + 1) c.args.self.now.graph.edges)) + x) (sym w.left-is)
-          (read_passed c.args.self.now c.args.i.0 c.args.n c.loop-e.e inside c.args.place c.loop-e.left w.in-Err.rest w.if-leads_to.ensures.yes c.loop-e.invariant w.in-Err.ensures)
-      | else-leads_to w ↦
-          subst (λ (x : ℕ). c.args.place ≡ length (reads_of c.args.self.now c.args.i.0 c.args.n 0 (take (c.loop-e.e + 1) c.args.self.now.graph.edges)) + x) (sym w.left-is)
-          (read_other c.args.self.now c.args.i.0 c.args.n c.loop-e.e inside c.args.place c.loop-e.left w.if-leads_to.ensures.no c.loop-e.invariant)
-    ]
+loop-e-preserved c = elim c.if-leads_to.branch [
+  | then-leads_to+in-Err w ↦ rw w.left-is
+      (read_passed c.args.self.now c.args.i.0 c.args.n c.loop-e.e (search rules) c.args.place c.loop-e.left w.in-Err.rest w.if-leads_to.ensures.yes c.loop-e.invariant w.in-Err.ensures)
+  | else-leads_to w ↦ rw w.left-is (read_other c.args.self.now c.args.i.0 c.args.n c.loop-e.e (search rules) c.args.place c.loop-e.left w.if-leads_to.ensures.no c.loop-e.invariant)
+]

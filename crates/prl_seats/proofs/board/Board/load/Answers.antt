@@ -7,11 +7,9 @@ use Rattle.prl_seats.proofs.board.Board.load.Goals as goal
 
 pub load-requires : goal.load-requires
 load-requires g c =
-    let same : known c.self.inside.plan.now c.self.inside.horizon c.self.inside.gate c.self.inside.sensors.now c.self.inside.bodies.now ≡ c.args.self.now.known = ap (λ (d : BoardView). d.known) c.self.view_is in
-    let count : word_count (run_of (known c.self.inside.plan.now c.self.inside.horizon c.self.inside.gate c.self.inside.sensors.now c.self.inside.bodies.now)) ≡ word_count (run_of c.args.self.now.known) = ap (λ (k : Constants). word_count (run_of k)) same in
-    let sized = c.self.invariant.sized in let inside = c.requires.word in (
+    let same : known c.self.inside.plan.now c.self.inside.horizon c.self.inside.gate c.self.inside.sensors.now c.self.inside.bodies.now ≡ c.args.self.now.known = ap (λ (d : BoardView). d.known) c.self.view_is in (
       c.requires.table ∙ sym (ap (λ (d : BoardView). d.table) c.self.view_is),
-      omega (arith, sized, count, inside),
+      omega (arith, c.self.invariant.sized, ap (λ (k : Constants). word_count (run_of k)) same, c.requires.word),
       subst (λ (k : Constants). Allows (Agreed k) c.self.inside.table.shared.table_id.slots c.args.seat.now.id c.args.seat.now.me c.args.word (λ n. n) (λ n m. g.J.Telling.told c.args.seat.now.me.0 n m.0 × (m.1 ≡ c.args.seat.now.me.1))) (sym (c.self.invariant.keyed ∙ same))
           (c.requires.allows c.self.inside.table.shared.table_id.slots),
     )

@@ -1,7 +1,7 @@
 use Rattle.std.proofs.Common.{◌≡◌, ◌+◌, ◌<◌, ℕ, length, slice_index_or}
 use Rattle.prl_plan.specs.Dates.{no_window}
 use Rattle.prl_dates.specs.Vocabulary.{jobs_before, window_of}
-use Rattle.prl_dates.proofs.windows.all_windows.Given as goal
+use Rattle.prl_dates.proofs.windows.windows_of.Given as goal
 
 abbrev pub invariant-loop-p : goal.invariant-loop-p
 invariant-loop-p l = record {
