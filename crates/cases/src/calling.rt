@@ -1,7 +1,7 @@
 //! Makes a call on files and sinks in memory.
 
 use crate::calls::{Call, limits_of};
-use case_texts::Report;
+use crate::report::Report;
 use prl_app::prelude_alone;
 use prl_explain::explain;
 use prl_io::{MemFiles, MemSink};
@@ -74,13 +74,13 @@ fn status_on(
 fn words_of(report: &mut Report, line: &str) -> Vec<String> {
     let mut words = Vec::new(report.alloc);
     for word in line.split_ascii_whitespace() {
-        add_word(report, &mut words, word);
+        add_word(report, &mut words, if word == "''" { "" } else { word });
     }
     words
 }
 
-fn add_word(report: &mut Report, words: &mut Vec<String>, word: &str) {
-    let word = if word == "''" { "" } else { word };
+/// Adds a word to others.
+pub fn add_word(report: &mut Report, words: &mut Vec<String>, word: &str) {
     match String::from_str(report.alloc, word) {
         Ok(word) => report.put(words, word),
         Err(_) => report.refuse("no memory"),

@@ -1,8 +1,11 @@
 //! What the lines below a command line say.
 
+use crate::comparing::GAP;
+use crate::drafts::Draft;
+use crate::expanding::{Filling, add_lines, add_text};
+use crate::lines::{after, said};
+use crate::report::Report;
 use crate::scenes::{Scene, filled};
-use case_texts::{Draft, Filling, GAP, Report, add_lines, add_text, after, said};
-use std::alloc::Global;
 
 /// A command line, and what it is to tell.
 #[derive(Drop)]
@@ -105,18 +108,13 @@ pub struct Limits {
     pub fails: Vec<u64>,
 }
 
-/// Much room, and no failure.
-fn no_limits(alloc: Global) -> Limits {
-    Limits {
+/// What the lines that begin so say: much room and no failure where they say nothing.
+pub fn limits_of(report: &mut Report, lines: &[&str], start: &str) -> Limits {
+    let mut limits = Limits {
         room: 1_000_000,
         most: 100_000,
-        fails: Vec::new(alloc),
-    }
-}
-
-/// What the lines that begin so say.
-pub fn limits_of(report: &mut Report, lines: &[&str], start: &str) -> Limits {
-    let mut limits = no_limits(report.alloc);
+        fails: Vec::new(report.alloc),
+    };
     for line in lines {
         if let Some(words) = after(line, start) {
             read_limits(report, &mut limits, words);

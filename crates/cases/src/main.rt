@@ -5,55 +5,61 @@
 
 mod calling;
 mod calls;
+mod comparing;
+mod drafts;
+mod expanding;
+mod lines;
 mod listing;
 mod reading;
+mod report;
 mod running;
 mod scenes;
 
-use case_texts::{NO_CASE, Report, Tally, lines_of};
+use lines::lines_of;
 use listing::case_files;
 use reading::run_lines;
+use report::Report;
 use std::process::ExitCode;
 use std::{fs, io};
 
-/// Runs the cases of all files.
-fn run_all(rt: &HostRuntime) -> io::Result<Tally> {
-    let names = case_files(rt)?;
-    run_files(rt, &names)
-}
-
-/// Runs the cases of these files, and tells how many of all passed.
-fn run_files(rt: &HostRuntime, names: &[String]) -> io::Result<Tally> {
-    let mut all = NO_CASE;
-    for name in names {
-        all.add(run_file(rt, name.as_str())?);
+/// Runs the cases of all files, and tells how many passed.
+fn run_all(rt: &HostRuntime, report: &mut Report) -> io::Result<()> {
+    let names = case_files(rt, report)?;
+    for name in &names {
+        run_file(rt, report, name.as_str())?;
     }
-    println!(rt; "all {all}")?;
-    Ok(all)
+    report.sum_up("all", (0, 0));
+    Ok(())
 }
 
-/// Runs the cases of a file, and tells how many passed.
-fn run_file(rt: &HostRuntime, name: &str) -> io::Result<Tally> {
+/// Runs the cases of a file.
+fn run_file(rt: &HostRuntime, report: &mut Report, name: &str) -> io::Result<()> {
     let text = fs::read_to_string(rt, name)?;
-    run_text(rt, name, text.as_str())
+    run_text(report, name, text.as_str());
+    Ok(())
 }
 
-fn run_text(rt: &HostRuntime, name: &str, text: &str) -> io::Result<Tally> {
-    let mut report = Report::new(rt.alloc());
-    let lines = lines_of(&mut report, text);
-    run_lines(&mut report, name, lines.as_slice());
-    print_report(rt, name, report.text.text.as_str(), report.tally())
+/// Runs the cases of the text of this file, and tells how many passed.
+fn run_text(report: &mut Report, name: &str, text: &str) {
+    let before = report.counts;
+    let lines = lines_of(report, text);
+    run_lines(report, name, lines.as_slice());
+    report.sum_up(name, before);
 }
 
-/// Tells what is wrong with the cases of a file, and how many passed.
-fn print_report(rt: &HostRuntime, name: &str, faults: &str, tally: Tally) -> io::Result<Tally> {
-    print!(rt; "{faults}{name} {tally}\n")?;
-    Ok(tally)
+/// Tells what is wrong with the cases, and how many passed.
+fn print_report(rt: &HostRuntime, report: &Report) -> io::Result<()> {
+    let text = report.text.text.as_str();
+    print!(rt; "{text}")
 }
 
 fn main(rt: HostRuntime) -> io::Result<ExitCode> {
-    let all = run_all(&rt)?;
-    if all.is_clean() {
+    let mut report = Report::new(rt.alloc());
+    let ran = run_all(&rt, &mut report);
+    // What was found up to a file that could not be read is told too.
+    print_report(&rt, &report)?;
+    ran?;
+    if report.is_clean() {
         Ok(ExitCode::SUCCESS)
     } else {
         Ok(ExitCode::FAILURE)

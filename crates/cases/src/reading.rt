@@ -1,9 +1,11 @@
 //! Reads the lines of a file of cases, and makes each call where it stands.
 
 use crate::calls::is_of_call;
+use crate::expanding::Filling;
+use crate::lines::{after, behind, front, trimmed};
+use crate::report::Report;
 use crate::running::run_call;
 use crate::scenes::{Body, CaseFile, LineEnd, Scene, filled};
-use case_texts::{Filling, Report, after, behind, front, trimmed};
 
 /// What the line before belongs to.
 #[derive(Clone, Copy)]
@@ -67,7 +69,7 @@ pub fn run_lines<'a>(report: &mut Report, file: &str, lines: &'a [&'a str]) {
     if !head.words.is_empty() {
         report.refuse("a call");
     }
-    report.end_head();
+    report.end(false);
     run_cases(report, file, head.files.as_slice(), lines);
 }
 
@@ -79,7 +81,7 @@ fn run_cases<'a>(report: &mut Report, file: &str, shared: &[CaseFile<'_>], lines
             if has_case(front(lines, k), name) {
                 report.refuse("a second case of this name");
             }
-            report.end();
+            report.end(true);
         }
     }
 }
@@ -153,27 +155,25 @@ fn take_line<'a>(
     }
 }
 
-/// Refuses a line that says nothing where it stands.
+/// Refuses a line that says nothing where it stands; outside files comments may.
 fn check_line(report: &mut Report, place: Place, line: &str) {
     match place {
         Place::File => {}
-        Place::Head | Place::Call if is_comment(line) => {}
+        Place::Head | Place::Call if line.is_empty() || line.starts_with("//") => {}
         Place::Head => report.refuse("no file and no call"),
         Place::Call if is_of_call(line) => {}
         Place::Call => report.refuse("no line of a call"),
     }
 }
 
-/// Whether a line outside a file says nothing.
-fn is_comment(line: &str) -> bool {
-    line.is_empty() || after(line, "//").is_some()
-}
-
 /// The file that a head begins: a name, and `crlf` or `open` behind it.
 fn add_file<'a>(report: &mut Report, scene: &mut Scene<'a>, head: &'a str, lines: &'a [&'a str]) {
     let (name, kind) = head.split_once(' ').unwrap_or((head, ""));
     match line_end(kind) {
-        Some(end) => put_file(report, scene, name, Body::Lines(trimmed(lines), end)),
+        Some(end) => {
+            let body = Body::Lines(trimmed(lines), end);
+            report.put(&mut scene.files, CaseFile { name, body });
+        }
         None => report.refuse("no kind of file"),
     }
 }
@@ -185,11 +185,6 @@ fn line_end(kind: &str) -> Option<LineEnd> {
         "open" => Some(LineEnd::LastOpen),
         _ => None,
     }
-}
-
-/// A file of this name is the newest of the scene.
-pub fn put_file<'a>(report: &mut Report, scene: &mut Scene<'a>, name: &'a str, body: Body<'a>) {
-    report.put(&mut scene.files, CaseFile { name, body });
 }
 
 /// The text for the holes of a name, from `NAME TEXT`.
@@ -212,16 +207,10 @@ fn case_lines<'a>(lines: &'a [&'a str]) -> &'a [&'a str] {
 /// The lines up to the next that begins something.
 fn block<'a>(lines: &'a [&'a str]) -> &'a [&'a str] {
     for (k, line) in lines.iter().enumerate() {
-        if begins(line) {
-            return front(lines, k);
+        match kind_of(line) {
+            Kind::Nothing => {}
+            _ => return front(lines, k),
         }
     }
     lines
-}
-
-fn begins(line: &str) -> bool {
-    match kind_of(line) {
-        Kind::Nothing => false,
-        _ => true,
-    }
 }

@@ -2,9 +2,11 @@
 
 use crate::calling::{Sinks, sinks_of, status_of};
 use crate::calls::{Call, call_of, limits_of};
-use crate::reading::put_file;
-use crate::scenes::{Body, Folder, Scene, cut, folder_of};
-use case_texts::{Draft, Report, is_made_of, said};
+use crate::comparing::is_made_of;
+use crate::drafts::Draft;
+use crate::lines::said;
+use crate::report::Report;
+use crate::scenes::{Body, CaseFile, Folder, Scene, cut, folder_of};
 use prl_io::MemFiles;
 
 /// Makes the call of this command line, or of the last one where it is empty, with these lines below it.
@@ -107,8 +109,8 @@ fn run_to<'a>(
 /// Keeps what a call wrote as the file that it is to be.
 fn keep<'a>(report: &mut Report, scene: &mut Scene<'a>, lines: &[&'a str], out: &[u8]) {
     if let Some(name) = said(lines, "into ") {
-        let bytes = report.copy(out);
-        put_file(report, scene, name, Body::Bytes(bytes));
+        let body = Body::Bytes(report.copy(out));
+        report.put(&mut scene.files, CaseFile { name, body });
     }
 }
 

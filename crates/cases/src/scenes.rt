@@ -1,6 +1,8 @@
 //! What calls are made on. Names and the lines of files are parts of the text of a file of cases.
 
-use case_texts::{Draft, Filling, Report, add_lines, add_text};
+use crate::drafts::Draft;
+use crate::expanding::{Filling, add_lines, add_text};
+use crate::report::Report;
 use prl_base::Label;
 use std::alloc::Global;
 

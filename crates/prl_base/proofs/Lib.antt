@@ -5,3 +5,4 @@ pub mod Examples
 pub mod Coprime
 pub mod LineCuts
 pub mod Standard
+pub mod Quotients

@@ -10,4 +10,6 @@ pub mod Texts
 pub mod Decimals
 pub mod Limits
 pub mod Lines
+pub mod BodyOperators
+pub mod BodyTypes
 pub mod Vocabulary

@@ -1,8 +1,11 @@
 //! What every layer of the compiler speaks of: values and their types, names, places in a text,
-//! ratios, strictly periodic clocks, the operators on flows, limits, how all these are written, and
-//! the numbers by which the layers name tasks, edges, cells and flows. It stands on `std` and `itoa`.
+//! ratios, strictly periodic clocks, the operators on flows, the operators of bodies with their types
+//! and values, limits, how all these are written, and the numbers by which the layers name tasks,
+//! edges, cells and flows. It stands on `std` and `itoa`.
 #![tactic(auto)]
 
+mod body_operators;
+mod body_types;
 mod decimals;
 mod limits;
 mod lines;
@@ -15,6 +18,8 @@ mod seqs;
 mod texts;
 mod values;
 
+pub use body_operators::{Operator, Prefix, truth_of};
+pub use body_types::is_same_type;
 pub use decimals::{
     MAX_NEGATIVE, MAX_POSITIVE, are_digits, decimal_of, integer_of, negative, positive,
 };

@@ -7,3 +7,8 @@ pub use Rattle.prl_behaviours.specs.Asked.{outputs_of, program_rules, root_given
 pub use Rattle.prl_behaviours.specs.Behaviours.{Behaviour, Satisfies, behaviour_of, state_in}
 pub use Rattle.prl_behaviours.specs.Texts.{AreRights, HasVariables, IsText, node_at, node_of}
 pub use Rattle.prl_behaviours.specs.Texts.{node_or}
+pub use Rattle.prl_behaviours.specs.Conditions.{AreTyped, AreTypedRows, HaveTypedBodies, clocks_in}
+pub use Rattle.prl_behaviours.specs.Conditions.{values_in}
+pub use Rattle.prl_behaviours.specs.Tables.{IsFixed, Reads, Table, applied_of, argument_values, nothing}
+pub use Rattle.prl_behaviours.specs.Tables.{table_of, taken, value_of}
+pub use Rattle.prl_behaviours.specs.Uniqueness.{ExactlyOne}

@@ -1,7 +1,9 @@
-//! Laws of annotated texts, as functions that do nothing: the contract of each is the law, over the definitions alone.
+//! Laws of annotated texts and of solutions, as functions that do nothing: the contract of each is the law, over the
+//! definitions alone.
 
 ghost use Rattle.std.specs.Prelude.{◌≡◌, ℕ, List, length, map};
 ghost use Rattle.std.specs.List.{AllByRecursion, range_with_len};
+ghost use Rattle.prl_base.specs.declared.numbers.FlowNo.{FlowNo};
 ghost use Rattle.prl_base.specs.declared.operators.Clock.{Clock};
 ghost use Rattle.prl_base.specs.declared.values.Value.{Value};
 ghost use Rattle.prl_ast.specs.Trees.{ProgramTree};
@@ -9,11 +11,13 @@ ghost use Rattle.prl_body.specs.Bodies.{IsWellTyped};
 ghost use Rattle.prl_body.specs.declared.bodies.CheckedBody.{CheckedBody};
 ghost use Rattle.prl_flow.specs.Vocabulary.{HaveBodies, FlatProgram, IsFlat, Rows, mark_rule};
 ghost use Rattle.prl_flow.specs.Vocabulary.{AreClocks, Solves, IsSolution, State, Timed, flow_at};
-ghost use Rattle.prl_flow.specs.Vocabulary.{registers_at};
+ghost use Rattle.prl_flow.specs.Vocabulary.{HasRows, IsOrder, registers_at};
 ghost use Rattle.prl_behaviours.specs.Annotations.{Entered, flows_in, imports_in};
 ghost use Rattle.prl_behaviours.specs.Asked.{program_rules};
 ghost use Rattle.prl_behaviours.specs.Behaviours.{Behaviour, behaviour_of, state_in};
 ghost use Rattle.prl_behaviours.specs.Texts.{IsText};
+ghost use Rattle.prl_behaviours.specs.Conditions.{AreTyped, AreTypedRows, HaveTypedBodies, clocks_in, values_in};
+ghost use Rattle.prl_behaviours.specs.Uniqueness.{ExactlyOne};
 
 /// What a text asks for follows what stands at its places: with other things there, the same rules are asked of these.
 pub fn rules_follow_marks()
@@ -52,3 +56,25 @@ pub fn solutions_over_clocks_are_whole()
         → IsFlat p → AreClocks p clocks → HaveBodies p bodies → AllByRecursion IsWellTyped bodies → Solves p clocks bodies rows until flows
         → (s : State) × IsSolution p bodies rows until s × (map (λ (f : Timed). f.clock) s.flows ≡ clocks) × (map (λ (f : Timed). f.values) s.flows ≡ flows) }
 {}
+
+/// A program has exactly one solution over its clocks up to each date, where its flows have an
+/// order of causality, its applications have bodies that fit, and its sensors have a row for each
+/// date.
+pub fn programs_have_one_solution()
+    ensures { (p : FlatProgram) (clocks : List Clock) (order : List FlowNo) (bodies : List CheckedBody) (rows : Rows) (until : ℕ)
+        → IsFlat p → AreClocks p clocks → IsOrder p order → HaveBodies p bodies → HaveTypedBodies p bodies → HasRows p clocks rows until
+        → ExactlyOne (λ (s : State). IsSolution p bodies rows until s × (clocks_in s ≡ clocks)) }
+{
+    solutions_are_of_their_clocks();
+    solutions_over_clocks_are_whole();
+}
+
+/// And where the rows of the sensors have the types of their flows, all values of a solution have
+/// the types of theirs.
+pub fn solutions_are_typed()
+    ensures { (p : FlatProgram) (order : List FlowNo) (bodies : List CheckedBody) (rows : Rows) (until : ℕ) (s : State)
+        → IsFlat p → IsOrder p order → HaveBodies p bodies → HaveTypedBodies p bodies → AreTypedRows p rows
+        → IsSolution p bodies rows until s → AreTyped p (values_in s) }
+{
+    solutions_are_of_their_clocks();
+}

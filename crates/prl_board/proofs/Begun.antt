@@ -3,8 +3,8 @@ use Rattle.std.proofs.Common.{◌≡◌, ◌+◌, ℕ, List, length, set, sym, s
 use Rattle.prl_base.specs.declared.values.Value.{Value}
 use Rattle.prl_body.specs.declared.bodies.CheckedBody.{CheckedBody}
 use Rattle.prl_flow.specs.Rows.{Rows}
-use Rattle.prl_workers.specs.Workers.{HasBegun, HasTaken, IsReady}
-use Rattle.prl_workers.specs.declared.workers.Worker.{Worker}
+use Rattle.prl_values.specs.Workers.{HasBegun, HasTaken, IsReady}
+use Rattle.prl_values.specs.declared.workers.Worker.{Worker}
 
 module _ (rows rows' : Rows) (bodies bodies' : List CheckedBody) (n n' : ℕ) (r : rows' ≡ rows) (b : bodies' ≡ bodies) (j : n' ≡ n) where
   pub begun_with : (before after : Worker) → HasBegun rows' bodies' n' before after → HasBegun rows bodies n before after

@@ -7,7 +7,7 @@ use Rattle.prl_plan.specs.Facts.{IsJob}
 use Rattle.prl_plan.specs.declared.events.Action.{Action}
 use Rattle.prl_plan.specs.declared.events.SlotNo.{SlotNo}
 use Rattle.prl_plan.specs.declared.events.Action.TheVariants as actions
-use Rattle.prl_workers.specs.declared.workers.Worker.{Worker}
+use Rattle.prl_values.specs.declared.workers.Worker.{Worker}
 use Rattle.prl_rule.specs.Vocabulary.{run_of, values_of, AreHalves, high_half, low_half, value_of_halves, HasValueFacts, half_of}
 use Rattle.prl_rule.specs.declared.views.Constants.{Constants}
 use Rattle.prl_seats.specs.Vocabulary.{BoardView, Follows, GoesOn, HasPartOf, IsSeatOf, JobSeatView, LoadsHalf}

@@ -8,11 +8,11 @@ use Rattle.prl_plan.specs.declared.events.Action.TheVariants as actions
 use Rattle.prl_plan.specs.Vocabulary.{action_at, task_at}
 use Rattle.prl_plan.specs.declared.events.SlotNo.{SlotNo}
 use Rattle.prl_plan.specs.declared.graphs.Kind.{Kind}
-use Rattle.prl_workers.specs.Workers.{HasMachine, HasNoMachine, IsNewWorker, IsWork, IsWorker, once}
-use Rattle.prl_workers.specs.declared.workers.Work.{Work}
-use Rattle.prl_workers.specs.declared.workers.Worker.{Worker}
-use Rattle.prl_workers.specs.declared.workers.Work.TheVariants as works
-use Rattle.prl_workers.proofs.Working.{new_worker}
+use Rattle.prl_values.specs.Workers.{HasMachine, HasNoMachine, IsNewWorker, IsWork, IsWorker, once}
+use Rattle.prl_values.specs.declared.workers.Work.{Work}
+use Rattle.prl_values.specs.declared.workers.Worker.{Worker}
+use Rattle.prl_values.specs.declared.workers.Work.TheVariants as works
+use Rattle.prl_values.proofs.Working.{new_worker}
 use Rattle.prl_body.specs.Machines.{MachineState}
 use Rattle.prl_body.specs.declared.bodies.CheckedBody.{CheckedBody}
 use Rattle.prl_flow.specs.Applications.{registers_before}

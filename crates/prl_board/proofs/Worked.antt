@@ -15,10 +15,10 @@ use Rattle.prl_plan.specs.declared.tables.Used.{Used}
 use Rattle.prl_plan.specs.declared.graphs.Producer.TheVariants as producers
 use Rattle.prl_plan.specs.declared.walks.Operand.TheVariants as operands
 use Rattle.prl_values.specs.JobValues.{reads_of_job, value_from}
-use Rattle.prl_workers.specs.Workers.{HasBegun, HasEnded, HasTaken, HaveWorkLaws, IsReady, IsWorker}
-use Rattle.prl_workers.specs.declared.workers.Worker.{Worker}
-use Rattle.prl_workers.proofs.Operands.{Reads}
-use Rattle.prl_workers.proofs.Serving.{has_ended, has_taken, has_written, low_read, may_begin, may_take, output_is, output_there, port_of_edge}
+use Rattle.prl_values.specs.Workers.{HasBegun, HasEnded, HasTaken, HaveWorkLaws, IsReady, IsWorker}
+use Rattle.prl_values.specs.declared.workers.Worker.{Worker}
+use Rattle.prl_values.proofs.Operands.{Reads}
+use Rattle.prl_values.proofs.Serving.{has_ended, has_taken, has_written, low_read, may_begin, may_take, output_is, output_there, port_of_edge}
 use Rattle.prl_rule.specs.Vocabulary.{edge_in, instance_on, job_values_of, run_of, values_of, HasValueFacts, half_with}
 use Rattle.prl_rule.specs.declared.views.Constants.{Constants}
 use Rattle.prl_board.specs.code.Lows.{Gives}

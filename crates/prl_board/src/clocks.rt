@@ -15,7 +15,7 @@ use std::marker::Model;
 use std::mem;
 
 /// What a tick answers.
-#[derive(Clone, Copy, PartialEq, Eq)]
+#[derive(Clone, Copy)]
 pub enum Ticked {
     /// The clock went on to this `now`.
     Now(u64),

@@ -6,7 +6,7 @@ ghost use Rattle.prl_plan.specs.declared.events.Action.TheVariants as actions;
 ghost use Rattle.prl_seats.specs.declared.jobs.Stage.TheVariants as stages;
 ghost use Rattle.prl_rule.specs.Vocabulary.{RaiseTold, run_of};
 ghost use Rattle.prl_rule.specs.declared.views.Constants.{Constants};
-ghost use Rattle.prl_workers.specs.Workers.{HasBegun};
+ghost use Rattle.prl_values.specs.Workers.{HasBegun};
 ghost use Rattle.prl_seats.specs.JobSeats.{AnswersRelease, Ends, Follows, HasFirstPart, HasPartOf, IsFirstSeat, IsSameSeat, IsSeatOf, MayRaise, StaysAt, TellsStop, reseated};
 ghost use Rattle.prl_board.specs.code.Lows.{Gives, MayGive};
 ghost use Rattle.prl_board.specs.Closings.{AreOutputs, Drives, IsNoActuator};
@@ -20,12 +20,12 @@ use prl_body::Machine;
 use prl_plan::{Action, SlotNo};
 use prl_rule::{halves, halves_are_exact, unpack, whole};
 use prl_seats::{Board, JobSeat, Release, Seat, Stage};
-use prl_workers::{Work, Worker};
+use prl_values::{Work, Worker};
 use std::alloc::{AllocError, Global};
 use std::marker::Model;
 
 /// A half of a value.
-#[derive(Clone, Copy, PartialEq, Eq)]
+#[derive(Clone, Copy)]
 pub enum Half {
     Low,
     High,
@@ -47,7 +47,7 @@ pub enum Place {
 }
 
 /// What a read answers.
-#[derive(Clone, Copy, PartialEq, Eq)]
+#[derive(Clone, Copy)]
 pub enum Got {
     /// The low half of the wanted instance was there.
     Half,
@@ -68,7 +68,7 @@ pub enum Got {
 }
 
 /// What a write did.
-#[derive(Clone, Copy, PartialEq, Eq)]
+#[derive(Clone, Copy)]
 pub struct Wrote {
     pub edge: EdgeNo,
     pub cell: CellNo,

@@ -9,7 +9,7 @@ use Rattle.prl_body.specs.Vocabulary.{statement_named, output_value, output_valu
 use Rattle.prl_body.specs.Vocabulary.{StatementTree, TextTree, typed, HasType}
 use Rattle.prl_body.specs.declared.codes.Variable.TheVariants as variables
 use Rattle.prl_body.specs.declared.faults.BodyFault.TheVariants as faults
-use Rattle.prl_bodyops.specs.Types.{is_same_type}
+use Rattle.prl_base.specs.BodyTypes.{is_same_type}
 use Rattle.prl_body.proofs.Inversion.{both_ok, passed_ok}
 use Rattle.prl_body.proofs.UsedBodies.{made_of}
 use Rattle.prl_body.proofs.TypedSound.{port_types, text_types, same_type, typed_sound}

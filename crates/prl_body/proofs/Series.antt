@@ -8,7 +8,7 @@ use Rattle.prl_base.specs.declared.values.Value.{Value}
 use Rattle.prl_body.specs.Vocabulary.{Code, Row_of-OperatorAndRight, Series', end_of-OperatorAndRight, more_of-OperatorAndRight, items-the_row-OperatorAndRight}
 use Rattle.prl_body.specs.Vocabulary.{items_hidden-the_row-OperatorAndRight-0, OperatorAndRight, expression_of, rights_of, value, value_along}
 use Rattle.prl_body.specs.declared.codes.Code.{Series}
-use Rattle.prl_bodyops.specs.Operators.{result_of}
+use Rattle.prl_base.specs.BodyOperators.{result_of}
 
 abbrev pub along : List Value → List Value → Value → List OperatorAndRight → Value
 along inputs registers left [] = left

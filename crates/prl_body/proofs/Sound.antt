@@ -8,12 +8,12 @@ use Rattle.prl_body.specs.Vocabulary.{Variable, Expression, name, Rights, none, 
 use Rattle.prl_body.specs.Vocabulary.{IsWellTyped, input_types, output_types, register_types, value_expressions, next_expressions}
 use Rattle.prl_body.specs.Expressions.{constant, run, series, choice, more}
 use Rattle.prl_body.specs.declared.codes.Variable.TheVariants as variables
-use Rattle.prl_bodyops.specs.declared.operators.Operator.{Operator}
-use Rattle.prl_bodyops.specs.declared.operators.Operator.TheVariants as operators
-use Rattle.prl_bodyops.specs.declared.operators.Prefix.{Prefix}
-use Rattle.prl_bodyops.specs.declared.operators.Prefix.TheVariants as prefixes
-use Rattle.prl_bodyops.specs.Operators.{truth_of, prefixed, result_of}
-use Rattle.prl_bodyops.specs.Types.{result_type, prefix_type}
+use Rattle.prl_base.specs.declared.body_operators.Operator.{Operator}
+use Rattle.prl_base.specs.declared.body_operators.Operator.TheVariants as operators
+use Rattle.prl_base.specs.declared.body_operators.Prefix.{Prefix}
+use Rattle.prl_base.specs.declared.body_operators.Prefix.TheVariants as prefixes
+use Rattle.prl_base.specs.BodyOperators.{truth_of, prefixed, result_of}
+use Rattle.prl_base.specs.BodyTypes.{result_type, prefix_type}
 
 type_of_result : (operator : Operator) (a b : Value) → type_of (result_of operator a b) ≡ result_type operator
 type_of_result operators.Or a b = refl

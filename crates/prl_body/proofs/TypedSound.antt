@@ -12,7 +12,7 @@ use Rattle.prl_body.specs.Texts.{name, none}
 use Rattle.prl_body.specs.declared.codes.Variable.TheVariants as variables
 use Rattle.prl_body.specs.declared.faults.BodyFault.TheVariants as faults
 use Rattle.prl_body.specs.Expressions as expressions
-use Rattle.prl_bodyops.specs.Types.{is_same_type, are_allowed, operand_type, result_type, prefix_type}
+use Rattle.prl_base.specs.BodyTypes.{is_same_type, are_allowed, operand_type, result_type, prefix_type}
 use Rattle.prl_body.proofs.Inversion.{both_ok, passed_ok}
 
 abbrev pub port_types : List Port → List Ty

@@ -11,7 +11,7 @@ use Rattle.prl_body.specs.Vocabulary.{TreeRights, ExprRight, tree_of, pair_trees
 use Rattle.prl_body.specs.declared.codes.Code.{Series}
 use Rattle.prl_body.specs.Expressions.{series, more}
 use Rattle.prl_body.specs.Texts as trees
-use Rattle.prl_bodyops.specs.Types.{are_allowed, operand_type, result_type}
+use Rattle.prl_base.specs.BodyTypes.{are_allowed, operand_type, result_type}
 
 rights_of_row : (n : _) (row : Row_of-OperatorAndRight n) → rights_of row ≡ pair_expressions (items-the_row-OperatorAndRight n row)
 rights_of_row n end_of-OperatorAndRight = refl

@@ -19,7 +19,7 @@ use Rattle.prl_body.specs.Expressions.{Expression, name}
 use Rattle.prl_body.specs.NameChecks.{either_fault, name_fault, register_fault, statement_fault}
 use Rattle.prl_body.specs.Texts.{StatementTree, TextTree}
 use Rattle.prl_body.specs.TypeChecks.{typed}
-use Rattle.prl_bodyops.specs.Types.{is_same_type}
+use Rattle.prl_base.specs.BodyTypes.{is_same_type}
 
 pub record RegisterTree : Type 0 where
   pub name : List ℕ

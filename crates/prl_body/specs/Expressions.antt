@@ -2,8 +2,8 @@
 use Rattle.std.specs.Prelude.{ℕ}
 use Rattle.prl_base.specs.declared.values.Value.{Value}
 use Rattle.prl_body.specs.declared.codes.Variable.{Variable}
-use Rattle.prl_bodyops.specs.declared.operators.Operator.{Operator}
-use Rattle.prl_bodyops.specs.declared.operators.Prefix.{Prefix}
+use Rattle.prl_base.specs.declared.body_operators.Operator.{Operator}
+use Rattle.prl_base.specs.declared.body_operators.Prefix.{Prefix}
 
 mutual
   pub data Expression : Type 0 where

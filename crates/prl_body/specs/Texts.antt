@@ -2,8 +2,8 @@
 use Rattle.std.specs.Prelude.{ℕ, List, [], ◌∷◌, map}
 use Rattle.prl_base.specs.declared.places.Span.{Span}
 use Rattle.prl_base.specs.declared.values.Value.{Value}
-use Rattle.prl_bodyops.specs.declared.operators.Operator.{Operator}
-use Rattle.prl_bodyops.specs.declared.operators.Prefix.{Prefix}
+use Rattle.prl_base.specs.declared.body_operators.Operator.{Operator}
+use Rattle.prl_base.specs.declared.body_operators.Prefix.{Prefix}
 use Rattle.prl_body.specs.declared.texts.Expr.{Expr, Const, Name, Run', Series', If', Row_of-ExprRight, end_of-ExprRight, more_of-ExprRight}
 use Rattle.prl_body.specs.declared.texts.ExprRight.{ExprRight}
 use Rattle.prl_body.specs.declared.texts.RegisterText.{RegisterText}

@@ -15,8 +15,8 @@ use Rattle.prl_body.specs.declared.texts.RegisterText.{RegisterText}
 use Rattle.prl_body.specs.Expressions.{Expression, Rights}
 use Rattle.prl_body.specs.Expressions as expressions
 use Rattle.prl_body.specs.Texts.{Tree, constant, name, run, series, choice, TreeRights, none, more}
-use Rattle.prl_bodyops.specs.declared.operators.Prefix.{Prefix}
-use Rattle.prl_bodyops.specs.Types.{is_same_type, are_allowed, operand_type, result_type, prefix_type}
+use Rattle.prl_base.specs.declared.body_operators.Prefix.{Prefix}
+use Rattle.prl_base.specs.BodyTypes.{is_same_type, are_allowed, operand_type, result_type, prefix_type}
 
 -- the first input of this name and its type; the inputs are counted from k
 abbrev pub input_named : ℕ → List Port → List ℕ → Option (Variable × Ty)

@@ -5,7 +5,7 @@ use Rattle.prl_base.specs.declared.values.Ty.TheVariants as types
 use Rattle.prl_base.specs.Values.{type_of}
 use Rattle.prl_body.specs.declared.codes.Variable.{Variable}
 use Rattle.prl_body.specs.declared.codes.Variable.TheVariants as variables
-use Rattle.prl_bodyops.specs.Types.{are_allowed, operand_type, result_type, prefix_type}
+use Rattle.prl_base.specs.BodyTypes.{are_allowed, operand_type, result_type, prefix_type}
 use Rattle.prl_body.specs.Expressions.{Expression, constant, name, run, series, choice, Rights, none, more}
 
 -- the type of an input or a register, where there is one of this number

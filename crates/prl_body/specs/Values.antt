@@ -4,9 +4,9 @@ use Rattle.prl_base.specs.declared.values.Value.{Value}
 use Rattle.prl_base.specs.declared.values.Value.TheVariants as values
 use Rattle.prl_body.specs.declared.codes.Variable.{Variable}
 use Rattle.prl_body.specs.declared.codes.Variable.TheVariants as variables
-use Rattle.prl_bodyops.specs.declared.operators.Prefix.{Prefix}
+use Rattle.prl_base.specs.declared.body_operators.Prefix.{Prefix}
 use Rattle.prl_body.specs.Expressions.{Expression, constant, name, run, series, choice, Rights, none, more}
-use Rattle.prl_bodyops.specs.Operators.{truth_of, prefixed, result_of}
+use Rattle.prl_base.specs.BodyOperators.{truth_of, prefixed, result_of}
 
 -- an input or a register that is not there, which no checked body names, counts as 0
 abbrev pub variable_value : List Value → List Value → Variable → Value

@@ -16,8 +16,7 @@ use crate::scopes::{Scope, left_indices, statement_named};
 use crate::texts::{BodyText, RegisterText, Statement};
 use crate::types::typed;
 use prl_ast::{Import, Port};
-use prl_base::{Name, Seq, Ty};
-use prl_bodyops::is_same_type;
+use prl_base::{Name, Seq, Ty, is_same_type};
 use prl_names::Indices;
 use std::alloc::{AllocError, Global};
 

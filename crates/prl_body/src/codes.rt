@@ -1,7 +1,6 @@
 //! Expressions whose names are resolved to inputs and registers.
 
-use prl_base::{Seq, Value};
-use prl_bodyops::{Operator, Prefix};
+use prl_base::{Operator, Prefix, Seq, Value};
 
 /// What a name of an expression stands for.
 #[derive(Clone, Copy)]

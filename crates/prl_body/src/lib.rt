@@ -1,5 +1,5 @@
 //! The language of bodies: what an imported node computes at each of its jobs, from its inputs and its
-//! registers. It stands on the names and values of `prl_base`, the operators of `prl_bodyops`, the imports of `prl_ast` and the
+//! registers. It stands on the names, values and operators of `prl_base`, the imports of `prl_ast` and the
 //! tables of names of `prl_names`.
 #![tactic(auto)]
 
@@ -22,6 +22,6 @@ pub use codes::{Code, OperatorAndRight, Variable};
 pub use faults::BodyFault;
 pub use laws::{each_list_of_bodies_has_an_outcome, used_imports_have_bodies};
 pub use machines::Machine;
-pub use prl_bodyops::{Operator, Prefix};
+pub use prl_base::{Operator, Prefix};
 pub use program_bodies::{Bodies, check_bodies};
 pub use texts::{BodyText, BodyTexts, Expr, ExprRight, RegisterText, Statement};

@@ -1,7 +1,6 @@
 //! The trees of bodies as the text has them.
 
-use prl_base::{Name, Seq, Span, Value};
-use prl_bodyops::{Operator, Prefix};
+use prl_base::{Name, Operator, Prefix, Seq, Span, Value};
 
 /// The bodies of a text, in order.
 #[derive(Drop)]

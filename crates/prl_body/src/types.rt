@@ -10,8 +10,7 @@ use crate::codes::{Code, OperatorAndRight};
 use crate::faults::BodyFault;
 use crate::scopes::Scope;
 use crate::texts::{Expr, ExprRight};
-use prl_base::{Span, Ty};
-use prl_bodyops::{Prefix, is_same_type};
+use prl_base::{Prefix, Span, Ty, is_same_type};
 use std::alloc::Global;
 
 /// Where the operator next to the operand stands, in bytes.

@@ -2,12 +2,11 @@
 
 ghost use Rattle.std.specs.Prelude.{◌≡◌};
 ghost use Rattle.prl_body.specs.Codes.{expression_of};
-ghost use Rattle.prl_bodyops.specs.Operators.{truth_of};
+ghost use Rattle.prl_base.specs.BodyOperators.{truth_of};
 ghost use Rattle.prl_body.specs.Values.{variable_value, prefixed_times, value};
 
 use crate::codes::{Code, Variable};
-use prl_base::Value;
-use prl_bodyops::{Prefix, truth_of};
+use prl_base::{Prefix, Value, truth_of};
 
 /// The value of the input or the register; 0 where there is none of this number.
 fn variable_value(inputs: &[Value], registers: &[Value], variable: Variable) -> Value

@@ -3,10 +3,10 @@ use Rattle.std.specs.Prelude.{true, false, List}
 use Rattle.prl_base.specs.declared.places.Span.{Span}
 use Rattle.prl_base.specs.declared.values.Value.{Value}
 use Rattle.prl_base.specs.declared.values.Value.TheVariants as values
-use Rattle.prl_bodyops.specs.declared.operators.Operator.{Operator}
-use Rattle.prl_bodyops.specs.declared.operators.Operator.TheVariants as operators
-use Rattle.prl_bodyops.specs.declared.operators.Prefix.{Prefix}
-use Rattle.prl_bodyops.specs.declared.operators.Prefix.TheVariants as prefixes
+use Rattle.prl_base.specs.declared.body_operators.Operator.{Operator}
+use Rattle.prl_base.specs.declared.body_operators.Operator.TheVariants as operators
+use Rattle.prl_base.specs.declared.body_operators.Prefix.{Prefix}
+use Rattle.prl_base.specs.declared.body_operators.Prefix.TheVariants as prefixes
 use Rattle.prl_body.specs.declared.texts.RegisterText.{RegisterText}
 use Rattle.prl_body.specs.Texts.{Tree, constant, name, choice, StatementTree, TextTree}
 use Rattle.prl_grammar.specs.Numbers.{positive, negative}

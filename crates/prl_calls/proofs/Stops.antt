@@ -12,7 +12,7 @@ use Rattle.prl_stages.specs.declared.faults.InputFile.TheVariants as parts
 use Rattle.prl_stages.specs.declared.faults.BodiesRefusal.TheVariants as bad_bodies
 use Rattle.prl_stages.specs.declared.stages.Stage.TheVariants as stages
 use Rattle.prl_stages.specs.declared.stages.Stop.TheVariants as stops
-use Rattle.prl_calls.specs.Stops.{StopsAt, StopsIn, AllHold}
+use Rattle.prl_calls.specs.Stops.{StopsAt, StopsIn, AllHold, Passes, PassesAt}
 
 -- bodies refuse
 pub bodies_stop : (g : Given) (p : ProgramTree) (main : ℕ) (fault : BodyFault) (stop : Stop) → IsMain g p main
@@ -74,15 +74,27 @@ pub first_refused : (g : Given) (first rest : List Stage) (e : Stage × Fault) �
 first_refused g [] rest e h = absurd (none_some e h)
 first_refused g (s ∷ first) rest e h = elim h [ inl k ↦ inl (k.0, first_refused g first rest e k.1) | inr k ↦ inr k ]
 
+-- the later stages are passed after those before them hold
+module _ (g : Given) (first : List Stage) (before : AllHold g first) {X : Type 0} (P Q : X → Type 0) (f : (x : X) → P x → Q x) where
+  pub passes_rest : (rest : List Stage) (r : Result X Stop) → Passes g rest P r → Passes g (first ++ rest) Q r
+  passes_rest rest (Ok x) h = (f x h.0, both_hold g first rest before h.1)
+  passes_rest rest (Err stop) h = stops_rest g first rest stop before h
+
+  pub passes_last : (stage : Stage) (r : Result X Stop) → PassesAt g stage P r → Passes g (first ++ stage ∷ []) Q r
+  passes_last stage (Ok x) h = (f x h.0, both_hold g first (stage ∷ []) before (h.1, tt))
+  passes_last stage (Err stop) h = stops_rest g first (stage ∷ []) stop before (inl h)
+
+-- what is known of what comes of stages, and of their stops
+module _ (g : Given) (list : List Stage) {X : Type 0} (P : X → Type 0) where
+  pub ok_passed : (Q : X → Type 0) → ((x : X) → P x → AllHold g list → Q x) → (r : Result X Stop) → Passes g list P r → IfOk r Q
+  ok_passed Q f (Ok x) h = f x h.0 h.1
+  ok_passed Q f (Err stop) h = tt
+
+  pub err_passed : (Q : Stop → Type 0) → ((stop : Stop) → StopsIn g list stop → Q stop) → (r : Result X Stop) → Passes g list P r → IfErr r Q
+  err_passed Q f (Ok x) h = tt
+  err_passed Q f (Err stop) h = f stop h
+
 -- what holds of results
 pub ok_map : {X F : Type 0} (r : Result X F) (P Q : X → Type 0) → ((x : X) → P x → Q x) → IfOk r P → IfOk r Q
 ok_map (Ok x) P Q f h = f x h
 ok_map (Err e) P Q f h = tt
-
-pub ok_both : {X F : Type 0} (r : Result X F) (P Q R : X → Type 0) → ((x : X) → P x → Q x → R x) → IfOk r P → IfOk r Q → IfOk r R
-ok_both (Ok x) P Q R f h k = f x h k
-ok_both (Err e) P Q R f h k = tt
-
-pub err_map : {X F : Type 0} (r : Result X F) (P Q : F → Type 0) → ((e : F) → P e → Q e) → IfErr r P → IfErr r Q
-err_map (Ok x) P Q f h = tt
-err_map (Err e) P Q f h = f e h

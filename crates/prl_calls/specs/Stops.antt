@@ -1,5 +1,5 @@
 -- What the stages are asked about, and what their stops say.
-use Rattle.std.specs.Prelude.{◌≡◌, ◌++◌, ◌⊎◌, ℕ, Bool, List, [], ◌∷◌, Option, Some, None, is_some, Ok, Err}
+use Rattle.std.specs.Prelude.{◌≡◌, ◌++◌, ◌⊎◌, ℕ, Bool, List, [], ◌∷◌, Option, Some, None, is_some, Result, Ok, Err}
 use Rattle.prl_io.specs.Views.{FolderView}
 use Rattle.prl_calls.specs.declared.reading.Request.{Request}
 use Rattle.prl_calls.specs.declared.reading.Texts.{Texts}
@@ -56,6 +56,16 @@ StopsIn g (stage ∷ rest) stop = StopsAt g stage stop ⊎ (Holds g stage × Sto
 abbrev pub AllHold : Given → List Stage → Type 0
 AllHold g [] = Unit {0}
 AllHold g (stage ∷ rest) = Holds g stage × AllHold g rest
+
+-- the stage holds and this comes of it; or it refuses, or memory ran out
+abbrev pub PassesAt : {X : Type 0} → Given → Stage → (X → Type 0) → Result X Stop → Type 0
+PassesAt g stage found (Ok made) = found made × Holds g stage
+PassesAt g stage found (Err stop) = StopsAt g stage stop
+
+-- all stages of the list hold and this comes of them; or one of them refuses, or memory ran out
+abbrev pub Passes : {X : Type 0} → Given → List Stage → (X → Type 0) → Result X Stop → Type 0
+Passes g list found (Ok made) = found made × AllHold g list
+Passes g list found (Err stop) = StopsIn g list stop
 
 -- a stage of the list is reached: those before it hold
 pub record IsReached (g : Given) (list : List Stage) (stage : Stage) : Type 0 where

@@ -1,7 +1,7 @@
 //! The stages that several modes have in common, one after another: up to the clocks of the flows, to the task graph with its words,
 //! and to the plan.
 
-ghost use Rattle.std.specs.Prelude.{◌≡◌, ◌≤◌, ◌++◌, IfOk, IfErr, [], ◌∷◌, length};
+ghost use Rattle.std.specs.Prelude.{◌≡◌, ◌≤◌, ◌++◌, [], ◌∷◌, length};
 ghost use Rattle.prl_ast.specs.Trees.{program_tree};
 ghost use Rattle.prl_expand.specs.Expanding.{IsExpanded};
 ghost use Rattle.prl_flow.specs.Uses.{IsOrder};
@@ -10,7 +10,7 @@ ghost use Rattle.prl_types.specs.Typing.{IsTyped};
 ghost use Rattle.prl_stages.specs.Vocabulary.{HasClocks, IsFlattened, IsMain, IsProgram, HasPlan};
 ghost use Rattle.prl_stages.specs.Vocabulary.{HasWords, front, graphed, named_bodies, planned};
 ghost use Rattle.prl_stages.specs.Vocabulary.{stages_after};
-ghost use Rattle.prl_calls.specs.Stops.{given_of, AllHold, StopsIn};
+ghost use Rattle.prl_calls.specs.Stops.{given_of, Passes};
 
 use crate::flattened::{clocked, flattened, ordered};
 use crate::planned::{make_dates, make_graph, make_plan, make_words};
@@ -27,10 +27,7 @@ use std::alloc::Global;
 /// An order of the flat program's flows, and their clocks.
 fn order_and_clocks(alloc: Global, request: &Request, flat: &Flat) -> Result<(Order, Clocks), Stop>
     requires { IsFlattened (given_of request.now) flat.now }
-    ensures order { IfOk result (λ f. IsOrder flat.now f.0.flows) }
-    ensures clocks { IfOk result (λ f. HasClocks (given_of request.now) flat.now f.1.of) }
-    ensures holds { IfOk result (λ _. AllHold (given_of request.now) (Stage.Causality ∷ Stage.Clocks ∷ [])) }
-    ensures stop { IfErr result (StopsIn (given_of request.now) (Stage.Causality ∷ Stage.Clocks ∷ [])) }
+    ensures { Passes (given_of request.now) (Stage.Causality ∷ Stage.Clocks ∷ []) (λ f. IsOrder flat.now f.0.flows × HasClocks (given_of request.now) flat.now f.1.of) result }
 {
     let order = ordered(alloc, request, flat)?;
     match clocked(alloc, request, flat) {
@@ -50,11 +47,8 @@ pub fn flat_of(
 ) -> Result<(Flat, Order, Clocks), Stop>
     requires program { IsProgram (given_of request.now) (program_tree typed.now.program) }
     requires typed { IsTyped (program_tree typed.now.program) (given_of request.now).node typed.now.main typed.now.types }
-    ensures expanded { IfOk result (λ f. IsExpanded (program_tree typed.now.program) typed.now.main typed.now.types f.0) }
-    ensures order { IfOk result (λ f. IsOrder f.0 f.1.flows) }
-    ensures clocks { IfOk result (λ f. HasClocks (given_of request.now) f.0 f.2.of) }
-    ensures holds { IfOk result (λ _. AllHold (given_of request.now) (Stage.Expansion ∷ Stage.Causality ∷ Stage.Clocks ∷ [])) }
-    ensures stop { IfErr result (StopsIn (given_of request.now) (Stage.Expansion ∷ Stage.Causality ∷ Stage.Clocks ∷ [])) }
+    ensures { Passes (given_of request.now) (Stage.Expansion ∷ Stage.Causality ∷ Stage.Clocks ∷ [])
+        (λ f. IsExpanded (program_tree typed.now.program) typed.now.main typed.now.types f.0 × IsOrder f.0 f.1.flows × HasClocks (given_of request.now) f.0 f.2.of) result }
 {
     let flat = flattened(alloc, request, typed)?;
     match order_and_clocks(alloc, request, &flat) {
@@ -82,10 +76,7 @@ fn clocks_of(
     program: &Program,
 ) -> Result<(u32, Flat, Clocks), Stop>
     requires { IsProgram (given_of request.now) (program_tree program.now) }
-    ensures main { IfOk result (λ f. IsMain (given_of request.now) (program_tree program.now) f.0) }
-    ensures clocks { IfOk result (λ f. HasClocks (given_of request.now) f.1 f.2.of) }
-    ensures holds { IfOk result (λ _. AllHold (given_of request.now) front) }
-    ensures stop { IfErr result (StopsIn (given_of request.now) front) }
+    ensures { Passes (given_of request.now) front (λ f. IsMain (given_of request.now) (program_tree program.now) f.0 × HasClocks (given_of request.now) f.1 f.2.of) result }
 {
     let typed = check_types(alloc, request, program)?;
     let main = typed.main();
@@ -99,10 +90,7 @@ fn clocks_of(
 /// What the modes that plan a program have in common first.
 fn read_front(alloc: Global, request: &Request) -> Result<Front, Stop>
     requires program { length request.now.texts.program.items ≤ MAX_PROGRAM }
-    ensures main { IfOk result (λ f. IsMain (given_of request.now) (program_tree f.program) f.main) }
-    ensures clocks { IfOk result (λ f. HasClocks (given_of request.now) f.flat f.clocks.of) }
-    ensures holds { IfOk result (λ _. AllHold (given_of request.now) front) }
-    ensures stop { IfErr result (StopsIn (given_of request.now) front) }
+    ensures { Passes (given_of request.now) front (λ f. IsMain (given_of request.now) (program_tree f.program) f.main × HasClocks (given_of request.now) f.flat f.clocks.of) result }
 {
     let program = read_program(alloc, request)?;
     match clocks_of(alloc, request, &program) {
@@ -127,10 +115,7 @@ pub fn make_graphed(
     clocks: &Clocks,
 ) -> Result<(TaskGraph, Words), Stop>
     requires { HasClocks (given_of request.now) flat.now clocks.now.of }
-    ensures graph { IfOk result (λ made. IsGraphOf flat.now clocks.now.of made.0) }
-    ensures found { IfOk result (λ made. HasWords (given_of request.now) made.0 made.1.of) }
-    ensures holds { IfOk result (λ _. AllHold (given_of request.now) graphed) }
-    ensures stop { IfErr result (StopsIn (given_of request.now) graphed) }
+    ensures { Passes (given_of request.now) graphed (λ made. IsGraphOf flat.now clocks.now.of made.0 × HasWords (given_of request.now) made.0 made.1.of) result }
 {
     let graph = make_graph(alloc, request, flat, clocks)?;
     match make_words(alloc, request, &graph) {
@@ -145,9 +130,7 @@ pub fn make_graphed(
 /// The task graph of the program with its words.
 fn read_graphed(alloc: Global, request: &Request) -> Result<(TaskGraph, Words), Stop>
     requires program { length request.now.texts.program.items ≤ MAX_PROGRAM }
-    ensures found { IfOk result (λ made. HasWords (given_of request.now) made.0 made.1.of) }
-    ensures holds { IfOk result (λ _. AllHold (given_of request.now) (front ++ graphed)) }
-    ensures stop { IfErr result (StopsIn (given_of request.now) (front ++ graphed)) }
+    ensures { Passes (given_of request.now) (front ++ graphed) (λ made. HasWords (given_of request.now) made.0 made.1.of) result }
 {
     let front = read_front(alloc, request)?;
     let made = make_graphed(alloc, request, &front.flat, &front.clocks);
@@ -162,10 +145,7 @@ pub fn make_planned(
     made: (TaskGraph, Words),
 ) -> Result<Plan, Stop>
     requires { HasWords (given_of request.now) made.0 made.1.of }
-    ensures graph { IfOk result (λ plan. plan.graph ≡ made.0) }
-    ensures found { IfOk result (HasPlan (given_of request.now)) }
-    ensures holds { IfOk result (λ _. AllHold (given_of request.now) planned) }
-    ensures stop { IfErr result (StopsIn (given_of request.now) planned) }
+    ensures { Passes (given_of request.now) planned (λ plan. (plan.graph ≡ made.0) × HasPlan (given_of request.now) plan) result }
 {
     match make_dates(alloc, request, &made.0) {
         Ok(dates) => make_plan(alloc, request, made, dates),
@@ -179,9 +159,7 @@ pub fn make_planned(
 /// The plan of the program.
 pub fn planned_program(alloc: Global, request: &Request) -> Result<Plan, Stop>
     requires program { length request.now.texts.program.items ≤ MAX_PROGRAM }
-    ensures found { IfOk result (HasPlan (given_of request.now)) }
-    ensures holds { IfOk result (λ _. AllHold (given_of request.now) (front ++ graphed ++ planned)) }
-    ensures stop { IfErr result (StopsIn (given_of request.now) (front ++ graphed ++ planned)) }
+    ensures { Passes (given_of request.now) (front ++ graphed ++ planned) (HasPlan (given_of request.now)) result }
 {
     let made = read_graphed(alloc, request)?;
     make_planned(alloc, request, made)
@@ -191,8 +169,7 @@ pub fn planned_program(alloc: Global, request: &Request) -> Result<Plan, Stop>
 fn check_named_bodies(alloc: Global, request: &Request, front: &Front) -> Result<(), Stop>
     requires main { IsMain (given_of request.now) (program_tree front.now.program) front.now.main }
     requires bodies { length request.now.texts.bodies.items ≤ MAX_BODIES }
-    ensures holds { IfOk result (λ _. AllHold (given_of request.now) (named_bodies request.now.named)) }
-    ensures stop { IfErr result (StopsIn (given_of request.now) (named_bodies request.now.named)) }
+    ensures { Passes (given_of request.now) (named_bodies request.now.named) (λ _. Unit {0}) result }
 {
     if request.named {
         drop(read_bodies(alloc, request, &front.program, front.main)?);
@@ -209,9 +186,7 @@ fn checked_graphed(
     requires main { IsMain (given_of request.now) (program_tree front.now.program) front.now.main }
     requires clocks { HasClocks (given_of request.now) front.now.flat front.now.clocks.of }
     requires bodies { length request.now.texts.bodies.items ≤ MAX_BODIES }
-    ensures found { IfOk result (λ made. HasWords (given_of request.now) made.0 made.1.of) }
-    ensures holds { IfOk result (λ _. AllHold (given_of request.now) (graphed ++ named_bodies request.now.named)) }
-    ensures stop { IfErr result (StopsIn (given_of request.now) (graphed ++ named_bodies request.now.named)) }
+    ensures { Passes (given_of request.now) (graphed ++ named_bodies request.now.named) (λ made. HasWords (given_of request.now) made.0 made.1.of) result }
 {
     let made = make_graphed(alloc, request, &front.flat, &front.clocks)?;
     match check_named_bodies(alloc, request, front) {
@@ -227,9 +202,7 @@ fn checked_graphed(
 fn read_checked(alloc: Global, request: &Request) -> Result<(TaskGraph, Words), Stop>
     requires program { length request.now.texts.program.items ≤ MAX_PROGRAM }
     requires bodies { length request.now.texts.bodies.items ≤ MAX_BODIES }
-    ensures found { IfOk result (λ made. HasWords (given_of request.now) made.0 made.1.of) }
-    ensures holds { IfOk result (λ _. AllHold (given_of request.now) (front ++ graphed ++ named_bodies request.now.named)) }
-    ensures stop { IfErr result (StopsIn (given_of request.now) (front ++ graphed ++ named_bodies request.now.named)) }
+    ensures { Passes (given_of request.now) (front ++ graphed ++ named_bodies request.now.named) (λ made. HasWords (given_of request.now) made.0 made.1.of) result }
 {
     let front = read_front(alloc, request)?;
     let made = checked_graphed(alloc, request, &front);
@@ -241,9 +214,7 @@ fn read_checked(alloc: Global, request: &Request) -> Result<(TaskGraph, Words), 
 pub fn checked_plan(alloc: Global, request: &Request) -> Result<Plan, Stop>
     requires program { length request.now.texts.program.items ≤ MAX_PROGRAM }
     requires bodies { length request.now.texts.bodies.items ≤ MAX_BODIES }
-    ensures found { IfOk result (HasPlan (given_of request.now)) }
-    ensures holds { IfOk result (λ _. AllHold (given_of request.now) (stages_after Mode.Check request.now.named)) }
-    ensures stop { IfErr result (StopsIn (given_of request.now) (stages_after Mode.Check request.now.named)) }
+    ensures { Passes (given_of request.now) (stages_after Mode.Check request.now.named) (HasPlan (given_of request.now)) result }
 {
     let made = read_checked(alloc, request)?;
     make_planned(alloc, request, made)

@@ -1,13 +1,13 @@
 //! The stages from the clocks of a flat program to its plan: the task graph, its words, its encoded dates and its cells; and the
 //! horizon of a plan.
 
-ghost use Rattle.std.specs.Prelude.{◌≡◌, ◌<◌, Some, IfOk, IfErr, IfSome, length};
+ghost use Rattle.std.specs.Prelude.{◌≡◌, ◌<◌, Some, IfOk, IfSome, length};
 ghost use Rattle.prl_dates.specs.Faults.{IsDateFault};
 ghost use Rattle.prl_graph.specs.TaskGraphs.{IsGraphOf};
 ghost use Rattle.prl_plan.specs.Jobs.{task_at};
 ghost use Rattle.prl_stages.specs.Vocabulary.{HasClocks, HasGraph, HasWords, HasDates, HasPlan};
-ghost use Rattle.prl_stages.specs.Vocabulary.{dates_refusal, HasHorizon, Holds};
-ghost use Rattle.prl_calls.specs.Stops.{given_of, StopsAt};
+ghost use Rattle.prl_stages.specs.Vocabulary.{dates_refusal, HasHorizon};
+ghost use Rattle.prl_calls.specs.Stops.{given_of, PassesAt};
 
 use crate::reading::Request;
 use prl_base::{Label, TaskNo};
@@ -28,10 +28,7 @@ pub fn make_graph(
     clocks: &Clocks,
 ) -> Result<TaskGraph, Stop>
     requires { HasClocks (given_of request.now) flat.now clocks.now.of }
-    ensures graph { IfOk result (IsGraphOf flat.now clocks.now.of) }
-    ensures found { IfOk result (HasGraph (given_of request.now)) }
-    ensures holds { IfOk result (λ _. Holds (given_of request.now) Stage.Graph) }
-    ensures stop { IfErr result (StopsAt (given_of request.now) Stage.Graph) }
+    ensures { PassesAt (given_of request.now) Stage.Graph (λ made. IsGraphOf flat.now clocks.now.of made × HasGraph (given_of request.now) made) result }
 {
     Ok(graph(alloc, flat, clocks)?)
 }
@@ -39,9 +36,7 @@ pub fn make_graph(
 /// The dependency words of the graph's edges.
 pub fn make_words(alloc: Global, request: &Request, graph: &TaskGraph) -> Result<Words, Stop>
     requires { HasGraph (given_of request.now) graph.now }
-    ensures found { IfOk result (λ words. HasWords (given_of request.now) graph.now words.of) }
-    ensures holds { IfOk result (λ _. Holds (given_of request.now) Stage.Words) }
-    ensures stop { IfErr result (StopsAt (given_of request.now) Stage.Words) }
+    ensures { PassesAt (given_of request.now) Stage.Words (λ words. HasWords (given_of request.now) graph.now words.of) result }
 {
     Ok(words(alloc, graph)?)
 }
@@ -85,9 +80,7 @@ fn dates_refusal(alloc: Global, graph: &TaskGraph, fault: DateFault) -> Option<D
 /// The encoded dates of the graph's jobs.
 pub fn make_dates(alloc: Global, request: &Request, graph: &TaskGraph) -> Result<Dates, Stop>
     requires { HasGraph (given_of request.now) graph.now }
-    ensures found { IfOk result (HasDates (given_of request.now) graph.now) }
-    ensures holds { IfOk result (λ _. Holds (given_of request.now) Stage.Dates) }
-    ensures stop { IfErr result (StopsAt (given_of request.now) Stage.Dates) }
+    ensures { PassesAt (given_of request.now) Stage.Dates (HasDates (given_of request.now) graph.now) result }
 {
     match encode(alloc, graph) {
         Ok(dates) => Ok(dates),
@@ -107,10 +100,7 @@ pub fn make_plan(
 ) -> Result<Plan, Stop>
     requires words { HasWords (given_of request.now) made.0 made.1.of }
     requires dates { HasDates (given_of request.now) made.0 dates }
-    ensures graph { IfOk result (λ plan. plan.graph ≡ made.0) }
-    ensures found { IfOk result (HasPlan (given_of request.now)) }
-    ensures holds { IfOk result (λ _. Holds (given_of request.now) Stage.Cells) }
-    ensures stop { IfErr result (StopsAt (given_of request.now) Stage.Cells) }
+    ensures { PassesAt (given_of request.now) Stage.Cells (λ plan. (plan.graph ≡ made.0) × HasPlan (given_of request.now) plan) result }
 {
     let cells = cells(alloc, &made.0, &made.1, &dates)?;
     let (graph, words) = made;
@@ -120,9 +110,7 @@ pub fn make_plan(
 /// The horizon of the plan up to the date of the command.
 pub fn make_horizon(request: &Request, plan: &Plan) -> Result<Horizon, Stop>
     requires { HasPlan (given_of request.now) plan.now }
-    ensures found { IfOk result (HasHorizon (given_of request.now) plan.now) }
-    ensures holds { IfOk result (λ _. Holds (given_of request.now) Stage.Horizon) }
-    ensures stop { IfErr result (StopsAt (given_of request.now) Stage.Horizon) }
+    ensures { PassesAt (given_of request.now) Stage.Horizon (HasHorizon (given_of request.now) plan.now) result }
 {
     match Horizon::new(plan, request.until) {
         Ok(horizon) => Ok(horizon),

@@ -1,13 +1,13 @@
 //! The first stages after the files: the program, its names and types, and its bodies.
 
-ghost use Rattle.std.specs.Prelude.{◌≡◌, ◌<◌, ◌≤◌, ◌^◌, IfOk, IfErr, length, map};
+ghost use Rattle.std.specs.Prelude.{◌≡◌, ◌<◌, ◌≤◌, length, map};
 ghost use Rattle.prl_base.specs.Reading.{GivesBut};
 ghost use Rattle.prl_ast.specs.Trees.{program_tree};
 ghost use Rattle.prl_body.specs.Vocabulary.{body_tree, checked, text_trees, HaveBodiesOf};
 ghost use Rattle.prl_names.specs.Uses.{used_imports};
 ghost use Rattle.prl_types.specs.Typing.{IsTyped};
-ghost use Rattle.prl_stages.specs.Vocabulary.{IsProgram, IsMain, AreBodies, Holds};
-ghost use Rattle.prl_calls.specs.Stops.{given_of, StopsAt};
+ghost use Rattle.prl_stages.specs.Vocabulary.{IsProgram, IsMain, AreBodies};
+ghost use Rattle.prl_calls.specs.Stops.{given_of, PassesAt};
 
 use crate::reading::Request;
 use prl_ast::Program;
@@ -23,9 +23,7 @@ use std::alloc::Global;
 /// The program that the text is.
 pub fn read_program(alloc: Global, request: &Request) -> Result<Program, Stop>
     requires { length request.now.texts.program.items ≤ MAX_PROGRAM }
-    ensures found { IfOk result (λ p. IsProgram (given_of request.now) (program_tree p)) }
-    ensures holds { IfOk result (λ _. Holds (given_of request.now) Stage.Grammar) }
-    ensures stop { IfErr result (StopsAt (given_of request.now) Stage.Grammar) }
+    ensures { PassesAt (given_of request.now) Stage.Grammar (λ p. IsProgram (given_of request.now) (program_tree p)) result }
 {
     Ok(parse(alloc, &request.texts.program)?)
 }
@@ -37,11 +35,9 @@ pub fn check_types<'a>(
     program: &'a Program,
 ) -> Result<Typed<'a>, Stop>
     requires { IsProgram (given_of request.now) (program_tree program.now) }
-    ensures program { IfOk result (λ t. t.program ≡ program.now) }
-    ensures found { IfOk result (λ t. IsMain (given_of request.now) (program_tree program.now) t.main) }
-    ensures typed { IfOk result (λ t. IsTyped (program_tree program.now) (given_of request.now).node t.main t.types) }
-    ensures holds { IfOk result (λ _. Holds (given_of request.now) Stage.Types) }
-    ensures stop { IfErr result (StopsAt (given_of request.now) Stage.Types) }
+    ensures { PassesAt (given_of request.now) Stage.Types
+        (λ t. (t.program ≡ program.now) × IsMain (given_of request.now) (program_tree program.now) t.main
+        × IsTyped (program_tree program.now) (given_of request.now).node t.main t.types) result }
 {
     right_names_stand_for_something();
     programs_are_in_range();
@@ -77,10 +73,9 @@ pub fn read_bodies(
 ) -> Result<Bodies, Stop>
     requires main { IsMain (given_of request.now) (program_tree program.now) main }
     requires text { length request.now.texts.bodies.items ≤ MAX_BODIES }
-    ensures found { IfOk result (λ bodies. AreBodies (given_of request.now) (map body_tree bodies)) }
-    ensures have { IfOk result (HaveBodiesOf (program_tree program.now).imports (used_imports (program_tree program.now) main)) }
-    ensures holds { IfOk result (λ _. Holds (given_of request.now) Stage.Bodies) }
-    ensures stop { IfErr result (StopsAt (given_of request.now) Stage.Bodies) }
+    ensures { PassesAt (given_of request.now) Stage.Bodies
+        (λ bodies. AreBodies (given_of request.now) (map body_tree bodies)
+        × HaveBodiesOf (program_tree program.now).imports (used_imports (program_tree program.now) main) bodies) result }
 {
     used_imports_have_bodies();
     let written = parse_bodies(alloc, &request.texts.bodies)?;

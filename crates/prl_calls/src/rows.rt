@@ -1,12 +1,12 @@
 //! The rows of main's inputs, and what is evaluated with them.
 
-ghost use Rattle.std.specs.Prelude.{◌≡◌, ◌<◌, ◌≤◌, IfOk, IfErr, length, slice_get};
+ghost use Rattle.std.specs.Prelude.{◌≡◌, ◌<◌, ◌≤◌, IfOk, length, slice_get};
 ghost use Rattle.prl_base.specs.Reading.{GivesBut};
 ghost use Rattle.prl_flow.specs.Solutions.{AreClocks};
 ghost use Rattle.prl_sensors.specs.SensorRows.{sensors_of};
 ghost use Rattle.prl_stages.specs.Vocabulary.{HasClocks, inputs_of, needs_of, type_of_flow};
-ghost use Rattle.prl_stages.specs.Vocabulary.{HasRows, Holds, stop_of, told_sensors};
-ghost use Rattle.prl_calls.specs.Stops.{given_of, StopsAt};
+ghost use Rattle.prl_stages.specs.Vocabulary.{HasRows, stop_of, told_sensors};
+ghost use Rattle.prl_calls.specs.Stops.{given_of, PassesAt};
 
 use crate::reading::Request;
 use prl_base::{FlowNo, Name, Ty};
@@ -128,9 +128,7 @@ pub fn read_rows(
     clocks: &Clocks,
 ) -> Result<Sensors, Stop>
     requires { HasClocks (given_of request.now) flat.now clocks.now.of }
-    ensures found { IfOk result (HasRows (given_of request.now) flat.now clocks.now.of) }
-    ensures holds { IfOk result (λ _. Holds (given_of request.now) Stage.Rows) }
-    ensures stop { IfErr result (StopsAt (given_of request.now) Stage.Rows) }
+    ensures { PassesAt (given_of request.now) Stage.Rows (HasRows (given_of request.now) flat.now clocks.now.of) result }
 {
     match rows_of_text(alloc, &request.texts.sensors, flat, clocks, request.until) {
         Ok(sensors) => Ok(sensors),
@@ -146,13 +144,9 @@ pub fn run_with(
     bodies: Bodies,
 ) -> Result<Run, Stop>
     requires { HasClocks (given_of request.now) front.0 front.2.of }
-    ensures flat { IfOk result (λ run. run.flat ≡ front.0) }
-    ensures order { IfOk result (λ run. run.order ≡ front.1) }
-    ensures clocks { IfOk result (λ run. run.clocks ≡ front.2) }
-    ensures bodies { IfOk result (λ run. run.bodies ≡ bodies) }
-    ensures rows { IfOk result (λ run. HasRows (given_of request.now) run.flat run.clocks.of run.sensors) }
-    ensures holds { IfOk result (λ _. Holds (given_of request.now) Stage.Rows) }
-    ensures stop { IfErr result (StopsAt (given_of request.now) Stage.Rows) }
+    ensures { PassesAt (given_of request.now) Stage.Rows
+        (λ run. (run.flat ≡ front.0) × (run.order ≡ front.1) × (run.clocks ≡ front.2) × (run.bodies ≡ bodies)
+        × HasRows (given_of request.now) run.flat run.clocks.of run.sensors) result }
 {
     match read_rows(alloc, request, &front.0, &front.2) {
         Ok(sensors) => {

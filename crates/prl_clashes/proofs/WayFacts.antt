@@ -2,7 +2,7 @@
 use Rattle.prl_base.proofs.Standard.{◌≡◌, ◌≢◌, ◌∙◌, ◌&&◌, ℕ, ℤ, true, false, List, ◌∷◌, Some, ap, eqb, int_eq, slice_get, subst, Decides-and, Decides-eqb, Decides-int_eq}
 use Rattle.prl_base.specs.Ratios.{Fraction}
 use Rattle.prl_ast.specs.declared.declarations.Rate.{Rate}
-use Rattle.prl_clock.specs.declared.timings.Timing.{Timing}
+use Rattle.prl_flow.specs.declared.standings.Timing.{Timing}
 use Rattle.prl_flow.specs.Programs.{FlatProgram}
 use Rattle.prl_flow.specs.declared.programs.App.{App}
 use Rattle.prl_flow.specs.declared.programs.Flow.{Flow}

@@ -5,7 +5,7 @@ use Rattle.prl_base.specs.Texts.{fraction_text}
 use Rattle.prl_base.specs.declared.operators.Op.{Op}
 use Rattle.prl_base.specs.declared.operators.Op.TheVariants as operators
 use Rattle.prl_ast.specs.declared.declarations.Rate.{Rate}
-use Rattle.prl_clock.specs.declared.timings.Timing.{Timing}
+use Rattle.prl_flow.specs.declared.standings.Timing.{Timing}
 use Rattle.prl_flow.specs.declared.programs.Def.{Def}
 use Rattle.prl_flow.specs.declared.programs.Def.TheVariants as definitions
 use Rattle.prl_flow.specs.declared.programs.Flow.{Flow}

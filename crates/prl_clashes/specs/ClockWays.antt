@@ -1,7 +1,7 @@
 -- Clocks along ways from declared rates, and two of them that do not fit.
 use Rattle.std.specs.Prelude.{◌≡◌, ◌≢◌, ℕ, Bool, true, false, List, [], ◌∷◌, Some, slice_get}
 use Rattle.prl_ast.specs.declared.declarations.Rate.{Rate}
-use Rattle.prl_clock.specs.declared.timings.Timing.{Timing}
+use Rattle.prl_flow.specs.declared.standings.Timing.{Timing}
 use Rattle.prl_flow.specs.declared.programs.App.{App}
 use Rattle.prl_flow.specs.declared.programs.Def.TheVariants as definitions
 use Rattle.prl_flow.specs.declared.programs.Flow.{Flow}

@@ -3,8 +3,9 @@ use Rattle.std.specs.Prelude.{◌≡◌, ◌≤◌, ◌*◌, ◌*ℤ◌, ◌+ℤ
 use Rattle.prl_base.specs.Ratios.{Fraction}
 use Rattle.prl_base.specs.Reductions.{IsReducedForm}
 use Rattle.prl_ast.specs.declared.declarations.Rate.{Rate}
-use Rattle.prl_clock.specs.Constraints.{first_output, over_one, same_clock, timing_of_operator}
-use Rattle.prl_clock.specs.declared.timings.Timing.{Timing}
+use Rattle.prl_clock.specs.Constraints.{first_output, timing_of_operator}
+use Rattle.prl_flow.specs.Standings.{over_one, same_clock}
+use Rattle.prl_flow.specs.declared.standings.Timing.{Timing}
 use Rattle.prl_flow.specs.declared.programs.App.{App}
 use Rattle.prl_flow.specs.declared.programs.Arg.{Arg}
 use Rattle.prl_flow.specs.declared.programs.Def.{Def}

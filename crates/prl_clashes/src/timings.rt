@@ -1,7 +1,8 @@
 //! Clocks as periods and starts, and what rates and operators make of them.
 
 ghost use Rattle.std.specs.Prelude.{◌≡◌, IfSome, pos};
-ghost use Rattle.prl_clock.specs.Constraints.{over_one, same_clock, timing_of_operator};
+ghost use Rattle.prl_clock.specs.Constraints.{timing_of_operator};
+ghost use Rattle.prl_flow.specs.Standings.{over_one, same_clock};
 ghost use Rattle.prl_clashes.specs.Links.{IsOver, IsRateTiming};
 
 use prl_ast::Rate;

@@ -1,5 +1,5 @@
 -- After all constraints.
-use Rattle.prl_base.proofs.Standard.{Bool, true, false, cond, not, is_some, ◌≡◌, ◌≤◌, ◌<◌, ◌+◌, ◌*◌, ◌++◌, ◌∷◌, ℕ, ℤ, pos, negsuc, nat_abs, ◌*ℤ◌, ◌-ℤ◌, ◌≤ℤ◌, List, [], length, take, Option, Some}
+use Rattle.prl_base.proofs.Standard.{Bool, true, false, cond, ◌≡◌, ◌≤◌, ◌<◌, ◌+◌, ◌*◌, ◌++◌, ◌∷◌, ℕ, ℤ, pos, negsuc, nat_abs, ◌*ℤ◌, ◌-ℤ◌, ◌≤ℤ◌, List, [], length, take, Some}
 use Rattle.prl_base.proofs.Standard.{None, refl, sym, ap, ◌∙◌, subst, arith, append_assoc, length-append, below_more, slice_get, get_or_append_left, take-append_seam}
 use borrow.Author.Differences.{up, down, same_in, product_is, ints}
 use Rattle.prl_base.specs.Ratios.{Fraction}
@@ -239,18 +239,6 @@ clock_pushed clocks c st i t len is w before =
     last : (xs : List Clock) → clock_of (xs ++ c ∷ []) (length xs) ≡ c
     last [] = refl
     last (x ∷ xs) = last xs
-
-pub some_clock : (st : List Standing) (i : ℕ) → ((standing_at st i).clock ≡ None → ⊥) → HasClock st i
-some_clock st i never = of (standing_at st i).clock refl
-  where
-    of : (o : Option Timing) → (standing_at st i).clock ≡ o → HasClock st i
-    of None e = absurd (never e)
-    of (Some t) e = (t, e)
-
-pub still_some : (o : Option Timing) (b : Bool) → is_some o ≡ not b → b ≡ false → o ≡ None → ⊥
-still_some None true e f g = cc
-still_some None false e f g = cc
-still_some (Some t) b e f g = cc
 
 pub if_true : {A : Type 0} (b : Bool) (x y z : A) → b ≡ true → x ≡ cond b y z → x ≡ y
 if_true true x y z e h = h

@@ -1,21 +1,13 @@
 -- Standings changed one by one.
-use Rattle.std.proofs.Common.{◌≡◌, ◌≢◌, ◌<◌, ◌≤◌, ◌+◌, ℕ, zero, suc, List, [], ◌∷◌, length, get_or, set, refl, sym, ◌∙◌, ap, subst, arith, get_or-set_other, get_or-set_same, below_more}
+use Rattle.std.proofs.Common.{◌≡◌, ◌≢◌, ◌<◌, ◌≤◌, ◌+◌, ℕ, List, length, get_or, set, sym, ◌∙◌, ap, subst, arith, get_or-set_other, get_or-set_same, below_more}
 use Rattle.prl_clock.specs.Vocabulary.{IsComposedPast, IsOnePast, standing_at, alone, Standing, Timing}
-
-pub same_within : (st : List Standing) (i : ℕ) (d e : Standing) → i < length st → get_or st i d ≡ get_or st i e
-same_within [] i d e h = absurd (omega arith)
-same_within (x ∷ xs) zero d e h = refl
-same_within (x ∷ xs) (suc i) d e h = same_within xs i d e (omega arith)
+use Rattle.prl_flow.proofs.StandingsAt.{item_is}
 
 pub set_here : (st : List Standing) (i : ℕ) (new : Standing) → i < length st → standing_at (set st i new) i ≡ new
 set_here st i new h = get_or-set_same st i new (alone i) h
 
 pub set_other : (st : List Standing) (i k : ℕ) (new : Standing) → k ≢ i → standing_at (set st i new) k ≡ standing_at st k
 set_other st i k new h = get_or-set_other st i k new (alone k) h
-
--- the item that is read is the standing of its number
-pub item_is : (st : List Standing) (i : ℕ) (d : Standing) → i < length st → standing_at st i ≡ get_or st i d
-item_is st i d h = same_within st i (alone i) d h
 
 pub one_more : (P : Standing → Standing → Type 0) (old now : List Standing) (i : ℕ) (d new : Standing) → i < length now
     → ((k : ℕ) → k < i → P (standing_at old k) (standing_at now k)) → ((k : ℕ) → i ≤ k → standing_at now k ≡ standing_at old k) → P (get_or now i d) new

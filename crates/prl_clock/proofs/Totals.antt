@@ -7,7 +7,7 @@ use Rattle.prl_base.proofs.Lowest.{lowest, lowest_is}
 use Rattle.prl_clock.specs.Vocabulary.{Standing, Timing, HasParts, IsProduct, IsSum, IsComposed, IsComposedPast, composed_period, composed_start, IsOverPast, over_period, over_start, IsSmallTiming}
 use Rattle.prl_clock.specs.Vocabulary.{IsPastTerms, IsReducedTiming, IsTimingPast, AreMoved, AreTimed, IsMoved, IsTimed, IsOnePast, alone, standing_at}
 use Rattle.prl_clock.proofs.Algebra.{positive}
-use Rattle.prl_clock.proofs.Loops.{same_within}
+use Rattle.prl_flow.proofs.StandingsAt.{same_within}
 use Rattle.prl_clock.proofs.Merging.{clock_or_none, decide}
 use Rattle.prl_clock.proofs.Terms.{quotient_product, sum_back, composed_only, past_composed, only, past_form, past_small}
 

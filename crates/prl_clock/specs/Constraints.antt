@@ -1,7 +1,6 @@
 -- The constraints on the clocks of a flat program's flows, in order: flow by flow the rate, then the definition. Each has a
 -- place in the source text.
 use Rattle.std.specs.Prelude.{◌*ℤ◌, ◌++◌, ℕ, zero, suc, pos, negsuc, List, [], ◌∷◌, length, map, Option, Some, None, slice_get, slice_index_or}
-use Rattle.prl_base.specs.Ratios.{Fraction}
 use Rattle.prl_base.specs.declared.operators.Op.{Op}
 use Rattle.prl_base.specs.declared.operators.Op.TheVariants as operators
 use Rattle.prl_ast.specs.declared.declarations.Rate.{Rate}
@@ -11,7 +10,8 @@ use Rattle.prl_flow.specs.declared.programs.Def.{Def}
 use Rattle.prl_flow.specs.declared.programs.Def.TheVariants as definitions
 use Rattle.prl_flow.specs.declared.programs.Flow.{Flow}
 use Rattle.prl_flow.specs.Programs.{FlatProgram}
-use Rattle.prl_clock.specs.declared.timings.Timing.{Timing}
+use Rattle.prl_flow.specs.Standings.{over_one, same_clock}
+use Rattle.prl_flow.specs.declared.standings.Timing.{Timing}
 
 pub data Constraint : Type 0 where
   -- the flow has this period and this start, in ticks
@@ -24,19 +24,12 @@ pub record Placed : Type 0 where
   pub constraint : Constraint
   pub at : ℕ
 
-abbrev pub over_one : ℕ → Fraction
-over_one n = record { num = pos n; den = 1 }
-
 -- what a rate (n, p) says: n ticks from date to date, and the first after n * p
 abbrev pub timing_of_rate : Rate → Timing
 timing_of_rate rate = record {
   period = over_one rate.period;
   start = record { num = pos rate.period *ℤ rate.phase.num; den = rate.phase.den };
 }
-
--- one clock
-abbrev pub same_clock : Timing
-same_clock = record { period = over_one 1; start = over_one 0 }
 
 -- an operator's result, in periods of the flow that it stands on
 abbrev pub timing_of_operator : Op → Timing

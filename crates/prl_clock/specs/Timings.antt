@@ -2,7 +2,7 @@
 use Rattle.std.specs.Prelude.{◌≡◌, ◌*ℤ◌, ◌-ℤ◌, ℕ, ℤ, pos}
 use Rattle.prl_base.specs.Ratios.{Fraction}
 use Rattle.prl_base.specs.Reductions.{IsReducedForm}
-use Rattle.prl_clock.specs.declared.timings.Timing.{Timing}
+use Rattle.prl_flow.specs.declared.standings.Timing.{Timing}
 
 -- a period and a start, in parts of a tick
 pub record Point : Type 0 where

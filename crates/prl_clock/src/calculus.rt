@@ -3,16 +3,14 @@
 ghost use Rattle.std.specs.Prelude.{◌≡◌, ◌<◌, ℕ, length, IfErr, IfOk, MatchOption};
 ghost use Rattle.prl_clock.specs.Constraints.{constraints_of};
 ghost use Rattle.prl_clock.specs.Outcomes.{AreOnlyClocks, IsClockFault, IsWhole};
-ghost use Rattle.prl_clock.specs.code.Finishing.{IsFirstFree, IsLabelOf, IsWholeClock};
+ghost use Rattle.prl_clock.specs.code.Finishing.{IsLabelOf, IsWholeClock};
 ghost use Rattle.prl_clock.specs.code.Progress.{IsReached};
-ghost use Rattle.prl_clock.specs.code.Standings.{HasClock};
+ghost use Rattle.prl_flow.specs.Standings.{HasClock};
 ghost use Rattle.prl_clock.specs.declared.calculus.ClockFault.TheVariants.{Memory};
 
 use crate::constraints::solve;
-use crate::standings::Standing;
-use crate::timings::Timing;
 use prl_base::{Clock, Label, Limit, Ratio, Seq};
-use prl_flow::{Clocks, Flat};
+use prl_flow::{Clocks, Flat, Standing, Timing, first_free};
 use std::alloc::{AllocError, Global};
 
 /// Why a flat program has no clocks.
@@ -40,18 +38,6 @@ impl From<AllocError> for ClockFault {
     fn from(_error: AllocError) -> ClockFault {
         ClockFault::Memory
     }
-}
-
-/// The lowest flow without a clock.
-fn free_flow(standings: &[Standing]) -> Option<usize>
-    ensures { MatchOption result ((x : ℕ) → x < length standings.now → HasClock standings.now x) (IsFirstFree standings.now) }
-{
-    for (i, standing) in standings.iter().enumerate() {
-        if standing.clock.is_none() {
-            return Some(i);
-        }
-    }
-    None
 }
 
 /// The clock with this period and start, where they are whole and the start is not below 0.
@@ -115,7 +101,7 @@ pub fn clocks(alloc: Global, flat: &Flat) -> Result<Clocks, ClockFault>
 {
     let _flows = flat.flows();
     let standings = solve(alloc, flat)?;
-    if let Some(flow) = free_flow(standings.as_slice()) {
+    if let Some(flow) = first_free(standings.as_slice()) {
         return Err(ClockFault::Free(label_of(alloc, flat, flow)?));
     }
     Ok(Clocks {

@@ -11,12 +11,11 @@ ghost use Rattle.prl_clock.specs.code.Standings.{IsLink};
 
 use crate::calculus::ClockFault;
 use crate::rates::{rate_flow, same_clock, timing_of_operator};
-use crate::standings::{Standing, alone};
+use crate::standings::alone;
 use crate::steps::{Refusal, relate};
-use crate::timings::Timing;
 use prl_ast::Rate;
 use prl_base::{Limit, What};
-use prl_flow::{Arg, Def, Flat};
+use prl_flow::{Arg, Def, Flat, Standing, Timing};
 use std::alloc::Global;
 
 /// The refusal of a constraint at this byte of the source text.

@@ -16,4 +16,4 @@ pub use laws::{
     clocks_are_unique, clocks_meet_constraints, outcomes_are_unique, programs_have_outcomes,
     solutions_have_clocks,
 };
-pub use timings::Timing;
+pub use prl_flow::Timing;

@@ -5,15 +5,17 @@ ghost use Rattle.prl_base.specs.Operators.{IsOperatorFor};
 ghost use Rattle.prl_base.specs.declared.ratios.TheConstants.{MAX_PART};
 ghost use Rattle.prl_base.specs.declared.values.Ty.{Ty};
 ghost use Rattle.prl_ast.specs.InRange.{IsRate};
-ghost use Rattle.prl_clock.specs.Constraints.{Placed, over_one, rated, same_clock, timing_of_operator, timing_of_rate};
+ghost use Rattle.prl_clock.specs.Constraints.{Placed, rated, timing_of_operator, timing_of_rate};
+ghost use Rattle.prl_flow.specs.Standings.{over_one, same_clock};
 ghost use Rattle.prl_clock.specs.code.Rates.{IsReducedTiming, IsTimingPast};
 ghost use Rattle.prl_clock.specs.code.Standings.{IsLink, IsRefused, IsSolved};
 
-use crate::standings::{Standing, time_all};
+use crate::standings::time_all;
 use crate::steps::Refusal;
-use crate::timings::{Timing, over};
+use crate::timings::over;
 use prl_ast::Rate;
 use prl_base::{Op, Past, Ratio};
+use prl_flow::{Standing, Timing};
 
 /// A whole number as a ratio.
 fn whole(number: u32) -> Ratio

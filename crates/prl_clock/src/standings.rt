@@ -1,25 +1,15 @@
 //! Where each flow stands after the constraints that were taken so far.
 
 ghost use Rattle.std.specs.Prelude.{◌≡◌, ◌<◌, ◌^◌, IfOk, OnErr, OnOk, length, []};
-ghost use Rattle.prl_clock.specs.Constraints.{same_clock};
-ghost use Rattle.prl_clock.specs.code.Standings.{AreMoved, AreTimed, IsMoved, IsOnePast, IsSolved, IsTimed, alone, standing_at};
+ghost use Rattle.prl_clock.specs.code.Standings.{AreMoved, AreTimed, IsMoved, IsOnePast, IsSolved, IsTimed};
+ghost use Rattle.prl_flow.specs.Standings.{alone, same_clock};
 ghost use Rattle.prl_clock.specs.code.Composition.{IsComposedPast};
 
 use crate::rates::same_clock;
-use crate::timings::{Timing, composed};
+use crate::timings::composed;
 use prl_base::Past;
+use prl_flow::{Standing, Timing};
 use std::alloc::{AllocError, Global};
-
-/// Where a flow stands among those that constraints connect with it.
-#[derive(Clone, Copy)]
-pub struct Standing {
-    /// The lowest of them.
-    pub root: u32,
-    /// The flow over that one.
-    pub over: Timing,
-    /// The flow in ticks, where a rate gives it that.
-    pub clock: Option<Timing>,
-}
 
 /// A flow over `low`, where it stood over `high` and that is `shift` over `low`.
 fn moved(standing: Standing, high: u32, low: u32, shift: &Timing) -> Result<Standing, Past>

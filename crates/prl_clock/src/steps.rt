@@ -6,9 +6,10 @@ ghost use Rattle.prl_clock.specs.Constraints.{Placed, related};
 ghost use Rattle.prl_clock.specs.code.Standings.{IsLink, IsLowClockPast, IsMerging, IsRefused, IsSolved, LowClock};
 ghost use Rattle.prl_clock.specs.declared.steps.Refusal.TheVariants.{Limit};
 
-use crate::standings::{Standing, move_all, time_all};
-use crate::timings::{Timing, agree, composed, fits, over};
+use crate::standings::{move_all, time_all};
+use crate::timings::{agree, composed, fits, over};
 use prl_base::Past;
+use prl_flow::{Standing, Timing};
 
 /// Why a constraint is refused.
 #[derive(Clone, Copy)]

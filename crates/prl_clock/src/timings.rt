@@ -2,19 +2,12 @@
 
 ghost use Rattle.std.specs.Prelude.{◌≡◌, ◌≢◌, ◌↔◌, IsTrue, IfOk, OnErr, Some, neg_ℤ, pos, true, false};
 ghost use Rattle.prl_ast.specs.InRange.{IfThere};
-ghost use Rattle.prl_clock.specs.declared.timings.Timing.{Timing};
+ghost use Rattle.prl_flow.specs.declared.standings.Timing.{Timing};
 ghost use Rattle.prl_clock.specs.code.Composition.{HasParts, IsComposed, IsComposedPast, IsOverPast, IsSmallTiming};
 
 use crate::fractions::sum_of;
 use prl_base::{Past, Ratio};
-
-/// A period and a start in ticks; or those of a flow over another one: its period in periods of
-/// the other, and by how many of these it starts after the other.
-#[derive(Clone, Copy, PartialEq, Eq)]
-pub struct Timing {
-    pub period: Ratio,
-    pub start: Ratio,
-}
+use prl_flow::Timing;
 
 /// The same with the other sign.
 fn negated(ratio: Ratio) -> Ratio

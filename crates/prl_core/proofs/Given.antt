@@ -17,12 +17,12 @@ use Rattle.prl_plan.proofs.RoundPeriods.{task_is}
 use Rattle.prl_track.specs.Machine.{Drives}
 use Rattle.prl_track.proofs.Places.{slice_get_take}
 use Rattle.prl_values.specs.JobValues.{value_on, read_on, reads_of_job, body_of_task}
-use Rattle.prl_workers.specs.Workers.{HasMachine, HasNoMachine, IsWork, once}
-use Rattle.prl_workers.specs.declared.workers.Work.{Work}
-use Rattle.prl_workers.specs.declared.workers.Worker.{Worker}
-use Rattle.prl_workers.specs.declared.workers.Work.TheVariants as works
+use Rattle.prl_values.specs.Workers.{HasMachine, HasNoMachine, IsWork, once}
+use Rattle.prl_values.specs.declared.workers.Work.{Work}
+use Rattle.prl_values.specs.declared.workers.Worker.{Worker}
+use Rattle.prl_values.specs.declared.workers.Work.TheVariants as works
 use Rattle.prl_core.specs.Vocabulary.{CoreView, constants, values_of, AreOutputs, IsMachineOf, IsNoNode, IsKept, HasCoreLaws}
-use Rattle.prl_workers.proofs.PortReads.{read_at_port}
+use Rattle.prl_values.proofs.PortReads.{read_at_port}
 
 module _ (core : CoreView) (is_plan : IsPlan core.plan) (sound : IsSound (constants core) core.state) where
   -- the column of an actuator task up to its ended jobs

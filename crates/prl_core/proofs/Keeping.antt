@@ -23,13 +23,13 @@ use Rattle.prl_track.specs.Vocabulary.{cell_no, TrackView}
 use Rattle.prl_track.specs.declared.seen.Seen.{Seen}
 use Rattle.prl_track.proofs.Places.{slice_get_set_same, slice_get_set_other}
 use Rattle.prl_values.specs.JobValues.{value_from, value_on, reads_of_job}
-use Rattle.prl_workers.specs.Workers.{HasBegun, IsWorker}
-use Rattle.prl_workers.specs.declared.workers.Worker.{Worker}
+use Rattle.prl_values.specs.Workers.{HasBegun, IsWorker}
+use Rattle.prl_values.specs.declared.workers.Worker.{Worker}
 use Rattle.prl_core.specs.Vocabulary.{CoreView, constants, values_of, IsRead, IsReadConst, IsSightOf, IsSightOfRead, CanTake, CanBegin, CanGive, CanRead, CanServe, Takes, DoesRead, Gives, Ends}
 use Rattle.prl_core.specs.Vocabulary.{Serves, HasCoreLaws, AreWorkers, AreHalves, IsKept}
-use Rattle.prl_workers.proofs.Operands.{Reads}
-use Rattle.prl_workers.proofs.PortReads.{read_at_port}
-use Rattle.prl_workers.proofs.Serving.{low_read as worker_reads_low, may_take, has_taken, may_begin, has_written, has_ended, port_of_edge, output_there, output_is}
+use Rattle.prl_values.proofs.Operands.{Reads}
+use Rattle.prl_values.proofs.PortReads.{read_at_port}
+use Rattle.prl_values.proofs.Serving.{low_read as worker_reads_low, may_take, has_taken, may_begin, has_written, has_ended, port_of_edge, output_there, output_is}
 use Rattle.prl_core.proofs.Telling.{fits_action, constant_on, finds, whole_read}
 
 worker_there : (workers : List Worker) (i : ℕ) → i < length workers → (worker : Worker) × (slice_get workers i ≡ Some worker)

@@ -7,9 +7,9 @@ use Rattle.prl_plan.specs.Vocabulary.{HasPlanFacts, IsHorizon, Placement, consta
 use Rattle.prl_plan.specs.declared.horizons.Horizon.{Horizon}
 use Rattle.prl_plan.proofs.StateLaws.{opening_is_sound}
 use Rattle.prl_values.specs.Fitting.{HaveTaskBodies, HaveTypedRows}
-use Rattle.prl_workers.specs.Workers.{IsWorker}
-use Rattle.prl_workers.specs.declared.workers.Worker.{Worker}
-use Rattle.prl_workers.proofs.Working.{new_worker}
+use Rattle.prl_values.specs.Workers.{IsWorker}
+use Rattle.prl_values.specs.declared.workers.Worker.{Worker}
+use Rattle.prl_values.proofs.Working.{new_worker}
 use Rattle.prl_core.specs.Vocabulary.{opened_on, values_of, AreNewWorkers, IsKept}
 
 zeros : (n j : ℕ) → ◌≡◌ {A = ℕ} (get_or (replicate n 0) j 0) 0

@@ -10,7 +10,7 @@ use Rattle.prl_plan.specs.declared.events.SlotNo.{SlotNo}
 use Rattle.prl_track.specs.Machine.{cell_no}
 use Rattle.prl_track.specs.declared.seen.Seen.{Seen}
 use Rattle.prl_track.specs.declared.seen.Seen.TheVariants as sights
-use Rattle.prl_workers.specs.declared.workers.Worker.{Worker}
+use Rattle.prl_values.specs.declared.workers.Worker.{Worker}
 use Rattle.prl_core.specs.code.Stores.{CanTake, CanRead, DoesRead, Takes}
 
 -- a worker that is read is there

@@ -15,7 +15,7 @@ use prl_body::{Bodies, Machine};
 use prl_flow::Sensors;
 use prl_plan::{Event, Horizon, Kind, Placed, Plan, plan_facts, plan_is_one};
 use prl_track::Track;
-use prl_workers::Work;
+use prl_values::Work;
 use std::alloc::{AllocError, Global};
 use std::marker::Model;
 

@@ -11,8 +11,7 @@ ghost use Rattle.prl_core.specs.Cores.{CoreView, constants, Tells, AreOutputs};
 ghost use Rattle.prl_core.specs.code.Laws.{HasCoreLaws};
 
 use prl_plan::{free_events_keep_tags, horizon_jobs_are_counted};
-use prl_values::{job_values_are_typed, job_values_exist};
-use prl_workers::jobs_have_work_laws;
+use prl_values::{job_values_are_typed, job_values_exist, jobs_have_work_laws};
 
 /// The laws of plans, of their states and of values by instance, over what is seen of a machine.
 pub(crate) fn machine_laws()

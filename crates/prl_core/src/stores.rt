@@ -14,7 +14,7 @@ use prl_body::Bodies;
 use prl_flow::Sensors;
 use prl_plan::{Action, Horizon, Plan, Producer, SlotNo};
 use prl_track::{Acted, Seen};
-use prl_workers::Worker;
+use prl_values::Worker;
 use std::alloc::{AllocError, Global};
 
 /// The values of a machine.

@@ -8,7 +8,7 @@ use Rattle.prl_drawing.specs.Rows.{row_of}
 use Rattle.prl_drawing.specs.Texts.{attribute_text}
 
 -- a rectangle in its row, in the colour of its task, from the encoded release to the encoded deadline
-abbrev pub window_text : Shape → List ℕ
+unfoldable pub window_text : Shape → List ℕ
 window_text shape =
     attribute_text (codes "<rect class=\"w t") (shape.task % COLOURS)
     ++ place_text shape.left (row_of shape.row + GAP) (shape.right - shape.left) HIGH

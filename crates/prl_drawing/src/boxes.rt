@@ -6,7 +6,7 @@ ghost use Rattle.prl_drawing.specs.Scales.{IsScale};
 
 use crate::rows::colour_of;
 use crate::scales::{Scale, x_within};
-use crate::texts::{push, push_attribute};
+use crate::texts::{push_all, push_attribute};
 use std::alloc::AllocError;
 
 /// How wide a rectangle over some ticks is at least, in tenths of a pixel.
@@ -26,11 +26,13 @@ pub(crate) fn push_place(
 ) -> Result<(), AllocError>
     ensures { OnOk result (text.new.items ≡ text.old.items ++ sides_text left top width height ++ tail.now) }
 {
-    push_attribute(text, "\" x=\"", left)?;
-    push_attribute(text, "\" y=\"", top)?;
-    push_attribute(text, "\" width=\"", width)?;
-    push_attribute(text, "\" height=\"", height)?;
-    push(text, tail)
+    let attributes = [
+        ("\" x=\"", left),
+        ("\" y=\"", top),
+        ("\" width=\"", width),
+        ("\" height=\"", height),
+    ];
+    push_all(text, &attributes, tail)
 }
 
 /// Appends the rest of a rectangle that tells something where the mouse rests on it, up to what it tells.

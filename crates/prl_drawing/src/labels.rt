@@ -26,6 +26,15 @@ fn push_unit(text: &mut Vec<u8>, unit: &Unit) -> Result<(), AllocError> {
     push(text, unit.name)
 }
 
+/// Appends how many jobs are not drawn, where some are not.
+fn push_left_out(text: &mut Vec<u8>, left_out: u64) -> Result<(), AllocError> {
+    if left_out == 0 {
+        return Ok(());
+    }
+    let tail = " later jobs of the range are not drawn";
+    push_all(text, &[("; ", left_out)], tail)
+}
+
 /// Appends the line that says what is drawn of plans of this hyperperiod, and how many jobs are not.
 pub fn push_title(
     text: &mut Vec<u8>,
@@ -34,14 +43,13 @@ pub fn push_title(
     unit: &Unit,
     left_out: u64,
 ) -> Result<(), AllocError> {
-    push_attribute(text, "<text x=\"100\" y=\"190\">hyperperiod ", hyper)?;
-    let front = " ticks; jobs that are released from tick ";
-    push_attribute(text, front, scale.from)?;
-    push_attribute(text, " on and before tick ", scale.until)?;
-    if left_out > 0 {
-        let tail = " later jobs of the range are not drawn";
-        push_all(text, &[("; ", left_out)], tail)?;
-    }
+    let attributes = [
+        ("<text x=\"100\" y=\"190\">hyperperiod ", hyper),
+        (" ticks; jobs that are released from tick ", scale.from),
+        (" on and before tick ", scale.until),
+    ];
+    push_all(text, &attributes, "")?;
+    push_left_out(text, left_out)?;
     push_unit(text, unit)?;
     push(text, "</text>\n")
 }

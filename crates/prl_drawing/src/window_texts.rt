@@ -29,6 +29,7 @@ fn width_of(shape: &Shape) -> u64
 }
 
 /// Appends the window of a job.
+#[tactic(auto, unfolding(crate::specs::Windows::window_text))]
 fn push_window(text: &mut Vec<u8>, shape: &Shape) -> Result<(), AllocError>
     ensures { OnOk result (text.new.items ≡ text.old.items ++ window_text shape.now) }
 {

@@ -4,7 +4,7 @@ use Rattle.prl_plan.specs.Vocabulary.{HasPlanFacts, sum_below, RunConstants}
 use Rattle.prl_edf.specs.Vocabulary.{Piece, sum_of_jobs, units_before, IsTimedRun, MeetsAllWindows, lies_in, run_of, ticks_of, AreLongest, EndBy}
 use Rattle.prl_edf.proofs.PieceLists.{lies, lies_not, end_later}
 use Rattle.prl_edf.proofs.Skips.{run_in, run_out, none_between, in_or_out}
-use Rattle.prl_demand.proofs.Sums.{sum_plus, jobs_none, jobs_rise, jobs_grow, jobs_by_one}
+use Rattle.prl_overlaps.proofs.Sums.{sum_plus, jobs_none, jobs_rise, jobs_grow, jobs_by_one}
 use Rattle.prl_edf.proofs.Units.{some_or_none, units_rise, unit_not, unit_none, unit_more, unit_at_most, never_more}
 
 -- 1 where a tick goes to a job

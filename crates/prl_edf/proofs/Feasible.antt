@@ -3,8 +3,8 @@ use Rattle.prl_base.proofs.Standard.{◌≡◌, ◌+◌, ◌<◌, ◌≤◌, ◌
 use Rattle.prl_plan.specs.Vocabulary.{IsJob, RunConstants}
 use Rattle.prl_edf.specs.Vocabulary.{sum_of_jobs, cost_within, IsOverloaded, units_before, IsReady, AreUnits, IsEdfRun}
 use Rattle.prl_edf.proofs.Busy.{AreGoodSince, good_since}
-use Rattle.prl_demand.proofs.Sums.{jobs_grow}
-use Rattle.prl_demand.proofs.Within.{inside, cost_inside, cost_rises}
+use Rattle.prl_overlaps.proofs.Sums.{jobs_grow}
+use Rattle.prl_overlaps.proofs.Within.{inside, cost_inside, cost_rises}
 use Rattle.prl_edf.proofs.Units.{some_or_none, units_rise, unit_more, never_more}
 
 module _ (c : RunConstants) (units : ℕ → ℕ → ℕ) (run : ℕ → Option (ℕ × ℕ)) (edf : IsEdfRun c units run) (b : ℕ) (within : b ≤ c.end) where

@@ -1,9 +1,9 @@
 -- The least end of an overloaded interval is the earliest deadline that a run by earliest deadline first misses.
 use Rattle.prl_base.proofs.Standard.{◌≡◌, ◌-◌, ◌≤◌, ◌⊎◌, ℕ, Option, inl, inr, refl, sym, subst, arith, cases_lt}
 use Rattle.prl_plan.specs.Vocabulary.{IsJob, HasPlanFacts, RunConstants}
-use Rattle.prl_demand.specs.Vocabulary.{cost_within, demand, IsGreatest, IsOverloaded, IsFirstOverload}
-use Rattle.prl_demand.proofs.Sums.{jobs_rise, jobs_none}
-use Rattle.prl_demand.proofs.Within.{inside, inside_or_not, cost_inside, cost_outside}
+use Rattle.prl_overlaps.specs.Vocabulary.{cost_within, demand, IsGreatest, IsOverloaded, IsFirstOverload}
+use Rattle.prl_overlaps.proofs.Sums.{jobs_rise, jobs_none}
+use Rattle.prl_overlaps.proofs.Within.{inside, inside_or_not, cost_inside, cost_outside}
 use Rattle.prl_edf.specs.Vocabulary.{units_before, IsTimedRun, AreUnits, IsEdfRun, MissesWindow, IsFirstMiss}
 use Rattle.prl_edf.proofs.Best.{none_or_least}
 use Rattle.prl_edf.proofs.Feasible.{missed_overloads}

@@ -3,7 +3,7 @@ use Rattle.std.proofs.Common.{◌≡◌, ◌<◌, ◌≤◌, ◌^◌, ℕ, Optio
 use Rattle.prl_plan.specs.Vocabulary.{IsJob, HasPlanFacts, IsHorizon, constants_of, PlanView, IsPlan, RunConstants}
 use Rattle.prl_plan.specs.declared.horizons.Horizon.{Horizon}
 use Rattle.prl_edf.specs.Vocabulary.{cost_within, demand, IsOverloaded, IsFirstOverload, AreUnits, IsPlainRun, IsFirstMiss, wcets_of, IsGreatest}
-use Rattle.prl_demand.proofs.Starts.{tasks_bound, wcet_bounds, within_small}
+use Rattle.prl_overlaps.proofs.Starts.{tasks_bound, wcet_bounds, within_small}
 use Rattle.prl_edf.proofs.Feasible.{missed_overloads}
 use Rattle.prl_edf.proofs.FirstOverload.{begins_with_a_job, greatest_is_first}
 use Rattle.prl_edf.proofs.SomeRun.{some_plain}

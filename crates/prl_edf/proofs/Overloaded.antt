@@ -2,8 +2,8 @@
 use Rattle.prl_base.proofs.Standard.{◌≡◌, ◌+◌, ◌-◌, ◌≤◌, ℕ, zero, suc, Option, inl, inr, ◌∙◌, arith, cases_lt}
 use Rattle.prl_plan.specs.Vocabulary.{IsJob, RunConstants}
 use Rattle.prl_edf.specs.Vocabulary.{sum_of_jobs, cost_within, demand, units_before, IsTimedRun, MeetsWindow}
-use Rattle.prl_demand.proofs.Sums.{jobs_rise, jobs_none, jobs_by_one}
-use Rattle.prl_demand.proofs.Within.{inside_or_not, cost_inside, cost_outside, cost_rises}
+use Rattle.prl_overlaps.proofs.Sums.{jobs_rise, jobs_none, jobs_by_one}
+use Rattle.prl_overlaps.proofs.Within.{inside_or_not, cost_inside, cost_outside, cost_rises}
 use Rattle.prl_edf.proofs.Units.{some_or_none, units_rise, unit_not, unit_none, unit_at_most, none_yet}
 
 module _ (c : RunConstants) (units : ℕ → ℕ → ℕ) (run : ℕ → Option (ℕ × ℕ)) (timed : IsTimedRun c units run) (a b : ℕ) where

@@ -3,7 +3,7 @@ use Rattle.std.specs.Prelude.{◌≡◌, ℕ}
 use Rattle.prl_plan.specs.Runs.{RunConstants}
 use Rattle.prl_edf.specs.declared.analysis.Verdict.{Verdict}
 use Rattle.prl_edf.specs.declared.analysis.Verdict.TheVariants as verdicts
-use Rattle.prl_demand.specs.Demand.{demand, IsOverloaded, IsFirstOverload}
+use Rattle.prl_overlaps.specs.Demand.{demand, IsOverloaded, IsFirstOverload}
 use Rattle.prl_edf.specs.Outcomes.{IsFeasibleRun}
 
 -- no interval is overloaded, and this is the plain run; or the overloaded interval that is told, with its demand

@@ -1,6 +1,6 @@
 -- The words of this crate that clauses and proofs use, from one place.
-pub use Rattle.prl_demand.specs.Demand.{IsFirstOverload, IsGreatest, IsOverloaded, cost_within}
-pub use Rattle.prl_demand.specs.Demand.{demand, is_within, sum_of_jobs, wcets_of}
+pub use Rattle.prl_overlaps.specs.Demand.{IsFirstOverload, IsGreatest, IsOverloaded, cost_within}
+pub use Rattle.prl_overlaps.specs.Demand.{demand, is_within, sum_of_jobs, wcets_of}
 pub use Rattle.prl_edf.specs.EdfRuns.{IsEdfRun, IsMetRun, IsPlainRun}
 pub use Rattle.prl_edf.specs.MetWindows.{IsFirstMiss, MeetsAllWindows, MeetsWindow, MissesWindow}
 pub use Rattle.prl_edf.specs.Outcomes.{ComesTo, IsFeasibleRun}

@@ -2,13 +2,13 @@
 
 ghost use Rattle.std.specs.Prelude.{ℕ, Option, map, vec_items, IfOk};
 ghost use Rattle.prl_plan.specs.Vocabulary.{IsHorizon, constants_of};
-ghost use Rattle.prl_demand.specs.Demand.{wcets_of};
+ghost use Rattle.prl_overlaps.specs.Demand.{wcets_of};
 ghost use Rattle.prl_edf.specs.Vocabulary.{AreFullLists, ComesTo, IsFirstMiss, IsPlainRun, IsVerdict};
 
 use crate::laws::feasibility;
 use crate::runs::{Outcome, Timed, run_units};
 use prl_base::TaskNo;
-use prl_demand::{last_overload, wcet_of};
+use prl_overlaps::{last_overload, wcet_of};
 use prl_plan::{Horizon, Plan, look_ups_fit, plan_facts, plan_is_one};
 use std::alloc::{AllocError, Global};
 

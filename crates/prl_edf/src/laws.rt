@@ -8,7 +8,7 @@ ghost use Rattle.prl_plan.specs.declared.events.Event.{Event};
 ghost use Rattle.prl_plan.specs.declared.horizons.Horizon.{Horizon};
 ghost use Rattle.prl_edf.specs.declared.analysis.Verdict.{Verdict};
 ghost use Rattle.prl_edf.specs.declared.pieces.Piece.{Piece};
-ghost use Rattle.prl_demand.specs.Demand.{sum_of_jobs, IsOverloaded, IsFirstOverload};
+ghost use Rattle.prl_overlaps.specs.Demand.{sum_of_jobs, IsOverloaded, IsFirstOverload};
 ghost use Rattle.prl_edf.specs.Pieces.{run_of, ticks_of, AreLongest};
 ghost use Rattle.prl_edf.specs.TimedRuns.{IsTimedRun, AreUnits};
 ghost use Rattle.prl_edf.specs.EdfRuns.{IsEdfRun, IsPlainRun};

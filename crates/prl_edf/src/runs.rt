@@ -2,7 +2,7 @@
 
 ghost use Rattle.std.specs.Prelude.{◌≡◌, ◌<◌, ◌≤◌, [], Some, None, length, map, vec_items, slice_index_or, IfOk, MatchOption};
 ghost use Rattle.prl_plan.specs.Horizons.{IsHorizon, constants_of};
-ghost use Rattle.prl_demand.specs.Demand.{wcets_of};
+ghost use Rattle.prl_overlaps.specs.Demand.{wcets_of};
 ghost use Rattle.prl_edf.specs.Outcomes.{ComesTo};
 ghost use Rattle.prl_edf.specs.Pieces.{run_of, ticks_of, AreLongest};
 ghost use Rattle.prl_edf.specs.UnitLists.{units_of, AreUnitLists};

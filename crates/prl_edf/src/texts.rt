@@ -3,7 +3,7 @@
 ghost use Rattle.std.specs.Prelude.{◌≡◌, ◌++◌, IfOk, OnOk};
 ghost use Rattle.std.specs.Fmt.{decimal};
 ghost use Rattle.prl_plan.specs.Horizons.{IsHorizon, constants_of};
-ghost use Rattle.prl_demand.specs.Demand.{wcets_of};
+ghost use Rattle.prl_overlaps.specs.Demand.{wcets_of};
 ghost use Rattle.prl_edf.specs.Verdicts.{IsVerdict};
 ghost use Rattle.prl_edf.specs.VerdictTexts.{run_line, overload_line, verdict_line};
 

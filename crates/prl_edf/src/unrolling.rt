@@ -7,7 +7,7 @@ ghost use Rattle.prl_plan.specs.declared.events.Event.TheVariants as kinds;
 ghost use Rattle.prl_plan.specs.Vocabulary.{IsJob, IsHorizon, constants_of, opening, after_events};
 ghost use Rattle.prl_plan.specs.Vocabulary.{IsLegal, IsComplete};
 ghost use Rattle.prl_track.specs.Routes.{AreRoutes};
-ghost use Rattle.prl_demand.specs.Demand.{wcets_of};
+ghost use Rattle.prl_overlaps.specs.Demand.{wcets_of};
 ghost use Rattle.prl_edf.specs.declared.pieces.Piece.{Piece};
 ghost use Rattle.prl_edf.specs.Pieces.{run_of, AreLongest};
 ghost use Rattle.prl_edf.specs.TimedRuns.{totals};

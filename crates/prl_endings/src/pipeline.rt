@@ -2,7 +2,7 @@
 
 ghost use Rattle.std.specs.Prelude.{◌≡◌, ◌<◌, ◌≤◌, ◌^◌, IfOk, IfErr, length};
 ghost use Rattle.prl_arguments.specs.Arguments.{AreInRange};
-ghost use Rattle.prl_calls.specs.Stops.{given_of, AllHold, StopsIn};
+ghost use Rattle.prl_calls.specs.Stops.{given_of, Passes};
 ghost use Rattle.prl_stages.specs.Vocabulary.{IsMeant, stages_after, IsText};
 ghost use Rattle.prl_endings.specs.Answers.{IsAnswer, IsAnswerOf, IsAnswerStop};
 ghost use Rattle.prl_endings.specs.code.Modes.{HasFiles, KeepsTexts, RunsNothing};
@@ -25,9 +25,7 @@ fn kept_text(alloc: Global, mode: Mode, request: &Request) -> Result<Vec<u8>, St
     requires mode { KeepsTexts mode }
     requires program { length request.now.texts.program.items ≤ MAX_PROGRAM }
     requires bodies { length request.now.texts.bodies.items ≤ MAX_BODIES }
-    ensures text { IfOk result (λ text. IsText (given_of request.now) mode text.items) }
-    ensures holds { IfOk result (λ _. AllHold (given_of request.now) (stages_after mode request.now.named)) }
-    ensures stop { IfErr result (StopsIn (given_of request.now) (stages_after mode request.now.named)) }
+    ensures { Passes (given_of request.now) (stages_after mode request.now.named) (λ text. IsText (given_of request.now) mode text.items) result }
 {
     match mode {
         Mode::Print => print_text(alloc, request),
@@ -49,9 +47,7 @@ fn mode_text(alloc: Global, mode: Mode, request: Request) -> Result<Vec<u8>, Sto
     requires program { length request.texts.program.items ≤ MAX_PROGRAM }
     requires bodies { length request.texts.bodies.items ≤ MAX_BODIES }
     requires until { request.until < 2 ^ 31 }
-    ensures text { IfOk result (λ text. IsText (given_of request) mode text.items) }
-    ensures holds { IfOk result (λ _. AllHold (given_of request) (stages_after mode request.named)) }
-    ensures stop { IfErr result (StopsIn (given_of request) (stages_after mode request.named)) }
+    ensures { Passes (given_of request) (stages_after mode request.named) (λ text. IsText (given_of request) mode text.items) result }
 {
     match mode {
         Mode::Flows => flows_text(alloc, request),
@@ -69,10 +65,7 @@ fn text_alone(alloc: Global, mode: Mode, request: Request) -> Result<(Vec<u8>, R
     requires program { length request.texts.program.items ≤ MAX_PROGRAM }
     requires bodies { length request.texts.bodies.items ≤ MAX_BODIES }
     requires until { request.until < 2 ^ 31 }
-    ensures text { IfOk result (λ made. IsText (given_of request) mode made.0.items) }
-    ensures ran { IfOk result (λ made. made.1 ≡ Ran.Not) }
-    ensures holds { IfOk result (λ _. AllHold (given_of request) (stages_after mode request.named)) }
-    ensures stop { IfErr result (StopsIn (given_of request) (stages_after mode request.named)) }
+    ensures { Passes (given_of request) (stages_after mode request.named) (λ made. IsText (given_of request) mode made.0.items × (made.1 ≡ Ran.Not)) result }
 {
     let text = mode_text(alloc, mode, request)?;
     Ok((text, Ran::Not))
@@ -84,9 +77,7 @@ fn requested(alloc: Global, command: &Command, request: Request) -> Result<(Vec<
     requires program { length request.texts.program.items ≤ MAX_PROGRAM }
     requires bodies { length request.texts.bodies.items ≤ MAX_BODIES }
     requires until { request.until < 2 ^ 31 }
-    ensures text { IfOk result (λ made. IsMeant (given_of request) command.now made.0.items made.1) }
-    ensures holds { IfOk result (λ _. AllHold (given_of request) (stages_after command.now.mode request.named)) }
-    ensures stop { IfErr result (StopsIn (given_of request) (stages_after command.now.mode request.named)) }
+    ensures { Passes (given_of request) (stages_after command.now.mode request.named) (λ made. IsMeant (given_of request) command.now made.0.items made.1) result }
 {
     match command.mode {
         Mode::Run => run_text(alloc, &request, command.clock),

@@ -16,10 +16,10 @@ use Rattle.prl_flow.specs.declared.programs.Flow.{Flow}
 use Rattle.prl_flow.specs.declared.programs.Def.TheVariants as definitions
 use Rattle.prl_flow.proofs.Applied.{length_HaveTypes}
 use Rattle.prl_flow.proofs.ClockDates.{dates_before_number}
-use Rattle.prl_solutions.specs.Tables.{Reads, inputs_of, nothing, table_of, value_of}
-use Rattle.prl_solutions.proofs.Earlier.{inputs_local, reads_before, reads_earlier, value_local}
-use Rattle.prl_solutions.proofs.Solved.{applied_is}
-use Rattle.prl_solutions.proofs.Typed.{types_inputs, types_registers}
+use Rattle.prl_behaviours.specs.Tables.{Reads, argument_values, nothing, table_of, value_of}
+use Rattle.prl_behaviours.proofs.Earlier.{inputs_local, reads_before, reads_earlier, value_local}
+use Rattle.prl_behaviours.proofs.Solved.{applied_is}
+use Rattle.prl_behaviours.proofs.Typed.{types_inputs, types_registers}
 use Rattle.prl_evaluation.specs.Vocabulary.{HasGrown, IsPlain, IsReady, IsUnderWay, len, pushed, HasStepped, HaveArguments, IsRun, MayStep, Run}
 
 same_application : (j o k out : ℕ) → definitions.Apply j o ≡ definitions.Apply k out → j ≡ k
@@ -136,11 +136,11 @@ module _ (p : FlatProgram) (flat : IsFlat p) (clocks : List Clock) (agree : AreC
         let inside = (reads_earlier p flat clocks agree i flow found (len flows i) arg.flow.0 (len flows i) reads).0 in
         (omega (arith, inside, h.count), ready.reads arg.flow.0 (len flows i) reads)
 
-    inputs_same : (a : App) → slice_get p.apps k ≡ Some a → (m : ℕ) → m ≤ len flows i → inputs_of (table_of flows) a.args m ≡ inputs_of h.table a.args m
+    inputs_same : (a : App) → slice_get p.apps k ≡ Some a → (m : ℕ) → m ≤ len flows i → argument_values (table_of flows) a.args m ≡ argument_values h.table a.args m
     inputs_same a applied m le = inputs_local (table_of flows) h.table a.args m (λ j arg at. read_is arg.flow.0 m (reads_argument a applied j arg at m le))
 
     inputs_typed : (a : App) (applied : slice_get p.apps k ≡ Some a) (have : HaveBodies p bodies) → (m : ℕ) → m ≤ len flows i
-        → map type_of (inputs_of h.table a.args m) ≡ input_types (have k a applied).body
+        → map type_of (argument_values h.table a.args m) ≡ input_types (have k a applied).body
     inputs_typed a applied have m le =
         let b = have k a applied in
         types_inputs p h.table m a.args (input_types b.body) b.fits.inputs (λ j arg at.
@@ -168,7 +168,7 @@ module _ (p : FlatProgram) (flat : IsFlat p) (clocks : List Clock) (agree : AreC
       out_count : length a.outs ≡ length (output_types run_of.body)
       out_count = length_HaveTypes p a.outs (output_types (have k a applied).body) (have k a applied).fits.outputs ∙ ap (λ (b : CheckedBody). length (output_types b)) (sym body_is)
 
-      typed_inputs : (m : ℕ) → m ≤ len flows i → map type_of (inputs_of h.table a.args m) ≡ input_types run_of.body
+      typed_inputs : (m : ℕ) → m ≤ len flows i → map type_of (argument_values h.table a.args m) ≡ input_types run_of.body
       typed_inputs m le = inputs_typed a applied have m le ∙ ap input_types (sym body_is)
 
       pub out_within : out < length r.outputs.items
@@ -181,39 +181,39 @@ module _ (p : FlatProgram) (flat : IsFlat p) (clocks : List Clock) (agree : AreC
           let grows : len flows i * 1 ≤ len flows i * (clock_of clocks i).period = mul-le-mul_left (len flows i) positive in
           omega (arith, grows, before, early)
 
-      pub may_step : until < 2 ^ 31 → r.steps ≡ len flows i → MayStep r a.args (inputs_of (table_of flows) a.args (len flows i))
+      pub may_step : until < 2 ^ 31 → r.steps ≡ len flows i → MayStep r a.args (argument_values (table_of flows) a.args (len flows i))
       may_step early same = record {
         read = run_of.read;
         types = ap (map type_of) (inputs_same a applied (len flows i) (omega arith)) ∙ typed_inputs (len flows i) (omega arith) ∙ ap input_types (sym run_of.same);
         held = ap (map type_of) run_of.held
-            ∙ types_registers run_of.body (inputs_of h.table a.args) run_of.typed r.steps (λ m less. typed_inputs m (omega (arith, less, same)))
+            ∙ types_registers run_of.body (argument_values h.table a.args) run_of.typed r.steps (λ m less. typed_inputs m (omega (arith, less, same)))
             ∙ ap register_types (sym run_of.same);
         given = run_of.written ∙ out_count ∙ ap (λ (b : CheckedBody). length (output_types b)) (sym run_of.same);
         steps = omega (arith, run_of.counted, same, few_instances early);
       }
 
-      module _ (new : Run) (stepped : r.steps ≡ len flows i → HasStepped r new (inputs_of (table_of flows) a.args (len flows i))) (kept : (r.steps ≡ len flows i → ⊥) → new ≡ r) where
+      module _ (new : Run) (stepped : r.steps ≡ len flows i → HasStepped r new (argument_values (table_of flows) a.args (len flows i))) (kept : (r.steps ≡ len flows i → ⊥) → new ≡ r) where
         inputs : ℕ → List Value
-        inputs = inputs_of h.table a.args
+        inputs = argument_values h.table a.args
 
         -- the step is that of the application's body on the arguments in the table
-        made : r.steps ≡ len flows i → HasStepped r new (inputs_of h.table a.args (len flows i))
+        made : r.steps ≡ len flows i → HasStepped r new (argument_values h.table a.args (len flows i))
         made same = subst (HasStepped r new) (inputs_same a applied (len flows i) (omega arith)) (stepped same)
 
-        registers_are : r.steps ≡ len flows i → r.machine.registers ≡ registers_before run_of.body (inputs_of h.table a.args) (len flows i)
-        registers_are same = run_of.held ∙ ap (registers_before run_of.body (inputs_of h.table a.args)) same
+        registers_are : r.steps ≡ len flows i → r.machine.registers ≡ registers_before run_of.body (argument_values h.table a.args) (len flows i)
+        registers_are same = run_of.held ∙ ap (registers_before run_of.body (argument_values h.table a.args)) same
 
         step_is : r.steps ≡ len flows i
-            → body_step r.body.now (inputs_of h.table a.args (len flows i)) r.machine.registers ≡ nth_step run_of.body (inputs_of h.table a.args) (len flows i)
+            → body_step r.body.now (argument_values h.table a.args (len flows i)) r.machine.registers ≡ nth_step run_of.body (argument_values h.table a.args) (len flows i)
         step_is same =
-            ap (λ (b : CheckedBody). body_step b (inputs_of h.table a.args (len flows i)) r.machine.registers) run_of.same
-            ∙ ap (body_step run_of.body (inputs_of h.table a.args (len flows i))) (registers_are same)
+            ap (λ (b : CheckedBody). body_step b (argument_values h.table a.args (len flows i)) r.machine.registers) run_of.same
+            ∙ ap (body_step run_of.body (argument_values h.table a.args (len flows i))) (registers_are same)
 
         new_run : r.steps ≡ len flows i → IsRun bodies h.table a new
         new_run same =
             let m = made same in
             let counted : new.steps ≡ suc (len flows i) = omega (arith, m.steps, same) in
-            let outputs : new.outputs.items ≡ (nth_step run_of.body (inputs_of h.table a.args) (len flows i)).outputs = m.outputs ∙ ap (λ s. s.outputs) (step_is same) in
+            let outputs : new.outputs.items ≡ (nth_step run_of.body (argument_values h.table a.args) (len flows i)).outputs = m.outputs ∙ ap (λ s. s.outputs) (step_is same) in
             record {
               body = run_of.body;
               same = m.body ∙ run_of.same;
@@ -221,11 +221,11 @@ module _ (p : FlatProgram) (flat : IsFlat p) (clocks : List Clock) (agree : AreC
               typed = run_of.typed;
               read = m.inputs ∙ run_of.read;
               written = m.written ∙ run_of.written;
-              held = ap (λ (x : MachineState). x.registers) m.machine ∙ ap (λ s. s.registers) (step_is same) ∙ ap (registers_before run_of.body (inputs_of h.table a.args)) (sym counted);
+              held = ap (λ (x : MachineState). x.registers) m.machine ∙ ap (λ s. s.registers) (step_is same) ∙ ap (registers_before run_of.body (argument_values h.table a.args)) (sym counted);
               counted = let e : new.machine.steps ≡ r.machine.steps + 1 = ap (λ (x : MachineState). x.steps) m.machine in omega (arith, e, m.steps, run_of.counted);
               given = λ n is.
                   let number : len flows i ≡ n = omega (arith, counted, is) in
-                  outputs ∙ ap (λ t. (nth_step run_of.body (inputs_of h.table a.args) t).outputs) number;
+                  outputs ∙ ap (λ t. (nth_step run_of.body (argument_values h.table a.args) t).outputs) number;
             }
 
         -- after it the run has made the step for the next value
@@ -243,8 +243,8 @@ module _ (p : FlatProgram) (flat : IsFlat p) (clocks : List Clock) (agree : AreC
 
         value_is : slice_index_or new.outputs.items out nothing ≡ h.table i (len flows i)
         value_is =
-            let outputs : new.outputs.items ≡ (nth_step run_of.body (inputs_of h.table a.args) (len flows i)).outputs =
-            both.1.given (len flows i) both.0 ∙ ap (λ (b : CheckedBody). (nth_step b (inputs_of h.table a.args) (len flows i)).outputs) body_same in
+            let outputs : new.outputs.items ≡ (nth_step run_of.body (argument_values h.table a.args) (len flows i)).outputs =
+            both.1.given (len flows i) both.0 ∙ ap (λ (b : CheckedBody). (nth_step b (argument_values h.table a.args) (len flows i)).outputs) body_same in
             ap (λ (xs : List Value). slice_index_or xs out nothing) outputs
             ∙ sym (applied_is p.apps bodies h.table k (len flows i) out a run_of.body applied run_of.named)
             ∙ ap (λ (d : Def). value_of p bodies rows h.table d (len flows i)) (sym applies)

@@ -7,7 +7,7 @@ use Rattle.prl_flow.specs.declared.programs.Arg.{Arg}
 use Rattle.prl_flow.specs.declared.programs.Def.{Def}
 use Rattle.prl_flow.specs.declared.programs.Flow.{Flow}
 use Rattle.prl_flow.specs.declared.programs.Def.TheVariants as definitions
-use Rattle.prl_solutions.specs.Tables.{inputs_of, nothing, table_of, value_of}
+use Rattle.prl_behaviours.specs.Tables.{argument_values, nothing, table_of, value_of}
 use Rattle.prl_evaluation.specs.Vocabulary.{CanGrow, IsPlain, IsReady, IsSet, IsThere, UnderWay, len, pushed, HasStepped, HaveArguments, MayStep, Run, Setting}
 use Rattle.prl_evaluation.proofs.Grown as grown
 use Rattle.prl_evaluation.proofs.There.{is_there}
@@ -79,28 +79,28 @@ module _ (s : Setting) (setting : IsSet s) (flows : List (List Value)) (runs : L
         let small = grown.few_instances s.flat.now setting.flat s.clocks.now setting.agree s.bodies.now s.sensors.now s.until flows runs h i flow found can.before ready k out applies_own setting.have app applied run there setting.early in
         omega (arith, small, n_is)
 
-    may_step : (slice_index_or runs k run).steps ≡ n → MayStep (slice_index_or runs k run) args (inputs_of (table_of flows) args n)
+    may_step : (slice_index_or runs k run).steps ≡ n → MayStep (slice_index_or runs k run) args (argument_values (table_of flows) args n)
     may_step same =
         let steps : run.steps ≡ len flows i = ap (λ (r : Run). r.steps) run_read ∙ same ∙ n_is in
         let may = grown.may_step s.flat.now setting.flat s.clocks.now setting.agree s.bodies.now s.sensors.now s.until flows runs h i flow found can.before ready k out applies_own setting.have app applied run there setting.early steps in
-        subst (λ (r : Run). MayStep r args (inputs_of (table_of flows) args n)) run_read
-        (subst (λ (us : List Arg). MayStep run us (inputs_of (table_of flows) us n)) (sym args_own)
-        (subst (λ t. MayStep run app.args (inputs_of (table_of flows) app.args t)) (sym n_is) may))
+        subst (λ (r : Run). MayStep r args (argument_values (table_of flows) args n)) run_read
+        (subst (λ (us : List Arg). MayStep run us (argument_values (table_of flows) us n)) (sym args_own)
+        (subst (λ t. MayStep run app.args (argument_values (table_of flows) app.args t)) (sym n_is) may))
 
     pub output_ready : (out < length (slice_index_or runs k run).outputs.items) × HaveArguments flows args n × (n < 2 ^ 63)
-        × ((slice_index_or runs k run).steps ≡ n → MayStep (slice_index_or runs k run) args (inputs_of (table_of flows) args n))
+        × ((slice_index_or runs k run).steps ≡ n → MayStep (slice_index_or runs k run) args (argument_values (table_of flows) args n))
     output_ready = (output_within, arguments, few, may_step)
 
     pub output_grows : (new : Run) (x : Value)
-        → ((slice_index_or runs k run).steps ≡ n → HasStepped (slice_index_or runs k run) new (inputs_of (table_of flows) args n))
+        → ((slice_index_or runs k run).steps ≡ n → HasStepped (slice_index_or runs k run) new (argument_values (table_of flows) args n))
         → (((slice_index_or runs k run).steps ≡ n → ⊥) → new ≡ slice_index_or runs k run)
         → x ≡ slice_index_or new.outputs.items out nothing → UnderWay s (pushed flows i x) (set runs k new)
     output_grows new x stepped kept is =
         grown.output_step s.flat.now setting.flat s.clocks.now setting.agree s.bodies.now s.sensors.now s.until flows runs h i flow found can.before ready k out applies_own setting.have app applied run there new
         (λ same.
         let steps : (slice_index_or runs k run).steps ≡ n = ap (λ (r : Run). r.steps) (sym run_read) ∙ same ∙ sym n_is in
-        subst (λ t. HasStepped run new (inputs_of (table_of flows) app.args t)) n_is
-        (subst (λ (us : List Arg). HasStepped run new (inputs_of (table_of flows) us n)) args_own
-        (subst (λ (r : Run). HasStepped r new (inputs_of (table_of flows) args n)) (sym run_read) (stepped steps))))
+        subst (λ t. HasStepped run new (argument_values (table_of flows) app.args t)) n_is
+        (subst (λ (us : List Arg). HasStepped run new (argument_values (table_of flows) us n)) args_own
+        (subst (λ (r : Run). HasStepped r new (argument_values (table_of flows) args n)) (sym run_read) (stepped steps))))
         (λ other. kept (λ same. other (ap (λ (r : Run). r.steps) run_read ∙ same ∙ n_is)) ∙ sym run_read)
         x is

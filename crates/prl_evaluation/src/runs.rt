@@ -1,7 +1,7 @@
 //! Runs of applications: the steps of their bodies, one after another.
 
 ghost use Rattle.std.specs.Prelude.{◌≡◌, ◌<◌, ◌^◌, length, slice_index_or, IfOk};
-ghost use Rattle.prl_solutions.specs.Tables.{inputs_of, nothing, table_of};
+ghost use Rattle.prl_behaviours.specs.Tables.{argument_values, nothing, table_of};
 ghost use Rattle.prl_evaluation.specs.code.Runs.{HasBodyNamed, HasStepped, HaveArguments, IsNew, MayStep};
 
 use crate::operators::value_in;
@@ -27,7 +27,7 @@ pub(crate) struct Run<'a> {
 fn read_arguments(args: &[Arg], flows: &[Values<'_>], n: usize, inputs: &mut [Value])
     requires number { length inputs.old ≡ length args.now }
     requires there { HaveArguments flows.now args.now n }
-    ensures { inputs.new ≡ inputs_of (table_of flows.now) args.now n }
+    ensures { inputs.new ≡ argument_values (table_of flows.now) args.now n }
 {
     for (k, arg) in args.iter().enumerate() {
         inputs[k] = value_in(flows, arg.flow, n);
@@ -37,9 +37,9 @@ fn read_arguments(args: &[Arg], flows: &[Values<'_>], n: usize, inputs: &mut [Va
 /// One step on the arguments' instance `n`.
 fn step(run: &mut Run<'_>, args: &[Arg], flows: &[Values<'_>], n: usize)
     requires there { HaveArguments flows.now args.now n }
-    requires ready { MayStep run.old args.now (inputs_of (table_of flows.now) args.now n) }
+    requires ready { MayStep run.old args.now (argument_values (table_of flows.now) args.now n) }
     requires few { run.old.steps < 2 ^ 63 }
-    ensures { HasStepped run.old run.new (inputs_of (table_of flows.now) args.now n) }
+    ensures { HasStepped run.old run.new (argument_values (table_of flows.now) args.now n) }
 {
     read_arguments(args, flows, n, &mut run.inputs);
     run.machine.step(run.body, &run.inputs, &mut run.outputs);
@@ -49,9 +49,9 @@ fn step(run: &mut Run<'_>, args: &[Arg], flows: &[Values<'_>], n: usize)
 /// Makes the run's next step on the arguments' instance `n`, where it has made `n` steps.
 fn catch_up(run: &mut Run<'_>, args: &[Arg], flows: &[Values<'_>], n: usize)
     requires there { run.old.steps ≡ n → HaveArguments flows.now args.now n }
-    requires ready { run.old.steps ≡ n → MayStep run.old args.now (inputs_of (table_of flows.now) args.now n) }
+    requires ready { run.old.steps ≡ n → MayStep run.old args.now (argument_values (table_of flows.now) args.now n) }
     requires few { n < 2 ^ 63 }
-    ensures stepped { run.old.steps ≡ n → HasStepped run.old run.new (inputs_of (table_of flows.now) args.now n) }
+    ensures stepped { run.old.steps ≡ n → HasStepped run.old run.new (argument_values (table_of flows.now) args.now n) }
     ensures kept { (run.old.steps ≡ n → ⊥) → run.new ≡ run.old }
     ensures written { length run.new.outputs.items ≡ length run.old.outputs.items }
 {
@@ -71,9 +71,9 @@ pub(crate) fn output_value(
 ) -> Value
     requires output { out < length run.old.outputs.items }
     requires there { run.old.steps ≡ n → HaveArguments flows.now args.now n }
-    requires ready { run.old.steps ≡ n → MayStep run.old args.now (inputs_of (table_of flows.now) args.now n) }
+    requires ready { run.old.steps ≡ n → MayStep run.old args.now (argument_values (table_of flows.now) args.now n) }
     requires few { n < 2 ^ 63 }
-    ensures stepped { run.old.steps ≡ n → HasStepped run.old run.new (inputs_of (table_of flows.now) args.now n) }
+    ensures stepped { run.old.steps ≡ n → HasStepped run.old run.new (argument_values (table_of flows.now) args.now n) }
     ensures kept { (run.old.steps ≡ n → ⊥) → run.new ≡ run.old }
     ensures value { result ≡ slice_index_or run.new.outputs.items out nothing }
 {

@@ -11,7 +11,7 @@ use Rattle.prl_exec.specs.Runs.{HasEnded, HasStopped}
 use Rattle.prl_exec.specs.declared.runs.Stopped.{Stopped}
 use Rattle.prl_core.specs.Cores.{opened, opened_on}
 use Rattle.prl_replay.specs.Replays.{AreFlowsBelow, IsTrace, after_all}
-use Rattle.prl_results.specs.Shown.{AreShown, core_in}
+use Rattle.prl_replay.specs.Shown.{AreShown, core_in}
 use Rattle.prl_rule.specs.Known.{known, run_of}
 use Rattle.prl_rule.specs.declared.views.Constants.{Constants}
 use Rattle.prl_rule.specs.declared.views.Gate.{Gate}

@@ -11,7 +11,7 @@ use Rattle.prl_plan.specs.declared.events.Rule.{Rule}
 use Rattle.prl_replay.specs.Replays.{FailsWith, IsRunFault, IsTrace, after_all}
 use Rattle.prl_replay.specs.declared.faults.ReplayFault.{ReplayFault}
 use Rattle.prl_replay.specs.declared.faults.ReplayFault.TheVariants as faults
-use Rattle.prl_results.specs.Shown.{AreShown}
+use Rattle.prl_replay.specs.Shown.{AreShown}
 use Rattle.prl_rule.specs.declared.views.Gate.TheVariants as gates
 use Rattle.prl_schedules.specs.Dispatches.{IsDispatched}
 use Rattle.prl_stages.specs.declared.ran.Ran.TheVariants as runs

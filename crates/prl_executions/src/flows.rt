@@ -10,12 +10,13 @@ ghost use Rattle.prl_flow.specs.Vocabulary.{HaveBodies, IsOrder};
 ghost use Rattle.prl_names.specs.Uses.{used_imports};
 ghost use Rattle.prl_replay.specs.Outputs.{out_flow, out_flows};
 ghost use Rattle.prl_types.specs.Typing.{IsTyped};
-ghost use Rattle.prl_stages.specs.Vocabulary.{Given, AreBodies, IsMain, IsProgram, HasRows, Holds};
+ghost use Rattle.prl_stages.specs.Vocabulary.{Given, AreBodies, IsMain, IsProgram, HasRows};
 ghost use Rattle.prl_stages.specs.Vocabulary.{IsText, stages_after};
-ghost use Rattle.prl_calls.specs.Stops.{given_of, AllHold, StopsAt, StopsIn};
+ghost use Rattle.prl_calls.specs.Stops.{given_of, Passes, PassesAt};
 ghost use Rattle.prl_executions.specs.code.Flows.{HasRowsUntil, IsEvaluated, flow_stages};
 
 use prl_arguments::Mode;
+use prl_ast::Program;
 use prl_base::FlowNo;
 use prl_calls::{Request, Run, check_types, flat_of, read_bodies, read_program, run_with};
 use prl_evaluation::{FlowTable, evaluate};
@@ -31,8 +32,7 @@ fn values<'a>(alloc: Global, until: u32, run: &'a Run) -> Result<FlowTable<'a>, 
     requires bodies { HaveBodies run.now.flat run.now.bodies }
     requires rows { (g : Given) × HasRowsUntil g until run.now }
     ensures solution { IfOk result (AreSolution run.now.flat run.now.clocks.of run.now.bodies run.now.sensors until) }
-    ensures holds { (g : Given) → HasRowsUntil g until run.now → IfOk result (λ _. Holds g Stage.Values) }
-    ensures stop { (g : Given) → HasRowsUntil g until run.now → IfErr result (StopsAt g Stage.Values) }
+    ensures passes { (g : Given) → HasRowsUntil g until run.now → PassesAt g Stage.Values (λ _. Unit {0}) result }
 {
     rows_are_typed_and_enough();
     let _flows = run.flat.flows();
@@ -87,10 +87,8 @@ fn flows_of(alloc: Global, until: u32, typed: &Typed<'_>, run: &Run) -> Result<V
     requires expanded { IsExpanded (program_tree typed.now.program) typed.now.main typed.now.types run.now.flat }
     requires order { IsOrder run.now.flat run.now.order.flows }
     requires have { HaveBodiesOf (program_tree typed.now.program).imports (used_imports (program_tree typed.now.program) typed.now.main) run.now.bodies }
-    ensures text { (g : Given) → IsEvaluated g until (program_tree typed.now.program) typed.now.main typed.now.types run.now
-        → IfOk result (λ text. IsText g Mode.Flows text.items) }
-    ensures holds { (g : Given) → HasRowsUntil g until run.now → IfOk result (λ _. Holds g Stage.Values) }
-    ensures stop { (g : Given) → HasRowsUntil g until run.now → IfErr result (StopsAt g Stage.Values) }
+    ensures { (g : Given) → IsEvaluated g until (program_tree typed.now.program) typed.now.main typed.now.types run.now
+        → PassesAt g Stage.Values (λ text. IsText g Mode.Flows text.items) result }
 {
     runs_tell_of_behaviours();
     let _main = typed.main();
@@ -106,17 +104,20 @@ fn run_of(alloc: Global, request: &Request, typed: &Typed<'_>) -> Result<Run, St
     requires bodies { length request.now.texts.bodies.items ≤ MAX_BODIES }
     requires main { IsMain (given_of request.now) (program_tree typed.now.program) typed.now.main }
     requires typed { IsTyped (program_tree typed.now.program) (given_of request.now).node typed.now.main typed.now.types }
-    ensures expanded { IfOk result (λ run. IsExpanded (program_tree typed.now.program) typed.now.main typed.now.types run.flat) }
-    ensures order { IfOk result (λ run. IsOrder run.flat run.order.flows) }
-    ensures bodies { IfOk result (λ run. AreBodies (given_of request.now) (map body_tree run.bodies)) }
-    ensures have { IfOk result (λ run. HaveBodiesOf (program_tree typed.now.program).imports (used_imports (program_tree typed.now.program) typed.now.main) run.bodies) }
-    ensures rows { IfOk result (λ run. HasRows (given_of request.now) run.flat run.clocks.of run.sensors) }
-    ensures holds { IfOk result (λ _. AllHold (given_of request.now) (Stage.Expansion ∷ Stage.Causality ∷ Stage.Clocks ∷ Stage.Bodies ∷ Stage.Rows ∷ [])) }
-    ensures stop { IfErr result (StopsIn (given_of request.now) (Stage.Expansion ∷ Stage.Causality ∷ Stage.Clocks ∷ Stage.Bodies ∷ Stage.Rows ∷ [])) }
+    ensures { Passes (given_of request.now) (Stage.Expansion ∷ Stage.Causality ∷ Stage.Clocks ∷ Stage.Bodies ∷ Stage.Rows ∷ [])
+        (λ run. IsExpanded (program_tree typed.now.program) typed.now.main typed.now.types run.flat × IsOrder run.flat run.order.flows
+        × AreBodies (given_of request.now) (map body_tree run.bodies)
+        × HaveBodiesOf (program_tree typed.now.program).imports (used_imports (program_tree typed.now.program) typed.now.main) run.bodies
+        × HasRows (given_of request.now) run.flat run.clocks.of run.sensors) result }
 {
     let front = flat_of(alloc, request, typed)?;
-    let bodies = read_bodies(alloc, request, typed.program(), typed.main())?;
-    Ok(run_with(alloc, request, front, bodies)?)
+    match read_bodies(alloc, request, typed.program(), typed.main()) {
+        Ok(bodies) => Ok(run_with(alloc, request, front, bodies)?),
+        Err(stop) => {
+            drop(front);
+            Err(stop)
+        }
+    }
 }
 
 /// The text of the flows of a typed program.
@@ -126,15 +127,36 @@ fn typed_flows(alloc: Global, request: Request, typed: &Typed<'_>) -> Result<Vec
     requires until { request.until < 2 ^ 31 }
     requires main { IsMain (given_of request) (program_tree typed.now.program) typed.now.main }
     requires typed { IsTyped (program_tree typed.now.program) (given_of request).node typed.now.main typed.now.types }
-    ensures text { IfOk result (λ text. IsText (given_of request) Mode.Flows text.items) }
-    ensures holds { IfOk result (λ _. AllHold (given_of request) flow_stages) }
-    ensures stop { IfErr result (StopsIn (given_of request) flow_stages) }
+    ensures { Passes (given_of request) flow_stages (λ text. IsText (given_of request) Mode.Flows text.items) result }
 {
-    let run = run_of(alloc, &request, typed)?;
+    let made = run_of(alloc, &request, typed);
     let until = request.until;
     // What comes now needs no text any more, and the rows' text may be long.
     drop(request);
-    flows_of(alloc, until, typed, &run)
+    let run = made?;
+    let text = flows_of(alloc, until, typed, &run);
+    drop(run);
+    text
+}
+
+/// The text of the flows of a program.
+fn program_flows(alloc: Global, request: Request, program: &Program) -> Result<Vec<u8>, Stop>
+    requires program { IsProgram (given_of request) (program_tree program.now) }
+    requires bodies { length request.texts.bodies.items ≤ MAX_BODIES }
+    requires until { request.until < 2 ^ 31 }
+    ensures { Passes (given_of request) (Stage.Types ∷ flow_stages) (λ text. IsText (given_of request) Mode.Flows text.items) result }
+{
+    match check_types(alloc, &request, program) {
+        Ok(typed) => {
+            let text = typed_flows(alloc, request, &typed);
+            drop(typed);
+            text
+        }
+        Err(stop) => {
+            drop(request);
+            Err(stop)
+        }
+    }
 }
 
 /// Mode `flows`.
@@ -142,11 +164,17 @@ pub fn flows_text(alloc: Global, request: Request) -> Result<Vec<u8>, Stop>
     requires program { length request.texts.program.items ≤ MAX_PROGRAM }
     requires bodies { length request.texts.bodies.items ≤ MAX_BODIES }
     requires until { request.until < 2 ^ 31 }
-    ensures text { IfOk result (λ text. IsText (given_of request) Mode.Flows text.items) }
-    ensures holds { IfOk result (λ _. AllHold (given_of request) (stages_after Mode.Flows request.named)) }
-    ensures stop { IfErr result (StopsIn (given_of request) (stages_after Mode.Flows request.named)) }
+    ensures { Passes (given_of request) (stages_after Mode.Flows request.named) (λ text. IsText (given_of request) Mode.Flows text.items) result }
 {
-    let program = read_program(alloc, &request)?;
-    let typed = check_types(alloc, &request, &program)?;
-    typed_flows(alloc, request, &typed)
+    match read_program(alloc, &request) {
+        Ok(program) => {
+            let text = program_flows(alloc, request, &program);
+            drop(program);
+            text
+        }
+        Err(stop) => {
+            drop(request);
+            Err(stop)
+        }
+    }
 }

@@ -3,7 +3,7 @@
 
 ghost use Rattle.std.specs.Prelude.{◌≡◌, ◌≤◌, List, Some, IfOk, length};
 ghost use Rattle.prl_flow.specs.declared.programs.OutFlow.{OutFlow as AnyFlow};
-ghost use Rattle.prl_results.specs.Shown.{AreShown};
+ghost use Rattle.prl_replay.specs.Shown.{AreShown};
 ghost use Rattle.prl_rule.specs.declared.views.Constants.{Constants};
 ghost use Rattle.prl_stages.specs.Given.{generated};
 ghost use Rattle.prl_stages.specs.Ran.{IsSummary, sum_of, summary_line, with_value, with_values};
@@ -21,8 +21,10 @@ use prl_calls::{Request, Texts};
 use prl_flow::OutFlow;
 use prl_gen::{UNTIL, generate};
 use prl_plan::{Placed, Plan, plan_facts, plan_is_one};
-use prl_replay::{ReplayFault, Trace, dispatch, replays_end_one_way, run_list};
-use prl_results::{ended_boards_show_flows, shown_flows};
+use prl_replay::{
+    ReplayFault, Trace, dispatch, ended_boards_show_flows, replays_end_one_way, run_list,
+    shown_flows,
+};
 use prl_stages::{MAX_BODIES, MAX_PROGRAM, Ran};
 use std::alloc::{AllocError, Global};
 

@@ -4,18 +4,18 @@
 ghost use Rattle.std.specs.Prelude.{◌≡◌, ◌≢◌, ◌≤◌, List, [], ◌∷◌, Some, Ok, IfOk, IfErr, IfSome, length};
 ghost use Rattle.prl_core.specs.Cores.{opened_on};
 ghost use Rattle.prl_cores.specs.Processors.{IsOfTasks};
-ghost use Rattle.prl_cores.specs.Spreads.{SpreadView, IsSpreadOf};
+ghost use Rattle.prl_cores.specs.Spreads.{IsSpreadOf};
 ghost use Rattle.prl_plan.specs.Vocabulary.{IsHorizon, constants_on, opening, IsSpread};
 ghost use Rattle.prl_plan.specs.declared.events.Event.{Event as AnyEvent};
 ghost use Rattle.prl_replay.specs.declared.faults.ReplayFault.TheVariants as causes;
 ghost use Rattle.prl_replay.specs.Replays.{IsReplayFault};
 ghost use Rattle.prl_schedules.specs.Vocabulary.{IsDispatched, schedule_of, task_names};
 ghost use Rattle.prl_values.specs.Fitting.{HaveTaskBodies, HaveTypedRows};
-ghost use Rattle.prl_stages.specs.Vocabulary.{HasPlacement, cores_refusal, HasPlan, Holds, IsText};
+ghost use Rattle.prl_stages.specs.Vocabulary.{HasPlacement, cores_refusal, HasPlan, IsText};
 ghost use Rattle.prl_stages.specs.Vocabulary.{stages_after};
 ghost use Rattle.prl_executions.specs.code.Placed.{FailsPlaced, IsPlacedTrace, IsTraceOn};
 ghost use Rattle.prl_executions.specs.Ready.{IsReady};
-ghost use Rattle.prl_calls.specs.Stops.{given_of, AllHold, StopsAt, StopsIn};
+ghost use Rattle.prl_calls.specs.Stops.{given_of, Passes, PassesAt};
 
 use crate::ready::{Ready, make_ready};
 use crate::replayed::schedule_refusal;
@@ -49,10 +49,7 @@ fn cores_refusal(alloc: Global, graph: &TaskGraph, fault: CoresFault) -> Option<
 /// The plan with its tasks on the processors of the text.
 fn make_placement(alloc: Global, request: &Request, plan: &Plan) -> Result<Spread, Stop>
     requires { HasPlan (given_of request.now) plan.now }
-    ensures spread { IfOk result (IsSpreadOf plan.now) }
-    ensures found { IfOk result (λ spread. HasPlacement (given_of request.now) plan.now spread.placement) }
-    ensures holds { IfOk result (λ _. Holds (given_of request.now) Stage.Cores) }
-    ensures stop { IfErr result (StopsAt (given_of request.now) Stage.Cores) }
+    ensures { PassesAt (given_of request.now) Stage.Cores (λ spread. IsSpreadOf plan.now spread × HasPlacement (given_of request.now) plan.now spread.placement) result }
 {
     match read_cores(alloc, &request.texts.cores, plan) {
         Ok(processors) => Ok(spread(alloc, plan, processors.as_slice())?),
@@ -150,9 +147,7 @@ fn placed_of(
 ) -> Result<Vec<u8>, Stop>
     requires ready { IsReady (given_of request.now) ready.now }
     requires placement { HasPlacement (given_of request.now) ready.now.plan spread.now.placement }
-    ensures text { IfOk result (λ text. IsText (given_of request.now) Mode.Cores text.items) }
-    ensures holds { IfOk result (λ _. Holds (given_of request.now) Stage.Placed) }
-    ensures stop { IfErr result (StopsAt (given_of request.now) Stage.Placed) }
+    ensures { PassesAt (given_of request.now) Stage.Placed (λ text. IsText (given_of request.now) Mode.Cores text.items) result }
 {
     plan_is_one(&ready.plan);
     spread_list_is_gated();
@@ -168,9 +163,7 @@ fn placed_of(
 /// The text of the run on the processors that the text of the command gives, after the stages of a run.
 fn placed_text(alloc: Global, request: &Request, ready: &Ready) -> Result<Vec<u8>, Stop>
     requires { IsReady (given_of request.now) ready.now }
-    ensures text { IfOk result (λ text. IsText (given_of request.now) Mode.Cores text.items) }
-    ensures holds { IfOk result (λ _. AllHold (given_of request.now) (Stage.Cores ∷ Stage.Placed ∷ [])) }
-    ensures stop { IfErr result (StopsIn (given_of request.now) (Stage.Cores ∷ Stage.Placed ∷ [])) }
+    ensures { Passes (given_of request.now) (Stage.Cores ∷ Stage.Placed ∷ []) (λ text. IsText (given_of request.now) Mode.Cores text.items) result }
 {
     let spread = make_placement(alloc, request, &ready.plan)?;
     let text = placed_of(alloc, request, ready, &spread);
@@ -182,9 +175,7 @@ fn placed_text(alloc: Global, request: &Request, ready: &Ready) -> Result<Vec<u8
 pub fn cores_text(alloc: Global, request: &Request) -> Result<Vec<u8>, Stop>
     requires program { length request.now.texts.program.items ≤ MAX_PROGRAM }
     requires bodies { length request.now.texts.bodies.items ≤ MAX_BODIES }
-    ensures text { IfOk result (λ text. IsText (given_of request.now) Mode.Cores text.items) }
-    ensures holds { IfOk result (λ _. AllHold (given_of request.now) (stages_after Mode.Cores request.now.named)) }
-    ensures stop { IfErr result (StopsIn (given_of request.now) (stages_after Mode.Cores request.now.named)) }
+    ensures { Passes (given_of request.now) (stages_after Mode.Cores request.now.named) (λ text. IsText (given_of request.now) Mode.Cores text.items) result }
 {
     let ready = make_ready(alloc, request)?;
     let text = placed_text(alloc, request, &ready);

@@ -1,6 +1,6 @@
 //! What the modes that run tasks have in common: all stages up to the rows, and what a run needs.
 
-ghost use Rattle.std.specs.Prelude.{◌≡◌, ◌≤◌, ◌++◌, IfOk, IfErr, [], ◌∷◌, length, map};
+ghost use Rattle.std.specs.Prelude.{◌≡◌, ◌≤◌, ◌++◌, [], ◌∷◌, length, map};
 ghost use Rattle.prl_ast.specs.Trees.{program_tree};
 ghost use Rattle.prl_body.specs.Vocabulary.{body_tree, HaveBodiesOf};
 ghost use Rattle.prl_expand.specs.Expanding.{IsExpanded};
@@ -10,9 +10,10 @@ ghost use Rattle.prl_names.specs.Uses.{used_imports};
 ghost use Rattle.prl_types.specs.Typing.{IsTyped};
 ghost use Rattle.prl_stages.specs.Vocabulary.{HasClocks, AreBodies, IsMain, IsProgram, HasWords};
 ghost use Rattle.prl_stages.specs.Vocabulary.{HasRows, HasHorizon, front, graphed, planned, ran};
-ghost use Rattle.prl_calls.specs.Stops.{given_of, AllHold, StopsIn};
+ghost use Rattle.prl_calls.specs.Stops.{given_of, Passes, PassesAt};
 ghost use Rattle.prl_executions.specs.Ready.{IsReady};
 
+use prl_ast::Program;
 use prl_body::Bodies;
 use prl_calls::{
     Request, Run, check_types, flat_of, make_graphed, make_horizon, make_planned, read_bodies,
@@ -63,16 +64,18 @@ fn graph_and_bodies(
     requires bodies { length request.now.texts.bodies.items ≤ MAX_BODIES }
     requires main { IsMain (given_of request.now) (program_tree typed.now.program) typed.now.main }
     requires clocks { HasClocks (given_of request.now) flat.now clocks.now.of }
-    ensures graph { IfOk result (λ made. IsGraphOf flat.now clocks.now.of made.0.0) }
-    ensures found { IfOk result (λ made. HasWords (given_of request.now) made.0.0 made.0.1.of) }
-    ensures bodies { IfOk result (λ made. AreBodies (given_of request.now) (map body_tree made.1)) }
-    ensures have { IfOk result (λ made. HaveBodiesOf (program_tree typed.now.program).imports (used_imports (program_tree typed.now.program) typed.now.main) made.1) }
-    ensures holds { IfOk result (λ _. AllHold (given_of request.now) (graphed ++ (Stage.Bodies ∷ []))) }
-    ensures stop { IfErr result (StopsIn (given_of request.now) (graphed ++ (Stage.Bodies ∷ []))) }
+    ensures { Passes (given_of request.now) (graphed ++ (Stage.Bodies ∷ []))
+        (λ made. IsGraphOf flat.now clocks.now.of made.0.0 × HasWords (given_of request.now) made.0.0 made.0.1.of × AreBodies (given_of request.now) (map body_tree made.1)
+        × HaveBodiesOf (program_tree typed.now.program).imports (used_imports (program_tree typed.now.program) typed.now.main) made.1) result }
 {
     let made = make_graphed(alloc, request, flat, clocks)?;
-    let bodies = read_bodies(alloc, request, typed.program(), typed.main())?;
-    Ok((made, bodies))
+    match read_bodies(alloc, request, typed.program(), typed.main()) {
+        Ok(bodies) => Ok((made, bodies)),
+        Err(stop) => {
+            drop(made);
+            Err(stop)
+        }
+    }
 }
 
 /// The plan of the task graph with its words, and its horizon.
@@ -82,14 +85,16 @@ fn plan_to_horizon(
     graphed: (TaskGraph, Words),
 ) -> Result<(Plan, Horizon), Stop>
     requires { HasWords (given_of request.now) graphed.0 graphed.1.of }
-    ensures graph { IfOk result (λ made. made.0.graph ≡ graphed.0) }
-    ensures horizon { IfOk result (λ made. HasHorizon (given_of request.now) made.0 made.1) }
-    ensures holds { IfOk result (λ _. AllHold (given_of request.now) (planned ++ (Stage.Horizon ∷ []))) }
-    ensures stop { IfErr result (StopsIn (given_of request.now) (planned ++ (Stage.Horizon ∷ []))) }
+    ensures { Passes (given_of request.now) (planned ++ (Stage.Horizon ∷ [])) (λ made. (made.0.graph ≡ graphed.0) × HasHorizon (given_of request.now) made.0 made.1) result }
 {
     let plan = make_planned(alloc, request, graphed)?;
-    let horizon = make_horizon(request, &plan)?;
-    Ok((plan, horizon))
+    match make_horizon(request, &plan) {
+        Ok(horizon) => Ok((plan, horizon)),
+        Err(stop) => {
+            drop(plan);
+            Err(stop)
+        }
+    }
 }
 
 /// The bodies, and the plan with its horizon.
@@ -103,17 +108,19 @@ fn plan_of_replay(
     requires bodies { length request.now.texts.bodies.items ≤ MAX_BODIES }
     requires main { IsMain (given_of request.now) (program_tree typed.now.program) typed.now.main }
     requires clocks { HasClocks (given_of request.now) flat.now clocks.now.of }
-    ensures bodies { IfOk result (λ made. AreBodies (given_of request.now) (map body_tree made.0)) }
-    ensures have { IfOk result (λ made. HaveBodiesOf (program_tree typed.now.program).imports (used_imports (program_tree typed.now.program) typed.now.main) made.0) }
-    ensures graph { IfOk result (λ made. IsGraphOf flat.now clocks.now.of made.1.0.graph) }
-    ensures horizon { IfOk result (λ made. HasHorizon (given_of request.now) made.1.0 made.1.1) }
-    ensures holds { IfOk result (λ _. AllHold (given_of request.now) (graphed ++ (Stage.Bodies ∷ []) ++ planned ++ (Stage.Horizon ∷ []))) }
-    ensures stop { IfErr result (StopsIn (given_of request.now) (graphed ++ (Stage.Bodies ∷ []) ++ planned ++ (Stage.Horizon ∷ []))) }
+    ensures { Passes (given_of request.now) (graphed ++ (Stage.Bodies ∷ []) ++ planned ++ (Stage.Horizon ∷ []))
+        (λ made. AreBodies (given_of request.now) (map body_tree made.0)
+        × HaveBodiesOf (program_tree typed.now.program).imports (used_imports (program_tree typed.now.program) typed.now.main) made.0 × IsGraphOf flat.now clocks.now.of made.1.0.graph
+        × HasHorizon (given_of request.now) made.1.0 made.1.1) result }
 {
-    let made = graph_and_bodies(alloc, request, typed, flat, clocks)?;
-    let (graphed, bodies) = made;
-    let plan = plan_to_horizon(alloc, request, graphed)?;
-    Ok((bodies, plan))
+    let (graphed, bodies) = graph_and_bodies(alloc, request, typed, flat, clocks)?;
+    match plan_to_horizon(alloc, request, graphed) {
+        Ok(plan) => Ok((bodies, plan)),
+        Err(stop) => {
+            drop(bodies);
+            Err(stop)
+        }
+    }
 }
 
 /// What a run needs, of what is evaluated and of a plan with its horizon.
@@ -125,6 +132,38 @@ fn ready_of(run: Run, plan: (Plan, Horizon)) -> Ready
         bodies: run.bodies,
         sensors: run.sensors,
         horizon: plan.1,
+    }
+}
+
+/// What a run needs, after its plan and its bodies: the rows are read.
+fn ready_after(
+    alloc: Global,
+    request: &Request,
+    typed: &Typed<'_>,
+    front: (Flat, Order, Clocks),
+    made: (Bodies, (Plan, Horizon)),
+) -> Result<Ready, Stop>
+    requires main { IsMain (given_of request.now) (program_tree typed.now.program) typed.now.main }
+    requires typed { IsTyped (program_tree typed.now.program) (given_of request.now).node typed.now.main typed.now.types }
+    requires expanded { IsExpanded (program_tree typed.now.program) typed.now.main typed.now.types front.0 }
+    requires order { IsOrder front.0 front.1.flows }
+    requires clocks { HasClocks (given_of request.now) front.0 front.2.of }
+    requires bodies { AreBodies (given_of request.now) (map body_tree made.0) }
+    requires have { HaveBodiesOf (program_tree typed.now.program).imports (used_imports (program_tree typed.now.program) typed.now.main) made.0 }
+    requires graph { IsGraphOf front.0 front.2.of made.1.0.graph }
+    requires horizon { HasHorizon (given_of request.now) made.1.0 made.1.1 }
+    ensures { PassesAt (given_of request.now) Stage.Rows (IsReady (given_of request.now)) result }
+{
+    let (bodies, plan) = made;
+    match run_with(alloc, request, front, bodies) {
+        Ok(run) => {
+            program_is_ready(request, typed, &run, &plan.0, plan.1);
+            Ok(ready_of(run, plan))
+        }
+        Err(stop) => {
+            drop(plan);
+            Err(stop)
+        }
     }
 }
 
@@ -141,15 +180,15 @@ fn ready_with(
     requires expanded { IsExpanded (program_tree typed.now.program) typed.now.main typed.now.types front.0 }
     requires order { IsOrder front.0 front.1.flows }
     requires clocks { HasClocks (given_of request.now) front.0 front.2.of }
-    ensures ready { IfOk result (IsReady (given_of request.now)) }
-    ensures holds { IfOk result (λ _. AllHold (given_of request.now) ran) }
-    ensures stop { IfErr result (StopsIn (given_of request.now) ran) }
+    ensures { Passes (given_of request.now) ran (IsReady (given_of request.now)) result }
 {
-    let made = plan_of_replay(alloc, request, typed, &front.0, &front.2)?;
-    let (bodies, plan) = made;
-    let run = run_with(alloc, request, front, bodies)?;
-    program_is_ready(request, typed, &run, &plan.0, plan.1);
-    Ok(ready_of(run, plan))
+    match plan_of_replay(alloc, request, typed, &front.0, &front.2) {
+        Ok(made) => ready_after(alloc, request, typed, front, made),
+        Err(stop) => {
+            drop(front);
+            Err(stop)
+        }
+    }
 }
 
 /// What a run needs, after the types.
@@ -158,23 +197,32 @@ fn typed_ready(alloc: Global, request: &Request, typed: &Typed<'_>) -> Result<Re
     requires bodies { length request.now.texts.bodies.items ≤ MAX_BODIES }
     requires main { IsMain (given_of request.now) (program_tree typed.now.program) typed.now.main }
     requires typed { IsTyped (program_tree typed.now.program) (given_of request.now).node typed.now.main typed.now.types }
-    ensures ready { IfOk result (IsReady (given_of request.now)) }
-    ensures holds { IfOk result (λ _. AllHold (given_of request.now) (Stage.Expansion ∷ Stage.Causality ∷ Stage.Clocks ∷ ran)) }
-    ensures stop { IfErr result (StopsIn (given_of request.now) (Stage.Expansion ∷ Stage.Causality ∷ Stage.Clocks ∷ ran)) }
+    ensures { Passes (given_of request.now) (Stage.Expansion ∷ Stage.Causality ∷ Stage.Clocks ∷ ran) (IsReady (given_of request.now)) result }
 {
     let front = flat_of(alloc, request, typed)?;
     ready_with(alloc, request, typed, front)
+}
+
+/// What a run needs, after the program.
+fn program_ready(alloc: Global, request: &Request, program: &Program) -> Result<Ready, Stop>
+    requires program { IsProgram (given_of request.now) (program_tree program.now) }
+    requires bodies { length request.now.texts.bodies.items ≤ MAX_BODIES }
+    ensures { Passes (given_of request.now) (Stage.Types ∷ Stage.Expansion ∷ Stage.Causality ∷ Stage.Clocks ∷ ran) (IsReady (given_of request.now)) result }
+{
+    let typed = check_types(alloc, request, program)?;
+    let ready = typed_ready(alloc, request, &typed);
+    drop(typed);
+    ready
 }
 
 /// What a run needs: the stages of the modes that run tasks.
 pub fn make_ready(alloc: Global, request: &Request) -> Result<Ready, Stop>
     requires program { length request.now.texts.program.items ≤ MAX_PROGRAM }
     requires bodies { length request.now.texts.bodies.items ≤ MAX_BODIES }
-    ensures ready { IfOk result (IsReady (given_of request.now)) }
-    ensures holds { IfOk result (λ _. AllHold (given_of request.now) (front ++ ran)) }
-    ensures stop { IfErr result (StopsIn (given_of request.now) (front ++ ran)) }
+    ensures { Passes (given_of request.now) (front ++ ran) (IsReady (given_of request.now)) result }
 {
     let program = read_program(alloc, request)?;
-    let typed = check_types(alloc, request, &program)?;
-    typed_ready(alloc, request, &typed)
+    let ready = program_ready(alloc, request, &program);
+    drop(program);
+    ready
 }

@@ -1,9 +1,9 @@
 //! The last stage of mode `replay`: the schedule is done on the machine of the plan, and what this tells is written.
 
-ghost use Rattle.std.specs.Prelude.{◌≡◌, ◌≤◌, Some, IfOk, IfErr, IfSome, length};
-ghost use Rattle.prl_stages.specs.Vocabulary.{schedule_refusal, Holds, IsText, stages_after};
+ghost use Rattle.std.specs.Prelude.{◌≡◌, ◌≤◌, Some, IfSome, length};
+ghost use Rattle.prl_stages.specs.Vocabulary.{schedule_refusal, IsText, stages_after};
 ghost use Rattle.prl_executions.specs.Ready.{IsReady};
-ghost use Rattle.prl_calls.specs.Stops.{given_of, AllHold, StopsAt, StopsIn};
+ghost use Rattle.prl_calls.specs.Stops.{given_of, Passes, PassesAt};
 ghost use Rattle.prl_executions.specs.code.Faults.{IsOfTask};
 
 use crate::ready::{Ready, make_ready};
@@ -37,9 +37,7 @@ pub(crate) fn schedule_refusal(
 /// The text of the replay of the schedule.
 fn replay_of(alloc: Global, request: &Request, ready: &Ready) -> Result<Vec<u8>, Stop>
     requires { IsReady (given_of request.now) ready.now }
-    ensures text { IfOk result (λ text. IsText (given_of request.now) Mode.Replay text.items) }
-    ensures holds { IfOk result (λ _. Holds (given_of request.now) Stage.Schedule) }
-    ensures stop { IfErr result (StopsAt (given_of request.now) Stage.Schedule) }
+    ensures { PassesAt (given_of request.now) Stage.Schedule (λ text. IsText (given_of request.now) Mode.Replay text.items) result }
 {
     match replay(
         alloc,
@@ -61,9 +59,7 @@ fn replay_of(alloc: Global, request: &Request, ready: &Ready) -> Result<Vec<u8>,
 pub fn replayed_text(alloc: Global, request: &Request) -> Result<Vec<u8>, Stop>
     requires program { length request.now.texts.program.items ≤ MAX_PROGRAM }
     requires bodies { length request.now.texts.bodies.items ≤ MAX_BODIES }
-    ensures text { IfOk result (λ text. IsText (given_of request.now) Mode.Replay text.items) }
-    ensures holds { IfOk result (λ _. AllHold (given_of request.now) (stages_after Mode.Replay request.now.named)) }
-    ensures stop { IfErr result (StopsIn (given_of request.now) (stages_after Mode.Replay request.now.named)) }
+    ensures { Passes (given_of request.now) (stages_after Mode.Replay request.now.named) (λ text. IsText (given_of request.now) Mode.Replay text.items) result }
 {
     let ready = make_ready(alloc, request)?;
     let text = replay_of(alloc, request, &ready);

@@ -7,7 +7,7 @@ ghost use Rattle.prl_rule.specs.Known.{known};
 ghost use Rattle.prl_stages.specs.Vocabulary.{IsRunText, front, ran};
 ghost use Rattle.prl_values.specs.Fitting.{HaveTaskBodies, HaveTypedRows};
 ghost use Rattle.prl_executions.specs.Ready.{IsOutcome, IsReady, IsTextOf};
-ghost use Rattle.prl_calls.specs.Stops.{given_of, AllHold, StopsIn};
+ghost use Rattle.prl_calls.specs.Stops.{given_of, Passes};
 
 use crate::ready::{Ready, make_ready};
 use prl_board::{Closed, Gate, Steps};
@@ -15,7 +15,7 @@ use prl_calls::Request;
 use prl_exec::{RunFault, Stopped, run_alone, run_threads};
 use prl_io::Probe;
 use prl_plan::{Plan, plan_is_one};
-use prl_results::{ended_boards_show_flows, shown_flows};
+use prl_replay::{ended_boards_show_flows, shown_flows};
 use prl_sensors::actuator_text;
 use prl_stages::{MAX_BODIES, MAX_PROGRAM, Ran, Stop};
 use std::alloc::{AllocError, Global};
@@ -109,9 +109,7 @@ fn ended_text(
 pub fn run_text(alloc: Global, request: &Request, gate: Gate) -> Result<(Vec<u8>, Ran), Stop>
     requires program { length request.now.texts.program.items ≤ MAX_PROGRAM }
     requires bodies { length request.now.texts.bodies.items ≤ MAX_BODIES }
-    ensures text { IfOk result (λ made. IsRunText (given_of request.now) gate made.0.items made.1) }
-    ensures holds { IfOk result (λ _. AllHold (given_of request.now) (front ++ ran)) }
-    ensures stop { IfErr result (StopsIn (given_of request.now) (front ++ ran)) }
+    ensures { Passes (given_of request.now) (front ++ ran) (λ made. IsRunText (given_of request.now) gate made.0.items made.1) result }
 {
     let ready = make_ready(alloc, request)?;
     let made = ended_text(alloc, request, &ready, gate);
@@ -214,9 +212,7 @@ pub fn run_outcome<R: Threads + Wait + Sync, P: Probe>(
     requires program { length request.now.texts.program.items ≤ MAX_PROGRAM }
     requires bodies { length request.now.texts.bodies.items ≤ MAX_BODIES }
     requires workers { (1 ≤ workers) × (workers ≤ 16) }
-    ensures outcome { IfOk result (IsOutcome (given_of request.now) gate) }
-    ensures holds { IfOk result (λ _. AllHold (given_of request.now) (front ++ ran)) }
-    ensures stop { IfErr result (StopsIn (given_of request.now) (front ++ ran)) }
+    ensures { Passes (given_of request.now) (front ++ ran) (IsOutcome (given_of request.now) gate) result }
 {
     let ready = make_ready(alloc, request)?;
     Ok(outcome_of(rt, alloc, request, ready, gate, workers, probe)?)

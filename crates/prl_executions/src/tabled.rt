@@ -5,13 +5,13 @@ ghost use Rattle.prl_exec.specs.Runs.{HasEnded};
 ghost use Rattle.prl_plan.specs.Horizons.{IsHorizon};
 ghost use Rattle.prl_rule.specs.Known.{known};
 ghost use Rattle.prl_rule.specs.declared.views.Gate.TheVariants as gates;
-ghost use Rattle.prl_stages.specs.Vocabulary.{HasPlan, IsCycleText, front, ran, Holds};
+ghost use Rattle.prl_stages.specs.Vocabulary.{HasPlan, IsCycleText, front, ran};
 ghost use Rattle.prl_stages.specs.Vocabulary.{table_refusal, IsTableFault};
 ghost use Rattle.prl_tables.specs.declared.reading.TableFault.TheVariants as checking;
-ghost use Rattle.prl_tables.specs.Vocabulary.{IsGood, entries_of};
+ghost use Rattle.prl_tables.specs.Vocabulary.{entries_of};
 ghost use Rattle.prl_values.specs.Fitting.{HaveTaskBodies, HaveTypedRows};
 ghost use Rattle.prl_executions.specs.Ready.{IsReady, IsTextOf};
-ghost use Rattle.prl_calls.specs.Stops.{given_of, AllHold, StopsAt, StopsIn};
+ghost use Rattle.prl_calls.specs.Stops.{given_of, StopsAt, Passes, PassesAt};
 ghost use Rattle.prl_executions.specs.code.Faults.{AreOfTask};
 
 use crate::ready::{Ready, make_ready};
@@ -143,9 +143,7 @@ fn cycled(
     requires ready { IsReady (given_of request.now) ready.now }
     requires plan { HasPlan (given_of request.now) ready.now.plan }
     requires told { entries_of ready.now.plan.graph.hyper request.now.texts.table.items ≡ Ok table.now.entries }
-    ensures text { IfOk result (λ made. IsCycleText (given_of request.now) made.0.items made.1) }
-    ensures holds { IfOk result (λ _. Holds (given_of request.now) Stage.Table) }
-    ensures stop { IfErr result (StopsAt (given_of request.now) Stage.Table) }
+    ensures { PassesAt (given_of request.now) Stage.Table (λ made. IsCycleText (given_of request.now) made.0.items made.1) result }
 {
     plan_is_one(&ready.plan);
     unrolled_table_is_gated();
@@ -158,9 +156,7 @@ fn cycled(
 /// The run by the table that the text tells, after the stages of a run.
 fn cycle_of(alloc: Global, request: &Request, ready: &Ready) -> Result<(Vec<u8>, Ran), Stop>
     requires { IsReady (given_of request.now) ready.now }
-    ensures text { IfOk result (λ made. IsCycleText (given_of request.now) made.0.items made.1) }
-    ensures holds { IfOk result (λ _. Holds (given_of request.now) Stage.Table) }
-    ensures stop { IfErr result (StopsAt (given_of request.now) Stage.Table) }
+    ensures { PassesAt (given_of request.now) Stage.Table (λ made. IsCycleText (given_of request.now) made.0.items made.1) result }
 {
     let table = told_table(alloc, request, &ready.plan)?;
     let made = cycled(alloc, request, ready, &table);
@@ -172,9 +168,7 @@ fn cycle_of(alloc: Global, request: &Request, ready: &Ready) -> Result<(Vec<u8>,
 pub fn cycle_text(alloc: Global, request: &Request) -> Result<(Vec<u8>, Ran), Stop>
     requires program { length request.now.texts.program.items ≤ MAX_PROGRAM }
     requires bodies { length request.now.texts.bodies.items ≤ MAX_BODIES }
-    ensures text { IfOk result (λ made. IsCycleText (given_of request.now) made.0.items made.1) }
-    ensures holds { IfOk result (λ _. AllHold (given_of request.now) ((front ++ ran) ++ (Stage.Table ∷ []))) }
-    ensures stop { IfErr result (StopsIn (given_of request.now) ((front ++ ran) ++ (Stage.Table ∷ []))) }
+    ensures { Passes (given_of request.now) ((front ++ ran) ++ (Stage.Table ∷ [])) (λ made. IsCycleText (given_of request.now) made.0.items made.1) result }
 {
     let ready = make_ready(alloc, request)?;
     let made = cycle_of(alloc, request, &ready);

@@ -1,11 +1,11 @@
 //! The texts of modes that run no task: of the program (`print`), of its plan (`plan`, `check`), and of what is made of it
 //! (`schedule`, `edf`, `table`).
 
-ghost use Rattle.std.specs.Prelude.{◌≡◌, ◌≤◌, IfOk, IfErr, length};
+ghost use Rattle.std.specs.Prelude.{◌≡◌, ◌≤◌, IfOk, length};
 ghost use Rattle.prl_stages.specs.Vocabulary.{HasPlan, accepted_line, HasHorizon, stages_after};
-ghost use Rattle.prl_stages.specs.Vocabulary.{Holds, IsText, make_refusal, HasMadeTable};
+ghost use Rattle.prl_stages.specs.Vocabulary.{IsText, make_refusal, HasMadeTable};
 ghost use Rattle.prl_tables.specs.Tables.{IsGood};
-ghost use Rattle.prl_calls.specs.Stops.{given_of, AllHold, StopsAt, StopsIn};
+ghost use Rattle.prl_calls.specs.Stops.{given_of, Passes, PassesAt};
 
 use crate::lines::push_accepted;
 use prl_arguments::Mode;
@@ -22,9 +22,7 @@ use std::alloc::{AllocError, Global};
 /// Mode `print`.
 pub fn print_text(alloc: Global, request: &Request) -> Result<Vec<u8>, Stop>
     requires program { length request.now.texts.program.items ≤ MAX_PROGRAM }
-    ensures text { IfOk result (λ text. IsText (given_of request.now) Mode.Print text.items) }
-    ensures holds { IfOk result (λ _. AllHold (given_of request.now) (stages_after Mode.Print request.now.named)) }
-    ensures stop { IfErr result (StopsIn (given_of request.now) (stages_after Mode.Print request.now.named)) }
+    ensures { Passes (given_of request.now) (stages_after Mode.Print request.now.named) (λ text. IsText (given_of request.now) Mode.Print text.items) result }
 {
     let program = read_program(alloc, request)?;
     let text = print(alloc, &program);
@@ -35,9 +33,7 @@ pub fn print_text(alloc: Global, request: &Request) -> Result<Vec<u8>, Stop>
 /// Mode `plan`.
 pub fn planned_text(alloc: Global, request: &Request) -> Result<Vec<u8>, Stop>
     requires program { length request.now.texts.program.items ≤ MAX_PROGRAM }
-    ensures text { IfOk result (λ text. IsText (given_of request.now) Mode.Plan text.items) }
-    ensures holds { IfOk result (λ _. AllHold (given_of request.now) (stages_after Mode.Plan request.now.named)) }
-    ensures stop { IfErr result (StopsIn (given_of request.now) (stages_after Mode.Plan request.now.named)) }
+    ensures { Passes (given_of request.now) (stages_after Mode.Plan request.now.named) (λ text. IsText (given_of request.now) Mode.Plan text.items) result }
 {
     let plan = planned_program(alloc, request)?;
     let text = plan_text(alloc, &plan);
@@ -58,9 +54,7 @@ fn accepted(alloc: Global, plan: &Plan) -> Result<Vec<u8>, AllocError>
 pub fn accepted_text(alloc: Global, request: &Request) -> Result<Vec<u8>, Stop>
     requires program { length request.now.texts.program.items ≤ MAX_PROGRAM }
     requires bodies { length request.now.texts.bodies.items ≤ MAX_BODIES }
-    ensures text { IfOk result (λ text. IsText (given_of request.now) Mode.Check text.items) }
-    ensures holds { IfOk result (λ _. AllHold (given_of request.now) (stages_after Mode.Check request.now.named)) }
-    ensures stop { IfErr result (StopsIn (given_of request.now) (stages_after Mode.Check request.now.named)) }
+    ensures { Passes (given_of request.now) (stages_after Mode.Check request.now.named) (λ text. IsText (given_of request.now) Mode.Check text.items) result }
 {
     let plan = checked_plan(alloc, request)?;
     let text = accepted(alloc, &plan);
@@ -71,9 +65,7 @@ pub fn accepted_text(alloc: Global, request: &Request) -> Result<Vec<u8>, Stop>
 /// The plan of the program, and its horizon.
 fn plan_and_horizon(alloc: Global, request: &Request) -> Result<(Plan, Horizon), Stop>
     requires program { length request.now.texts.program.items ≤ MAX_PROGRAM }
-    ensures found { IfOk result (λ made. HasHorizon (given_of request.now) made.0 made.1) }
-    ensures holds { IfOk result (λ _. AllHold (given_of request.now) (stages_after Mode.Schedule request.now.named)) }
-    ensures stop { IfErr result (StopsIn (given_of request.now) (stages_after Mode.Schedule request.now.named)) }
+    ensures { Passes (given_of request.now) (stages_after Mode.Schedule request.now.named) (λ made. HasHorizon (given_of request.now) made.0 made.1) result }
 {
     let plan = planned_program(alloc, request)?;
     match make_horizon(request, &plan) {
@@ -102,9 +94,7 @@ fn dispatched(
 /// Mode `schedule`.
 pub fn scheduled_text(alloc: Global, request: &Request) -> Result<Vec<u8>, Stop>
     requires program { length request.now.texts.program.items ≤ MAX_PROGRAM }
-    ensures text { IfOk result (λ text. IsText (given_of request.now) Mode.Schedule text.items) }
-    ensures holds { IfOk result (λ _. AllHold (given_of request.now) (stages_after Mode.Schedule request.now.named)) }
-    ensures stop { IfErr result (StopsIn (given_of request.now) (stages_after Mode.Schedule request.now.named)) }
+    ensures { Passes (given_of request.now) (stages_after Mode.Schedule request.now.named) (λ text. IsText (given_of request.now) Mode.Schedule text.items) result }
 {
     let made = plan_and_horizon(alloc, request)?;
     let text = dispatched(alloc, request, &made.0, made.1);
@@ -129,9 +119,7 @@ fn analysed(
 /// Mode `edf`.
 pub fn edf_text(alloc: Global, request: &Request) -> Result<Vec<u8>, Stop>
     requires program { length request.now.texts.program.items ≤ MAX_PROGRAM }
-    ensures text { IfOk result (λ text. IsText (given_of request.now) Mode.Edf text.items) }
-    ensures holds { IfOk result (λ _. AllHold (given_of request.now) (stages_after Mode.Edf request.now.named)) }
-    ensures stop { IfErr result (StopsIn (given_of request.now) (stages_after Mode.Edf request.now.named)) }
+    ensures { Passes (given_of request.now) (stages_after Mode.Edf request.now.named) (λ text. IsText (given_of request.now) Mode.Edf text.items) result }
 {
     let made = plan_and_horizon(alloc, request)?;
     let text = analysed(alloc, request, &made.0, made.1);
@@ -157,10 +145,7 @@ fn make_refusal(fault: MakeFault) -> Option<MakeRefusal>
 /// The table that is made of the plan.
 fn make_table(alloc: Global, request: &Request, plan: &Plan) -> Result<Table, Stop>
     requires { HasPlan (given_of request.now) plan.now }
-    ensures made { IfOk result (λ table. HasMadeTable (given_of request.now) plan.now table.entries) }
-    ensures good { IfOk result (λ table. IsGood plan.now table.entries) }
-    ensures holds { IfOk result (λ _. Holds (given_of request.now) Stage.Made) }
-    ensures stop { IfErr result (StopsAt (given_of request.now) Stage.Made) }
+    ensures { PassesAt (given_of request.now) Stage.Made (λ table. HasMadeTable (given_of request.now) plan.now table.entries × IsGood plan.now table.entries) result }
 {
     let _ = request;
     match make(alloc, plan) {
@@ -175,9 +160,7 @@ fn make_table(alloc: Global, request: &Request, plan: &Plan) -> Result<Table, St
 /// The text of the table that is made of the plan.
 fn table_of(alloc: Global, request: &Request, plan: &Plan) -> Result<Vec<u8>, Stop>
     requires { HasPlan (given_of request.now) plan.now }
-    ensures text { IfOk result (λ text. IsText (given_of request.now) Mode.Table text.items) }
-    ensures holds { IfOk result (λ _. Holds (given_of request.now) Stage.Made) }
-    ensures stop { IfErr result (StopsAt (given_of request.now) Stage.Made) }
+    ensures { PassesAt (given_of request.now) Stage.Made (λ text. IsText (given_of request.now) Mode.Table text.items) result }
 {
     let table = make_table(alloc, request, plan)?;
     let text = table_text(alloc, plan, &table);
@@ -188,9 +171,7 @@ fn table_of(alloc: Global, request: &Request, plan: &Plan) -> Result<Vec<u8>, St
 /// Mode `table`.
 pub fn made_text(alloc: Global, request: &Request) -> Result<Vec<u8>, Stop>
     requires program { length request.now.texts.program.items ≤ MAX_PROGRAM }
-    ensures text { IfOk result (λ text. IsText (given_of request.now) Mode.Table text.items) }
-    ensures holds { IfOk result (λ _. AllHold (given_of request.now) (stages_after Mode.Table request.now.named)) }
-    ensures stop { IfErr result (StopsIn (given_of request.now) (stages_after Mode.Table request.now.named)) }
+    ensures { Passes (given_of request.now) (stages_after Mode.Table request.now.named) (λ text. IsText (given_of request.now) Mode.Table text.items) result }
 {
     let plan = planned_program(alloc, request)?;
     let text = table_of(alloc, request, &plan);

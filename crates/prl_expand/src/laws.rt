@@ -18,11 +18,10 @@ ghost use Rattle.prl_flow.specs.Vocabulary.{HaveBodies, IsFlat, FlatProgram, Row
 ghost use Rattle.prl_flow.specs.Vocabulary.{HasRows, IsSolution, IsCycleLabel, IsOrder, Leads};
 ghost use Rattle.prl_flow.specs.Vocabulary.{UsesInside, UsesNow, is_made};
 ghost use Rattle.prl_names.specs.Uses.{used_imports};
-ghost use Rattle.prl_solutions.specs.Vocabulary.{HaveTypedBodies, ExactlyOne};
+ghost use Rattle.prl_behaviours.specs.Vocabulary.{HaveTypedBodies, ExactlyOne};
 ghost use Rattle.prl_types.specs.Typing.{IsTyped};
 
-use prl_behaviours::solutions_are_of_their_clocks;
-use prl_solutions::programs_have_one_solution;
+use prl_behaviours::{programs_have_one_solution, solutions_are_of_their_clocks};
 
 /// The behaviours of a program are the solutions of the flat program of its expansion, for all bodies, sensor rows and dates.
 pub fn behaviours_are_solutions()

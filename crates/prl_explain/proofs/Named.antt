@@ -1,7 +1,7 @@
 -- The bytes of the files that the words name.
 use Rattle.prl_base.proofs.Standard.{◌≡◌, ◌≤◌, ◌<◌, ◌^◌, ℕ, List, Option, None, Some, arith, length, subst, sym, IfSome, codes, vec_items, option_map}
 use denote.Ref.{Bor}
-use Rattle.prl_companions.specs.Pairs.{value_of}
+use Rattle.prl_io.specs.Pairs.{value_of}
 use Rattle.prl_sentences.specs.declared.kinds.Part.{Part}
 use Rattle.prl_sentences.specs.declared.kinds.Part.TheVariants as parts
 use Rattle.prl_explain.specs.declared.texts.Texts.{Texts}

@@ -1,9 +1,9 @@
 -- A file that was read by its name, and one that was not.
 use Rattle.prl_base.proofs.Standard.{◌≡◌, ◌≤◌, ℕ, List, Some, inl, length, subst, sym, IfSome}
 use Rattle.prl_io.specs.Views.{FolderView}
-use Rattle.prl_companions.specs.declared.endings.Stop.{Stop}
-use Rattle.prl_companions.specs.Files.{IsFileStop}
-use Rattle.prl_companions.specs.Pairs.{value_of}
+use Rattle.prl_io.specs.declared.endings.Stop.{Stop}
+use Rattle.prl_io.specs.Files.{IsFileStop}
+use Rattle.prl_io.specs.Pairs.{value_of}
 use Rattle.prl_sentences.specs.declared.kinds.Part.{Part}
 use Rattle.prl_explain.specs.Texts.{Folder, IsNamed, IsStopOfFile, most_of, option_of}
 

@@ -1,9 +1,9 @@
 -- Stops at a file that is read after another one.
 use Rattle.prl_base.proofs.Standard.{◌≡◌, ◌++◌, ℕ, List, [], ◌∷◌, Option, None, Some, length, ◌<◌, ◌∙◌, ap, inl, inr, subst, IfSome}
 use Rattle.prl_io.specs.Views.{FolderView}
-use Rattle.prl_companions.specs.declared.endings.Stop.{Stop}
-use Rattle.prl_companions.specs.declared.endings.Stop.TheVariants as stops
-use Rattle.prl_companions.specs.Files.{IsFileStop}
+use Rattle.prl_io.specs.declared.endings.Stop.{Stop}
+use Rattle.prl_io.specs.declared.endings.Stop.TheVariants as stops
+use Rattle.prl_io.specs.Files.{IsFileStop}
 use Rattle.prl_sentences.specs.declared.kinds.Part.{Part}
 use Rattle.prl_explain.specs.Texts.{Folder, IsNamed, IsStopOfFile}
 

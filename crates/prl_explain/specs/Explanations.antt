@@ -5,10 +5,10 @@ use Rattle.std.specs.Str.{bytes_eq}
 use Rattle.prl_base.specs.Decimals.{decimal_of}
 use Rattle.prl_spots.specs.Counted.{IsCounted}
 use Rattle.prl_io.specs.Views.{FolderView, SinkView}
-use Rattle.prl_companions.specs.declared.endings.Stop.{Stop}
-use Rattle.prl_companions.specs.declared.endings.Stop.TheVariants as stops
-use Rattle.prl_companions.specs.Endings.{Ends}
-use Rattle.prl_companions.specs.Pairs.{are_pairs, value_of}
+use Rattle.prl_io.specs.declared.endings.Stop.{Stop}
+use Rattle.prl_io.specs.declared.endings.Stop.TheVariants as stops
+use Rattle.prl_io.specs.Endings.{Ends}
+use Rattle.prl_io.specs.Pairs.{are_pairs, value_of}
 use Rattle.prl_plan.specs.Plans.{PlanView}
 use Rattle.prl_schedules.specs.ScheduleTexts.{task_names}
 use Rattle.prl_sentences.specs.declared.kinds.Detail.{Detail}
@@ -28,8 +28,8 @@ use Rattle.prl_spots.specs.Spots.{IsSpot, byte_at}
 use Rattle.prl_explain.specs.Texts.{AreNamed, Folder, IsStopOfFile, option_of, text_in}
 use Rattle.prl_spots.specs.Twice.{IsTwice}
 use Rattle.prl_spots.specs.Unexpected.{IsUnexpectedAt, IsWordTold}
-use Rattle.prl_wrong.specs.Dashes.{before_dashes, from_dashes}
-use Rattle.prl_wrong.specs.WrongTexts.{words_text}
+use Rattle.prl_arguments.specs.Dashes.{before_dashes, from_dashes}
+use Rattle.prl_arguments.specs.WrongTexts.{words_text}
 use Rattle.prl_explain.specs.Ways.{IsChainTold, IsCircleTold, IsClashTold, IsCycleTold}
 
 -- the file in which a place is told

@@ -2,10 +2,10 @@
 use Rattle.std.specs.Prelude.{◌≡◌, ◌≤◌, ◌⊎◌, ℕ, List, Option, Some, None, IfSome, length, codes, vec_items}
 use Rattle.std.specs.Option.{option_map}
 use Rattle.prl_io.specs.Views.{FolderView}
-use Rattle.prl_companions.specs.declared.endings.Stop.{Stop}
-use Rattle.prl_companions.specs.declared.endings.Stop.TheVariants as stops
-use Rattle.prl_companions.specs.Files.{IsFileStop}
-use Rattle.prl_companions.specs.Pairs.{value_of}
+use Rattle.prl_io.specs.declared.endings.Stop.{Stop}
+use Rattle.prl_io.specs.declared.endings.Stop.TheVariants as stops
+use Rattle.prl_io.specs.Files.{IsFileStop}
+use Rattle.prl_io.specs.Pairs.{value_of}
 use Rattle.prl_stages.specs.declared.sizes.TheConstants.{MAX_BODIES, MAX_CORES, MAX_PROGRAM, MAX_SENSORS, MAX_SCHEDULE, MAX_TABLE}
 use Rattle.prl_explain.specs.declared.texts.TheConstants.{MAX_PLAN}
 use Rattle.prl_explain.specs.declared.texts.Texts.{Texts}

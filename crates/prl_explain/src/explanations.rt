@@ -12,12 +12,11 @@ ghost use Rattle.prl_explain.specs.Texts.{AreFew, IsStopOfFile};
 
 use crate::texts::{Texts, option_of, read_texts, text_in};
 use crate::told::detail_of;
+use prl_arguments::{before_dashes, from_dashes};
 use prl_base::push_number;
-use prl_companions::{Stop, after_name, are_pairs, finish, value_of};
-use prl_io::{Files, Sink};
+use prl_io::{Files, Sink, Stop, after_name, are_pairs, finish, value_of};
 use prl_sentences::{Kind, Part, Target, argument_of, line_kind, push_sentence, rest_of};
 use prl_spots::{line_front, line_rest, place_of, push_lead, spot_of};
-use prl_wrong::{before_dashes, from_dashes};
 use std::alloc::{AllocError, Global};
 
 /// The form of the words.
@@ -260,7 +259,7 @@ fn explanation<F: Files>(
     }
     match line_kind(line) {
         None => Err(Stop::Refused(NO_LINE)),
-        Some(kind) => by_words(alloc, words, command, kind, line, files),
+        Some(kind) => by_words(alloc, words, command, &kind, line, files),
     }
 }
 

@@ -3,12 +3,11 @@
 ghost use Rattle.std.specs.Prelude.{◌≡◌, ◌≤◌, codes, map, IfOk, IfErr, IfSome, length, vec_items};
 ghost use Rattle.std.specs.Option.{option_map};
 ghost use Rattle.std.specs.String.{string_bytes};
-ghost use Rattle.prl_companions.specs.Pairs.{value_of};
+ghost use Rattle.prl_io.specs.Pairs.{value_of};
 ghost use Rattle.prl_explain.specs.Texts.{AreFew, AreNamed, IsNamed, IsStopOfFile, most_of, option_of, text_in};
 
 use prl_base::Label;
-use prl_companions::{Stop, read_named, value_of};
-use prl_io::Files;
+use prl_io::{Files, Stop, read_named, value_of};
 use prl_sentences::Part;
 use prl_stages::{MAX_BODIES, MAX_CORES, MAX_PROGRAM, MAX_SCHEDULE, MAX_SENSORS, MAX_TABLE};
 use std::alloc::{AllocError, Global};

@@ -15,10 +15,10 @@ ghost use Rattle.prl_explain.specs.Ways.{IsChainTold, IsCircleTold, IsClashTold,
 use crate::details::{broken_told, left_told, placing_in, plan_from, tasks_told};
 use crate::texts::{Texts, text_in};
 use crate::ways::{byte_of, chain_told, circle_told, clash_told, cycle_told};
+use prl_arguments::words_told;
 use prl_plan::{Plan, Rule};
 use prl_sentences::{Detail, Part, word_at};
 use prl_spots::{counts_told, here_of, twice_told, unexpected_told};
-use prl_wrong::words_told;
 use std::alloc::{AllocError, Global};
 
 /// The plan that the texts give.

@@ -9,4 +9,5 @@ pub mod Uses
 pub mod Actuators
 pub mod Counts
 pub mod Instances
+pub mod Standings
 pub mod Vocabulary

@@ -18,6 +18,8 @@ pub use Rattle.prl_flow.specs.Rules.{mark_rule, operator, rate_rules, rated, sam
 pub use Rattle.prl_flow.specs.Solutions.{AgreesClock, AreClocks, HasOneClock, HasRate, HasRows}
 pub use Rattle.prl_flow.specs.Solutions.{IsOutputFlow, MeetsDefinition, Solves, argument_flows}
 pub use Rattle.prl_flow.specs.Solutions.{clock_of, values_of}
+pub use Rattle.prl_flow.specs.Standings.{HasClock, IsFirstFree, alone, over_one, same_clock}
+pub use Rattle.prl_flow.specs.Standings.{standing_at}
 pub use Rattle.prl_flow.specs.States.{HaveClock, Holds, IsApplied, IsSolution, IsStep, IsTimed}
 pub use Rattle.prl_flow.specs.States.{State, Timed, all_at, flow_at, registers_at}
 pub use Rattle.prl_flow.specs.Uses.{HasNoCycle, IsArgument, IsCycleLabel, IsCyclic, IsOnCycle}

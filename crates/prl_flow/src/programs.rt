@@ -9,7 +9,7 @@ use prl_base::{Clock, FlowNo, Label, Name, Op, Seq, Span, Ty, Value};
 use std::marker::Model;
 
 /// How a flow of a flat program is defined.
-#[derive(Clone, Copy, PartialEq, Eq)]
+#[derive(Clone, Copy)]
 pub enum Def {
     /// The rows of main's input of this number.
     Sensor(u32),

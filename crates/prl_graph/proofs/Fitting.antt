@@ -23,7 +23,7 @@ use Rattle.prl_plan.specs.declared.graphs.Kind.TheVariants as kinds
 use Rattle.prl_plan.specs.declared.graphs.Producer.TheVariants as producers
 use Rattle.prl_values.specs.Vocabulary.{FitsTask, HasOutput, HaveTaskBodies, HaveTypedRows, IsTypedFrom, port_types, body_of_task, word_of}
 use Rattle.prl_graph.specs.Vocabulary.{IsEdgeOf, IsProducer, InputPort, node_no, ports_of, IsGraphOf, IsNodeTask, IsTaskOf, actuator, node, sensor}
-use Rattle.prl_graph.proofs.Names.{word_of_node}
+use Rattle.prl_values.proofs.TaskNames.{word_of_node}
 use Rattle.prl_graph.proofs.Order.{Match}
 use Rattle.prl_graph.proofs.Ports.{port_within}
 use Rattle.prl_graph.proofs.PortReads.{flows_read, node_reads}

@@ -33,7 +33,7 @@ use Rattle.prl_values.specs.JobValues.{AreJobValues, at_most_one, body_of_task, 
 use Rattle.prl_graph.specs.Vocabulary.{IsProducer, value_of_operand, value_on_date, given_flows, no_flow, outputs_of, value_or_none, values_on_dates, InputPort, actuator_no, node_no, ports_of}
 use Rattle.prl_graph.specs.Vocabulary.{AreSmallClocks, IsGraphOf, IsTaskOf, application_clock, sensor, node, actuator}
 use Rattle.prl_graph.proofs.EdgeValues.{clock_there, met, on_edge, value_there}
-use Rattle.prl_graph.proofs.Names.{word_of_node}
+use Rattle.prl_values.proofs.TaskNames.{word_of_node}
 use Rattle.prl_graph.proofs.Ports.{port_within}
 use Rattle.prl_graph.proofs.PortReads.{actuator_reads, flows_read, node_reads, reads_are}
 use Rattle.prl_graph.proofs.WellFormed.{application_clock_is, match_edges, node_at, output_clock_is, port_clock, sensor_at, task_known}

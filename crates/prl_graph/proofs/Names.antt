@@ -1,6 +1,6 @@
 -- Names of tasks differ.
-use Rattle.prl_base.proofs.Standard.{◌≡◌, ◌≢◌, ◌<◌, ◌≤◌, ◌+◌, ◌^◌, ℕ, Bool, true, false, List, [], ◌∷◌, ◌++◌, length, refl, sym, ◌∙◌, ap, subst, arith, cond, eqb, decimal, slice_index_or, list_all}
-use Rattle.prl_base.proofs.Standard.{digits_value, and_parts, false≢true, eqb-true, decimal_is_IsNumeral, slice_get_within, get_or_from_slice_get}
+use Rattle.prl_base.proofs.Standard.{◌≡◌, ◌≢◌, ◌<◌, ◌≤◌, ◌+◌, ◌^◌, ℕ, true, false, List, [], ◌∷◌, ◌++◌, length, refl, sym, ◌∙◌, ap, subst, arith, cond, decimal, slice_index_or, list_all}
+use Rattle.prl_base.proofs.Standard.{digits_value, and_parts, false≢true, decimal_is_IsNumeral, slice_get_within, get_or_from_slice_get}
 use Rattle.prl_base.specs.Names.{IsName, is_word_byte, is_word_start}
 use Rattle.prl_base.specs.declared.operators.Clock.{Clock}
 use Rattle.prl_flow.specs.Programs.{FlatProgram, IsFlat, name_of}
@@ -11,48 +11,22 @@ use Rattle.prl_plan.specs.declared.graphs.Task.{Task}
 use Rattle.prl_plan.specs.declared.graphs.TaskGraph.{TaskGraph}
 use Rattle.prl_plan.specs.declared.graphs.Kind.TheVariants as kinds
 use Rattle.prl_values.specs.JobValues.{word_of}
+use Rattle.prl_values.proofs.TaskNames.{apart, word_of_node}
 use Rattle.prl_graph.specs.Vocabulary.{task_count, AreTasks, IsActuatorTask, IsSensorTask, IsTaskOf, sensor, node, actuator}
 use Rattle.prl_graph.proofs.TaskFacts.{actuator_device, sensor_device}
-
--- `@` is no byte of a word
-apart_by : (word : ℕ → Bool) (b : ℕ) → word 64 ≡ false → word b ≡ true → eqb b 64 ≡ false
-apart_by word b apart is = go (eqb b 64) refl
-  where
-    go : (t : Bool) → eqb b 64 ≡ t → eqb b 64 ≡ false
-    go false e = e
-    go true e = absurd (false≢true (sym apart ∙ subst (λ n. word n ≡ true) (eqb-true b 64 e) is))
-
-apart : (b : ℕ) → is_word_byte b ≡ true → eqb b 64 ≡ false
-apart b is = apart_by is_word_byte b refl is
-
-apart_start : (b : ℕ) → is_word_start b ≡ true → eqb b 64 ≡ false
-apart_start b is = apart_by is_word_start b refl is
-
--- the word before `@`
-word_before : (bytes rest : List ℕ) → list_all is_word_byte bytes ≡ true → word_of (bytes ++ 64 ∷ rest) ≡ bytes
-word_before [] rest all = refl
-word_before (b ∷ bytes) rest all =
-    let parts = and_parts (is_word_byte b) (list_all is_word_byte bytes) all in
-    ap (λ t. cond t [] (b ∷ word_of (bytes ++ 64 ∷ rest))) (apart b parts.0) ∙ ap (λ l. b ∷ l) (word_before bytes rest parts.1)
 
 -- a word has no `@`
 word_alone : (bytes : List ℕ) → list_all is_word_byte bytes ≡ true → word_of bytes ≡ bytes
 word_alone [] all = refl
 word_alone (b ∷ bytes) all =
     let parts = and_parts (is_word_byte b) (list_all is_word_byte bytes) all in
-    ap (λ t. cond t [] (b ∷ word_of bytes)) (apart b parts.0) ∙ ap (λ l. b ∷ l) (word_alone bytes parts.1)
-
-pub word_of_node : (name rest : List ℕ) → IsName name → word_of (name ++ 64 ∷ rest) ≡ name
-word_of_node [] rest is = absurd (false≢true is.0)
-word_of_node (b ∷ bytes) rest is =
-    let parts = and_parts (is_word_start b) (list_all is_word_byte bytes) is.0 in
-    ap (λ t. cond t [] (b ∷ word_of (bytes ++ 64 ∷ rest))) (apart_start b parts.0) ∙ ap (λ l. b ∷ l) (word_before bytes rest parts.1)
+    ap (λ t. cond t [] (b ∷ word_of bytes)) (apart is_word_byte refl b parts.0) ∙ ap (λ l. b ∷ l) (word_alone bytes parts.1)
 
 word_of_name : (name : List ℕ) → IsName name → word_of name ≡ name
 word_of_name [] is = absurd (false≢true is.0)
 word_of_name (b ∷ bytes) is =
     let parts = and_parts (is_word_start b) (list_all is_word_byte bytes) is.0 in
-    ap (λ t. cond t [] (b ∷ word_of bytes)) (apart_start b parts.0) ∙ ap (λ l. b ∷ l) (word_alone bytes parts.1)
+    ap (λ t. cond t [] (b ∷ word_of bytes)) (apart is_word_start refl b parts.0) ∙ ap (λ l. b ∷ l) (word_alone bytes parts.1)
 
 cancel_left : (xs ys zs : List ℕ) → xs ++ ys ≡ xs ++ zs → ys ≡ zs
 cancel_left [] ys zs e = e

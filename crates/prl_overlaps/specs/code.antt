@@ -1,2 +1,4 @@
 -- where entries stand in the hyperperiod
 pub mod Spots
+-- demand by tick
+pub mod Starts

@@ -1,8 +1,8 @@
 -- What the words ask for beside the windows.
 use Rattle.std.specs.Prelude.{◌≡◌, ℕ, List, [], Some, Ok, IfSome, MatchOption, codes}
 use Rattle.prl_base.specs.Decimals.{decimal_of}
-use Rattle.prl_companions.specs.Faults.{Folder}
-use Rattle.prl_companions.specs.Pairs.{value_of}
+use Rattle.prl_io.specs.Faults.{Folder}
+use Rattle.prl_io.specs.Pairs.{value_of}
 use Rattle.prl_plan.specs.declared.events.Event.{Event}
 use Rattle.prl_plan.specs.declared.horizons.Horizon.{Horizon}
 use Rattle.prl_plan.specs.Horizons.{IsHorizon, Placement, constants_on}

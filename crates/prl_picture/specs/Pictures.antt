@@ -1,8 +1,8 @@
 -- The picture of a plan.
 use Rattle.std.specs.Prelude.{◌≡◌, ◌<◌, ℕ, List, Some, IfSome, MatchOption, codes, is_some, length}
 use Rattle.prl_io.specs.Views.{FolderView, SinkView}
-use Rattle.prl_companions.specs.Faults.{AnswersBy, Folder}
-use Rattle.prl_companions.specs.Pairs.{value_of}
+use Rattle.prl_io.specs.Faults.{AnswersBy, Folder}
+use Rattle.prl_io.specs.Pairs.{value_of}
 use Rattle.prl_base.specs.Decimals.{decimal_of}
 use Rattle.prl_plan.specs.Jobs.{task_at}
 use Rattle.prl_plan.specs.Plans.{PlanView}

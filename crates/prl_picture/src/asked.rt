@@ -11,12 +11,12 @@ ghost use Rattle.prl_views.specs.Shown.{IsOfPlan};
 use crate::ranges::MAX_UNTIL;
 use crate::words::FORM;
 use prl_base::TaskNo;
-use prl_companions::{
-    Fault, Piece, Stop, number_up_to, read_named, unfit, unfit_for, value_of, why_of, why_with,
-};
 use prl_cores::{CoresFault, Spread, read_cores, spread, spread_plans_keep_facts};
 use prl_edf::analyse;
-use prl_io::Files;
+use prl_io::{
+    Fault, Files, Piece, Stop, number_up_to, read_named, unfit, unfit_for, value_of, why_of,
+    why_with,
+};
 use prl_plan::{Event, Horizon, Plan, plan_is_one};
 use prl_schedules::{ScheduleFault, dispatch_on, read_schedule};
 use prl_tables::{Table, TableFault, check_table, read_table};

@@ -3,7 +3,7 @@
 ghost use Rattle.std.specs.Prelude.{◌≡◌, ◌<◌, ◌≤◌, drop, map, IfOk};
 ghost use Rattle.std.specs.Bool.{OnFalse};
 ghost use Rattle.std.specs.String.{string_bytes};
-ghost use Rattle.prl_companions.specs.Pairs.{asks_help};
+ghost use Rattle.prl_io.specs.Pairs.{asks_help};
 ghost use Rattle.prl_picture.specs.Pictures.{Answers, AreAsked, AreRows, IsDrawn, IsNearRows, IsPicture};
 ghost use Rattle.prl_picture.specs.Ranges.{IsRange};
 ghost use Rattle.prl_views.specs.Views.{AreTasks, IsView};
@@ -13,11 +13,10 @@ use crate::chosen::{all_rows, near_rows, task_named};
 use crate::ranges::{MAX_UNTIL, left_out, scale_of};
 use crate::words::{FORM, HELP, OPTIONS, range_of, tick_unit, whole_before};
 use prl_base::Seq;
-use prl_companions::{
-    Fault, Piece, Stop, after_name, are_pairs, asks_help, end, read_named, unfit_for, value_of,
-    why_with,
+use prl_io::{
+    Fault, Files, Piece, Sink, Stop, after_name, are_pairs, asks_help, end, read_named, unfit_for,
+    value_of, why_with,
 };
-use prl_io::{Files, Sink};
 use prl_plan::Plan;
 use prl_plantext::{PlanFault, read_plan};
 use prl_views::{View, picture_of};

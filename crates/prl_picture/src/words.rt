@@ -7,8 +7,8 @@ ghost use Rattle.prl_views.specs.Views.{AreTasks};
 
 use crate::defaults::default_end;
 use crate::ranges::MAX_UNTIL;
-use prl_companions::{number_up_to, value_of};
 use prl_drawing::{Unit, unit_of};
+use prl_io::{number_up_to, value_of};
 use prl_plan::Plan;
 
 /// The form of the words.

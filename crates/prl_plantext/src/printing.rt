@@ -11,7 +11,7 @@ use prl_base::{
     Clock, EdgeNo, Op, TaskNo, Ty, Value, push_number, push_ratio, push_type, push_value,
 };
 use prl_plan::{Edge, Kind, Plan, Producer, Task, Window, Word};
-use prl_ranges::graph_is_representable;
+use prl_words::graph_is_representable;
 use std::alloc::{AllocError, Global};
 
 /// The name of a kind of task, as it is written.

@@ -1,7 +1,7 @@
 -- The plots that the words ask for.
 use Rattle.std.specs.Prelude.{ℕ, List}
 use Rattle.prl_io.specs.Views.{FolderView, SinkView}
-use Rattle.prl_companions.specs.Faults.{AnswersBy, Folder}
+use Rattle.prl_io.specs.Faults.{AnswersBy, Folder}
 use Rattle.prl_drawing.specs.declared.scales.Scale.{Scale}
 use Rattle.prl_steps.specs.Flows.{FlowView}
 use Rattle.prl_steps.specs.Plots.{ArePlotsOf}

@@ -2,8 +2,8 @@
 use Rattle.std.specs.Prelude.{◌≡◌, ◌==◌, ◌<◌, ◌-◌, ◌++◌, ℕ, Bool, true, false, List, [], Some, Ok, IfSome, MatchOption, bytes_eq, codes}
 use Rattle.std.specs.List.{filter, list_any, slice_split}
 use Rattle.prl_base.specs.Decimals.{decimal_of}
-use Rattle.prl_companions.specs.Faults.{Folder}
-use Rattle.prl_companions.specs.Pairs.{value_of}
+use Rattle.prl_io.specs.Faults.{Folder}
+use Rattle.prl_io.specs.Pairs.{value_of}
 use Rattle.prl_drawing.specs.declared.scales.Scale.{Scale}
 use Rattle.prl_plan.specs.Plans.{PlanView}
 use Rattle.prl_stages.specs.Planned.{HasPlan}

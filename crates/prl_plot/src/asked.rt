@@ -2,7 +2,7 @@
 
 ghost use Rattle.std.specs.Prelude.{◌≡◌, ◌++◌, [], IfOk, MatchOption, codes, map};
 ghost use Rattle.std.specs.String.{string_bytes};
-ghost use Rattle.prl_companions.specs.Pairs.{value_of};
+ghost use Rattle.prl_io.specs.Pairs.{value_of};
 ghost use Rattle.prl_plot.specs.Asked.{AreFlows, AreSensors, IsAsked, IsPlanAsked, dated_form, timed_form};
 
 use crate::faults::bad_rows;
@@ -12,8 +12,7 @@ use crate::rows::read_flows;
 use crate::words::FORM;
 use prl_base::{Label, Seq};
 use prl_calls::plan_of;
-use prl_companions::{Fault, Stop, read_named, unfit_for, value_of};
-use prl_io::Files;
+use prl_io::{Fault, Files, Stop, read_named, unfit_for, value_of};
 use prl_plan::Plan;
 use prl_steps::Flow;
 use std::alloc::{AllocError, Global};

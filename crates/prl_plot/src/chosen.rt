@@ -7,7 +7,7 @@ ghost use Rattle.prl_plot.specs.Asked.{AreChosen, is_named};
 
 use crate::rows::place_of;
 use prl_base::len_before;
-use prl_companions::{Fault, unfit_for, value_of};
+use prl_io::{Fault, unfit_for, value_of};
 use prl_steps::Flow;
 use std::alloc::{AllocError, Global};
 

@@ -1,7 +1,7 @@
 //! How rows that are none of flows are told.
 
 use crate::row_faults::RowFault;
-use prl_companions::{Fault, Stop, unfit};
+use prl_io::{Fault, Stop, unfit};
 use std::alloc::Global;
 
 /// The rows in the file of this name are none of flows: the line that `prelude` would tell of them.

@@ -3,14 +3,13 @@
 ghost use Rattle.std.specs.Prelude.{◌≡◌, drop, map, IfOk};
 ghost use Rattle.std.specs.Bool.{OnFalse};
 ghost use Rattle.std.specs.String.{string_bytes};
-ghost use Rattle.prl_companions.specs.Pairs.{asks_help};
+ghost use Rattle.prl_io.specs.Pairs.{asks_help};
 ghost use Rattle.prl_plot.specs.Answers.{Answers, IsInRange, IsPlotted};
 
 use crate::asked::asked;
 use crate::chosen::chosen;
 use crate::words::{FORM, HELP, OPTIONS, range_of, tick_unit};
-use prl_companions::{Fault, Stop, after_name, are_pairs, asks_help, end, value_of};
-use prl_io::{Files, Sink};
+use prl_io::{Fault, Files, Sink, Stop, after_name, are_pairs, asks_help, end, value_of};
 use prl_steps::{Flow, MAX_PLOTS, plots_of};
 use std::alloc::Global;
 

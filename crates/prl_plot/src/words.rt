@@ -3,11 +3,11 @@
 ghost use Rattle.std.specs.Prelude.{◌≡◌, ◌-◌, ◌<◌, ◌≤◌, IfSome, MatchOption, Some, codes, map};
 ghost use Rattle.std.specs.String.{string_bytes};
 ghost use Rattle.prl_base.specs.Decimals.{decimal_of};
-ghost use Rattle.prl_companions.specs.Pairs.{value_of};
+ghost use Rattle.prl_io.specs.Pairs.{value_of};
 ghost use Rattle.prl_plot.specs.Asked.{IsRange};
 
-use prl_companions::{number_up_to, value_of};
 use prl_drawing::{Scale, Unit, unit_of};
+use prl_io::{number_up_to, value_of};
 use prl_steps::{Flow, Sample};
 
 /// The greatest tick that may be asked for.

@@ -6,3 +6,4 @@ mod Legality
 mod OneEnd
 mod Outputs
 mod Traces
+mod Results

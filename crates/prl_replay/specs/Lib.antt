@@ -2,4 +2,6 @@
 pub mod Replays
 -- the flows of main's outputs
 pub mod Outputs
+-- What a closed board shows of the actuators.
+pub mod Shown
 pub mod Vocabulary

@@ -25,7 +25,7 @@ ghost use Rattle.prl_rule.specs.declared.views.View.{View};
 ghost use Rattle.prl_rule.specs.declared.views.Gate.TheVariants as gates;
 ghost use Rattle.prl_plan.specs.declared.graphs.Producer.TheVariants as producers;
 ghost use Rattle.prl_values.specs.Fitting.{HaveTaskBodies, HaveTypedRows};
-ghost use Rattle.prl_workers.specs.Workers.{HaveWorkLaws, IsNewWorker};
+ghost use Rattle.prl_values.specs.Workers.{HaveWorkLaws, IsNewWorker};
 ghost use Rattle.prl_seats.specs.code.Joining.{IsLive};
 ghost use Rattle.prl_seats.specs.Parts.{share_part};
 ghost use Rattle.std.specs.Mem.Slots.{slots_items, slots_len, IsFull};
@@ -37,13 +37,13 @@ use prl_flow::Sensors;
 use prl_plan::{
     Action, Horizon, Plan, Producer, SlotNo, actions_are_as_defined, plan_facts, plan_is_one,
 };
-use prl_ranges::horizons_are_small;
 use prl_rule::{
     About, Gate, Running, View, bare_seat_may_enter, join_takes_all_parts, plan_laws,
     rule_holds_at_the_opening, run_values_keep_facts,
 };
 use prl_track::Routes;
-use prl_workers::{Worker, jobs_have_work_laws};
+use prl_values::{Worker, jobs_have_work_laws};
+use prl_words::horizons_are_small;
 use std::alloc::{AllocError, Global};
 use std::marker::{Brand, Model, PhantomData};
 

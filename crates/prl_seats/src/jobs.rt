@@ -18,7 +18,7 @@ use std::marker::Model;
 use std::mem;
 
 /// What a release answers.
-#[derive(Clone, Copy, PartialEq, Eq)]
+#[derive(Clone, Copy)]
 pub enum Release {
     /// This job of the task is open now.
     Open { job: u64 },

@@ -1,9 +1,7 @@
 -- What is said of a line: words, and words of the line itself.
-use Rattle.std.specs.Prelude.{◌++◌, ◌-◌, ◌==◌, ℕ, List, [], ◌∷◌, codes, if◌then◌else◌}
+use Rattle.std.specs.Prelude.{◌++◌, ◌-◌, ◌==◌, ℕ, List, [], ◌∷◌, codes, nat_lt, if◌then◌else◌}
 use Rattle.std.specs.List.{before_first, flat_map}
 use Rattle.prl_sentences.specs.declared.kinds.Kind.{Kind}
-use Rattle.prl_sentences.specs.declared.kinds.Piece.{Piece}
-use Rattle.prl_sentences.specs.declared.kinds.Piece.TheVariants as pieces
 use Rattle.prl_sentences.specs.Kinds.{is_gap, rest_of}
 
 -- the bytes from the word of a number on, which counts from 0; a gap ends a word
@@ -16,11 +14,10 @@ word_from number (b ∷ rest) =
 abbrev pub word_at : ℕ → List ℕ → List ℕ
 word_at number text = before_first is_gap (word_from number text)
 
--- a piece, where this stands after the front of the line
-abbrev pub piece_text : List ℕ → Piece → List ℕ
-piece_text rest (pieces.Words words) = words.now
-piece_text rest (pieces.Word words number) = words.now ++ word_at number rest
+-- what a byte of a sentence says, where this stands after the front of the line: a byte less than ten the word of this number, another itself
+abbrev pub said : List ℕ → ℕ → List ℕ
+said rest b = if nat_lt b 10 then word_at b rest else b ∷ []
 
--- what is said of a line of a kind: the pieces one after another, as one line or more
+-- what is said of a line of a kind: what its bytes say one after another, as one line or more
 abbrev pub sentence_text : Kind → List ℕ → List ℕ
-sentence_text kind line = flat_map (piece_text (rest_of kind line)) kind.sentence.now ++ codes "\n"
+sentence_text kind line = flat_map (said (rest_of kind line)) kind.sentence.now ++ codes "\n"

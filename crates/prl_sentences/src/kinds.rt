@@ -1,10 +1,9 @@
 //! The kinds of lines that `prelude` writes on `err`.
 
-ghost use Rattle.std.specs.Prelude.{◌≡◌, IfSome};
+ghost use Rattle.std.specs.Prelude.{◌≡◌};
 ghost use Rattle.std.specs.List.{before_first};
-ghost use Rattle.prl_sentences.specs.Kinds.{argument_of, is_gap, is_line_of, rest_of, IsLineOf};
+ghost use Rattle.prl_sentences.specs.Kinds.{argument_of, is_gap, is_line_of, rest_of};
 
-use prl_base::line_len;
 use prl_plan::Rule;
 
 /// The files that a line may speak of, or by which more is told of it.
@@ -69,45 +68,22 @@ pub enum Detail {
     Circle,
 }
 
-/// A piece of what is said of a line.
-#[derive(Clone, Copy)]
-pub enum Piece {
-    /// These words.
-    Words(&'static str),
-    /// These words, and behind them the word of the line that has this number, from 0, after its front.
-    Word(&'static str, u64),
-}
-
 /// What lines of a kind begin and end with, how they tell the place, what is wrong there, and what is told beside.
 #[derive(Clone, Copy)]
 pub struct Kind {
     pub front: &'static str,
     pub tail: &'static str,
     pub target: Target,
-    pub sentence: &'static [Piece],
+    /// A byte of it that is less than ten stands for the word of the line that has this number, from 0, after its front.
+    pub sentence: &'static str,
     pub detail: Detail,
 }
 
-/// Whether the text is one line of the kind.
-fn is_line_of(kind: &Kind, line: &[u8]) -> bool
+/// Whether the text begins and ends as lines of the kind do.
+pub(crate) fn is_line_of(kind: &Kind, line: &[u8]) -> bool
     ensures { result ≡ is_line_of kind.now line.now }
 {
     line.starts_with(kind.front.as_bytes()) && line.ends_with(kind.tail.as_bytes())
-}
-
-/// The first of the kinds whose line the text is.
-pub(crate) fn kind_of<'a>(kinds: &'a [Kind], line: &[u8]) -> Option<&'a Kind>
-    ensures { IfSome result (λ kind. IsLineOf kind.now line.now) }
-{
-    if line_len(line) + 1 != line.len() {
-        return None;
-    }
-    for kind in kinds {
-        if is_line_of(kind, line) {
-            return Some(kind);
-        }
-    }
-    None
 }
 
 /// What stands after the front of a line.

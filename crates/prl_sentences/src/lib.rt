@@ -7,9 +7,10 @@ mod call_table;
 mod kinds;
 mod lines;
 mod program_table;
+mod rows;
 mod run_table;
 mod sentences;
 
-pub use kinds::{Detail, Kind, Part, Piece, Target, argument_of, rest_of};
+pub use kinds::{Detail, Kind, Part, Target, argument_of, rest_of};
 pub use lines::line_kind;
 pub use sentences::{push_sentence, word_at};

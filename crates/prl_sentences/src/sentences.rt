@@ -2,9 +2,9 @@
 
 ghost use Rattle.std.specs.Prelude.{◌≡◌, ◌++◌, OnOk};
 ghost use Rattle.std.specs.List.{flat_map};
-ghost use Rattle.prl_sentences.specs.Sentences.{piece_text, sentence_text, word_at, word_from};
+ghost use Rattle.prl_sentences.specs.Sentences.{said, sentence_text, word_at, word_from};
 
-use crate::kinds::{Kind, Piece, rest_of, word_of};
+use crate::kinds::{Kind, rest_of, word_of};
 use std::alloc::AllocError;
 
 /// The bytes from the word of a number on, which counts from 0; a blank or a line feed ends a word.
@@ -30,25 +30,23 @@ pub fn word_at(text: &[u8], number: u64) -> &[u8]
     word_of(word_from(text, number))
 }
 
-/// Appends a piece.
-fn push_piece(text: &mut Vec<u8>, rest: &[u8], piece: &Piece) -> Result<(), AllocError>
-    ensures { OnOk result (text.new.items ≡ text.old.items ++ piece_text rest.now piece.now) }
+/// Appends a byte of a sentence, or the word that it stands for.
+fn push_said(text: &mut Vec<u8>, rest: &[u8], byte: u8) -> Result<(), AllocError>
+    ensures { OnOk result (text.new.items ≡ text.old.items ++ said rest.now byte) }
 {
-    match piece {
-        Piece::Words(words) => text.extend_from_slice(words.as_bytes()),
-        Piece::Word(words, number) => {
-            text.extend_from_slice(words.as_bytes())?;
-            text.extend_from_slice(word_at(rest, *number))
-        }
+    if byte < 10 {
+        text.extend_from_slice(word_at(rest, byte as u64))
+    } else {
+        text.extend_from_slice(&[byte])
     }
 }
 
-/// Appends the pieces one after another.
-fn push_pieces(text: &mut Vec<u8>, rest: &[u8], pieces: &[Piece]) -> Result<(), AllocError>
-    ensures { OnOk result (text.new.items ≡ text.old.items ++ flat_map (piece_text rest.now) pieces.now) }
+/// Appends the bytes of a sentence, and the words that some of them stand for.
+fn push_words(text: &mut Vec<u8>, rest: &[u8], sentence: &[u8]) -> Result<(), AllocError>
+    ensures { OnOk result (text.new.items ≡ text.old.items ++ flat_map (said rest.now) sentence.now) }
 {
-    for piece in pieces {
-        push_piece(text, rest, piece)?;
+    for byte in sentence {
+        push_said(text, rest, *byte)?;
     }
     Ok(())
 }
@@ -57,7 +55,6 @@ fn push_pieces(text: &mut Vec<u8>, rest: &[u8], pieces: &[Piece]) -> Result<(), 
 pub fn push_sentence(text: &mut Vec<u8>, kind: &Kind, line: &[u8]) -> Result<(), AllocError>
     ensures { OnOk result (text.new.items ≡ text.old.items ++ sentence_text kind.now line.now) }
 {
-    push_pieces(text, rest_of(kind, line), kind.sentence)?;
-    text.push(b'\n')?;
-    Ok(())
+    push_words(text, rest_of(kind, line), kind.sentence.as_bytes())?;
+    text.extend_from_slice(b"\n")
 }

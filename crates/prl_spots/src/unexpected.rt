@@ -22,129 +22,44 @@ pub struct Trial {
     pub said: &'static str,
 }
 
-/// The words that are tried: one of each kind.
-static TRIALS: [Trial; 30] = [
-    Trial {
-        word: b";",
-        said: "`;`",
-    },
-    Trial {
-        word: b",",
-        said: "`,`",
-    },
-    Trial {
-        word: b")",
-        said: "`)`",
-    },
-    Trial {
-        word: b"(",
-        said: "`(`",
-    },
-    Trial {
-        word: b":",
-        said: "`:`",
-    },
-    Trial {
-        word: b"=",
-        said: "`=`",
-    },
-    Trial {
-        word: b"x",
-        said: "a name",
-    },
-    Trial {
-        word: b"1",
-        said: "a number",
-    },
-    Trial {
-        word: b"-",
-        said: "`-`",
-    },
-    Trial {
-        word: b"/",
-        said: "`/`",
-    },
-    Trial {
-        word: b"true",
-        said: "`true`",
-    },
-    Trial {
-        word: b"false",
-        said: "`false`",
-    },
-    Trial {
-        word: b"*^",
-        said: "`*^`",
-    },
-    Trial {
-        word: b"/^",
-        said: "`/^`",
-    },
-    Trial {
-        word: b"~>",
-        said: "`~>`",
-    },
-    Trial {
-        word: b"fby",
-        said: "`fby`",
-    },
-    Trial {
-        word: b"::",
-        said: "`::`",
-    },
-    Trial {
-        word: b"tail",
-        said: "`tail`",
-    },
-    Trial {
-        word: b"rate",
-        said: "`rate`",
-    },
-    Trial {
-        word: b"due",
-        said: "`due`",
-    },
-    Trial {
-        word: b"int",
-        said: "`int`",
-    },
-    Trial {
-        word: b"bool",
-        said: "`bool`",
-    },
-    Trial {
-        word: b"wcet",
-        said: "`wcet`",
-    },
-    Trial {
-        word: b"returns",
-        said: "`returns`",
-    },
-    Trial {
-        word: b"var",
-        said: "`var`",
-    },
-    Trial {
-        word: b"let",
-        said: "`let`",
-    },
-    Trial {
-        word: b"tel",
-        said: "`tel`",
-    },
-    Trial {
-        word: b"node",
-        said: "`node`",
-    },
-    Trial {
-        word: b"imported",
-        said: "`imported`",
-    },
-    Trial {
-        word: b"sensor",
-        said: "`sensor` `actuator`",
-    },
+/// The words that are tried, one of each kind, and behind a blank what is said of each.
+static TRIALS: [&str; 30] = [
+    "; `;`",
+    ", `,`",
+    ") `)`",
+    "( `(`",
+    ": `:`",
+    "= `=`",
+    "x a name",
+    "1 a number",
+    "- `-`",
+    "/ `/`",
+    "true `true`",
+    "false `false`",
+    "*^ `*^`",
+    "/^ `/^`",
+    "~> `~>`",
+    "fby `fby`",
+    ":: `::`",
+    "tail `tail`",
+    "rate `rate`",
+    "due `due`",
+    "int `int`",
+    "bool `bool`",
+    "wcet `wcet`",
+    "returns `returns`",
+    "var `var`",
+    "let `let`",
+    "tel `tel`",
+    "node `node`",
+    "imported `imported`",
+    "sensor `sensor` `actuator`",
 ];
+
+/// The words that are tried.
+fn trials() -> &'static [&'static str] {
+    &TRIALS
+}
 
 /// The most bytes of a word that is tried.
 const MAX_WORD: usize = 64;
@@ -235,19 +150,27 @@ fn is_refused_at(alloc: Global, text: &[u8], at: usize) -> Result<bool, AllocErr
     }
 }
 
+/// The word of a row and what is said of it.
+fn trial_of(row: &'static str) -> Trial {
+    let (word, said) = row.split_once(' ').unwrap_or((row, ""));
+    let word = word.as_bytes();
+    Trial { word, said }
+}
+
 /// The words of which each may stand at a byte.
 fn standing(alloc: Global, text: &[u8], at: usize) -> Result<Vec<Trial>, AllocError>
     requires at { at ≤ length text.now }
     requires few { length text.now < 2 ^ 31 }
     ensures { IfOk result (λ trials. All (λ t. MayStand text.now at t.word.now) trials.items) }
 {
-    let mut trials = Vec::new(alloc);
-    for trial in &TRIALS {
+    let mut standing = Vec::new(alloc);
+    for row in trials() {
+        let trial = trial_of(row);
         if may_stand(alloc, text, at, trial.word)? {
-            trials.push(*trial)?;
+            standing.push(trial)?;
         }
     }
-    Ok(trials)
+    Ok(standing)
 }
 
 /// Appends what is said of words.

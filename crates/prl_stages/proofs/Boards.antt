@@ -13,13 +13,13 @@ use Rattle.prl_plan.specs.declared.graphs.Kind.{Kind}
 use Rattle.prl_plan.specs.declared.graphs.Kind.TheVariants as kinds
 use Rattle.prl_plan.proofs.RoundPeriods.{task_is}
 use Rattle.prl_replay.specs.Replays.{AddsFlow, AreFlowsBelow}
-use Rattle.prl_results.specs.Shown.{AddsShown, AreShown, AreShownBelow, core_in}
+use Rattle.prl_replay.specs.Shown.{AddsShown, AreShown, AreShownBelow, core_in}
 use Rattle.prl_rule.specs.Vocabulary.{job_values_of, run_of, values_of, spent}
 use Rattle.prl_rule.specs.declared.views.Constants.{Constants}
 use Rattle.prl_seats.specs.declared.jobs.Stage.TheVariants as seat_stages
 use Rattle.prl_seats.specs.JobSeats.{JobSeatView}
 use Rattle.prl_values.specs.JobValues.{reads_of_job, value_on}
-use Rattle.prl_workers.proofs.PortReads.{read_at_port}
+use Rattle.prl_values.proofs.PortReads.{read_at_port}
 
 some_inner : {A : Type 0} (x y : A) → Some x ≡ Some y → x ≡ y
 some_inner x y e = cc

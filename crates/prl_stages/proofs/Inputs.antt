@@ -15,7 +15,7 @@ use Rattle.prl_flow.specs.Vocabulary.{dates_before, Device, FlatProgram, IsFlat,
 use Rattle.prl_flow.proofs.ClockDates.{dates_before_number}
 use Rattle.prl_sensors.specs.Facts.{AreRowsFor}
 use Rattle.prl_sensors.specs.SensorRows.{Inputs, sensors_of}
-use Rattle.prl_solutions.specs.Conditions.{AreTypedRows}
+use Rattle.prl_behaviours.specs.Conditions.{AreTypedRows}
 use Rattle.prl_stages.specs.Runs.{inputs_of, needs_of, type_of_flow}
 
 -- the variables of a node are no more than all flows

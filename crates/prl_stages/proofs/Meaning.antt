@@ -12,7 +12,7 @@ use Rattle.prl_evaluation.specs.Evaluations.{AreSolution}
 use Rattle.prl_expand.specs.Vocabulary.{IsOneToOne, AreCounted, Expansion, IsExpansion, flat_of, flow_no, IsExpanded}
 use Rattle.prl_flow.specs.Vocabulary.{AreUpTo, IsUpTo, FlatProgram, IsFlat, Rows, IsSolution, IsTimed, State, flow_at}
 use Rattle.prl_flow.specs.declared.programs.OutFlow.{OutFlow}
-use Rattle.prl_solutions.specs.Vocabulary.{clocks_in, values_in, ExactlyOne}
+use Rattle.prl_behaviours.specs.Vocabulary.{clocks_in, values_in, ExactlyOne}
 use Rattle.prl_types.specs.Typing.{IsTyped}
 use Rattle.prl_stages.specs.Runs.{named_flows}
 use Rattle.prl_stages.specs.code.Runnings.{SolutionLaws}

@@ -15,7 +15,7 @@ use Rattle.prl_names.specs.Uses.{used_imports}
 use Rattle.prl_plan.specs.Vocabulary.{Placement, alone, constants_on, PlanView, opening}
 use Rattle.prl_plan.specs.declared.graphs.TaskGraph.{TaskGraph}
 use Rattle.prl_plan.specs.declared.horizons.Horizon.{Horizon}
-use Rattle.prl_solutions.specs.Conditions.{clocks_in}
+use Rattle.prl_behaviours.specs.Conditions.{clocks_in}
 use Rattle.prl_types.specs.Typing.{IsTyped}
 use Rattle.prl_values.specs.JobValues.{job_values}
 use Rattle.prl_stages.specs.declared.faults.InputFile.TheVariants as parts

@@ -12,7 +12,7 @@ use Rattle.prl_expand.specs.Flats.{devices_of, flow_no, wcet_named}
 use Rattle.prl_flow.specs.Vocabulary.{IsUpTo, name_of, clock_of, values_of, IsTimed, State, Timed, flow_at}
 use Rattle.prl_flow.specs.declared.programs.OutFlow.{OutFlow}
 use Rattle.prl_flow.specs.Programs as flats
-use Rattle.prl_solutions.specs.Conditions.{clocks_in, values_in}
+use Rattle.prl_behaviours.specs.Conditions.{clocks_in, values_in}
 use Rattle.prl_stages.specs.Runs.{named_flows}
 use Rattle.prl_replay.specs.Outputs.{out_flows}
 

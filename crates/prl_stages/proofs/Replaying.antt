@@ -9,7 +9,7 @@ use Rattle.prl_track.specs.declared.seen.Seen.{Seen}
 use Rattle.prl_flow.specs.Vocabulary.{AreUpTo, actuator_text, FlatProgram, IsFlat, Rows, IsOrder, IsSolution}
 use Rattle.prl_flow.specs.declared.programs.OutFlow.{OutFlow}
 use Rattle.prl_behaviours.specs.Behaviours.{Satisfies, state_in}
-use Rattle.prl_solutions.specs.Vocabulary.{ExactlyOne, clocks_in}
+use Rattle.prl_behaviours.specs.Vocabulary.{ExactlyOne, clocks_in}
 use Rattle.prl_graph.specs.TaskGraphs.{IsGraphOf}
 use Rattle.prl_core.specs.Cores.{opened, opened_on}
 use Rattle.prl_names.specs.Uses.{used_imports}
@@ -17,7 +17,7 @@ use Rattle.prl_plan.specs.Vocabulary.{HasPlanFacts, Placement, alone, constants_
 use Rattle.prl_plan.specs.declared.events.Event.{Event}
 use Rattle.prl_plan.specs.declared.horizons.Horizon.{Horizon}
 use Rattle.prl_expand.specs.Flats.{flat_of}
-use Rattle.prl_results.specs.Shown.{AreShown}
+use Rattle.prl_replay.specs.Shown.{AreShown}
 use Rattle.prl_rule.specs.Known.{known}
 use Rattle.prl_rule.specs.declared.views.Constants.{Constants}
 use Rattle.prl_rule.specs.declared.views.Gate.{Gate}

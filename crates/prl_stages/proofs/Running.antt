@@ -27,14 +27,14 @@ use Rattle.prl_plan.specs.declared.graphs.TaskGraph.{TaskGraph}
 use Rattle.prl_plan.specs.declared.horizons.Horizon.{Horizon}
 use Rattle.prl_board.specs.Closings.{ClosedView}
 use Rattle.prl_exec.specs.Runs.{HasEnded}
-use Rattle.prl_results.specs.Shown.{AreShown}
+use Rattle.prl_replay.specs.Shown.{AreShown}
 use Rattle.prl_rule.specs.Known.{known}
 use Rattle.prl_rule.specs.declared.views.Gate.{Gate}
 use Rattle.prl_rule.specs.declared.views.Gate.TheVariants as gates
 use Rattle.prl_schedules.specs.Vocabulary.{IsDispatched, text_of_reads, schedule_of, task_names}
 use Rattle.prl_sensors.specs.Facts.{AreRowsFor}
 use Rattle.prl_sensors.specs.SensorRows.{Inputs, sensors_of}
-use Rattle.prl_solutions.specs.Vocabulary.{AreTypedRows, HaveTypedBodies, clocks_in, values_in, ExactlyOne}
+use Rattle.prl_behaviours.specs.Vocabulary.{AreTypedRows, HaveTypedBodies, clocks_in, values_in, ExactlyOne}
 use Rattle.prl_types.specs.Typing.{IsTyped}
 use Rattle.prl_values.specs.Vocabulary.{HaveTaskBodies, HaveTypedRows, AreJobValues, JobValues, job_values, value_on}
 use Rattle.prl_stages.specs.declared.faults.InputFile.TheVariants as parts

@@ -1,7 +1,7 @@
 -- Whether one processor can meet the dates of a program's plan with the WCETs.
 use Rattle.std.specs.Prelude.{◌≡◌, ℕ, List}
 use Rattle.prl_edf.specs.declared.analysis.Verdict.{Verdict}
-use Rattle.prl_demand.specs.Demand.{wcets_of}
+use Rattle.prl_overlaps.specs.Demand.{wcets_of}
 use Rattle.prl_edf.specs.Verdicts.{IsVerdict}
 use Rattle.prl_edf.specs.VerdictTexts.{verdict_line}
 use Rattle.prl_plan.specs.declared.horizons.Horizon.{Horizon}

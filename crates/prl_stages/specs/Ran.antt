@@ -20,7 +20,7 @@ use Rattle.prl_plan.specs.Plans.{PlanView}
 use Rattle.prl_plan.specs.Rules.{IsComplete, IsGated}
 use Rattle.prl_plan.specs.Runs.{opening, after_events}
 use Rattle.prl_replay.specs.Replays.{IsTrace}
-use Rattle.prl_results.specs.Shown.{AreShown}
+use Rattle.prl_replay.specs.Shown.{AreShown}
 use Rattle.prl_rule.specs.declared.views.Constants.{Constants}
 use Rattle.prl_rule.specs.declared.views.Gate.{Gate}
 use Rattle.prl_rule.specs.declared.views.Gate.TheVariants as gates

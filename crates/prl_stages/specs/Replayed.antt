@@ -21,7 +21,7 @@ use Rattle.prl_plan.specs.Plans.{PlanView, edge_at}
 use Rattle.prl_schedules.specs.ReadTexts.{text_of_reads}
 use Rattle.prl_schedules.specs.Schedules.{schedule_of}
 use Rattle.prl_schedules.specs.ScheduleTexts.{task_names}
-use Rattle.prl_solutions.specs.Conditions.{clocks_in}
+use Rattle.prl_behaviours.specs.Conditions.{clocks_in}
 use Rattle.prl_replay.specs.declared.faults.ReplayFault.{ReplayFault}
 use Rattle.prl_replay.specs.declared.faults.ReplayFault.TheVariants as causes
 use Rattle.prl_replay.specs.Replays.{IsReplayFault, IsTrace}

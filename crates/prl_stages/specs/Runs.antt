@@ -20,8 +20,8 @@ use Rattle.prl_flow.specs.States.{Timed}
 use Rattle.prl_behaviours.specs.Asked.{outputs_of}
 use Rattle.prl_behaviours.specs.Behaviours.{Satisfies, state_in}
 use Rattle.prl_behaviours.specs.Texts.{node_at}
-use Rattle.prl_solutions.specs.Conditions.{clocks_in}
-use Rattle.prl_solutions.specs.Uniqueness.{ExactlyOne}
+use Rattle.prl_behaviours.specs.Conditions.{clocks_in}
+use Rattle.prl_behaviours.specs.Uniqueness.{ExactlyOne}
 use Rattle.prl_evaluation.specs.declared.evaluation.TheConstants.{MAX_VALUES}
 use Rattle.prl_sensors.specs.SensorRows.{Inputs, sensors_of}
 use Rattle.prl_sensors.specs.declared.faults.SensorFault.{SensorFault}

@@ -14,7 +14,7 @@ ghost use Rattle.prl_stages.specs.Flattened.{RefusesCausality};
 ghost use Rattle.prl_stages.specs.Given.{Folder, Given as AnyGiven, IsGivenTo};
 ghost use Rattle.prl_ast.specs.Trees.{ProgramTree};
 ghost use Rattle.prl_behaviours.specs.Behaviours.{Satisfies};
-ghost use Rattle.prl_solutions.specs.Uniqueness.{ExactlyOne};
+ghost use Rattle.prl_behaviours.specs.Uniqueness.{ExactlyOne};
 ghost use Rattle.prl_stages.specs.Parts.{AreBodies, IsMain};
 ghost use Rattle.prl_stages.specs.Runs.{HasRows};
 ghost use Rattle.prl_stages.specs.Scheduled.{HasHorizon, IsScheduleText};
@@ -33,7 +33,9 @@ ghost use Rattle.prl_stages.specs.declared.faults.InputFile.{InputFile as AnyPar
 use crate::faults::Fault;
 use crate::stages::Stage;
 use prl_arguments::Mode;
-use prl_behaviours::{behaviours_are_of_their_states, solutions_are_of_their_clocks};
+use prl_behaviours::{
+    behaviours_are_of_their_states, programs_have_one_solution, solutions_are_of_their_clocks,
+};
 use prl_body::{each_list_of_bodies_has_an_outcome, used_imports_have_bodies};
 use prl_bodytext::each_text_has_one_outcome as bodies_outcome;
 use prl_buffers::cells_or_fault_exist;
@@ -62,7 +64,6 @@ use prl_print::programs_are_in_range;
 use prl_replay::{actuators_get_the_outputs, placed_lists_are_replayed, replays_end_one_way};
 use prl_schedules::plans_are_dispatched;
 use prl_sensors::{each_text_has_rows_or_a_fault, rows_are_typed_and_enough};
-use prl_solutions::programs_have_one_solution;
 use prl_syntax::each_text_has_one_outcome as programs_outcome;
 use prl_table::{
     checks_end_one_way, made_table_is_good, made_tables_are_one, makes_end_one_way,

@@ -9,7 +9,7 @@ use Rattle.prl_edf.specs.declared.analysis.Verdict.TheVariants as verdicts
 use Rattle.prl_edf.specs.declared.runs.Timed.{Timed}
 use Rattle.prl_edf.specs.Outcomes.{IsFeasibleRun}
 use Rattle.prl_edf.specs.Pieces.{run_of}
-use Rattle.prl_demand.specs.Demand.{wcets_of}
+use Rattle.prl_overlaps.specs.Demand.{wcets_of}
 use Rattle.prl_edf.specs.Verdicts.{IsVerdict}
 use Rattle.prl_table.specs.declared.making.MakeFault.{MakeFault}
 use Rattle.prl_table.specs.declared.making.MakeFault.TheVariants as faults

@@ -11,7 +11,7 @@ pub struct Acted {
 }
 
 /// What an event did.
-#[derive(Clone, Copy, PartialEq, Eq)]
+#[derive(Clone, Copy)]
 pub enum Seen {
     /// The clock shows this tick.
     Ticked(u64),

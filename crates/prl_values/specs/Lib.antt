@@ -4,4 +4,6 @@ pub mod JobValues
 pub mod Fitting
 -- when a body runs
 pub mod BodyRuns
+-- what a worker keeps, asks for and does
+pub mod Workers
 pub mod Vocabulary

@@ -7,7 +7,7 @@ use Rattle.prl_plan.specs.Horizons.{IsHorizon, Placement, constants_of}
 use Rattle.prl_plan.specs.Plans.{PlanView, release_at}
 use Rattle.prl_edf.specs.declared.analysis.Verdict.TheVariants as verdicts
 use Rattle.prl_edf.specs.declared.pieces.Piece.{Piece}
-use Rattle.prl_demand.specs.Demand.{wcets_of}
+use Rattle.prl_overlaps.specs.Demand.{wcets_of}
 use Rattle.prl_edf.specs.Verdicts.{IsVerdict}
 use Rattle.prl_cores.specs.Spreads.{IsSpreadOf, LeavesRoom, SpreadView}
 use Rattle.prl_overlaps.specs.declared.entries.Entry.{Entry}

@@ -13,3 +13,7 @@ pub mod Listed
 mod SomeWord
 mod WordsEnd
 mod Examples
+mod PrecedingNumbers
+mod WordPeriods
+mod HorizonNumbers
+mod FirstItems

@@ -3,13 +3,14 @@
 ghost use Rattle.prl_ast.specs.Vocabulary.{IsInRange, program_tree};
 
 use prl_ast::Program;
-use prl_base::{FlowNo, Op, Value, push_number};
+use prl_base::{FlowNo, Op, Value};
 use prl_expand::expand;
 use prl_flow::{App, Def, Flat, Flow};
 use prl_print::programs_are_in_range;
 use prl_syntax::parse;
 use prl_types::check_names_types;
 use std::alloc::{AllocError, Global};
+use std::fmt::Write;
 use std::test::*;
 
 /// The expansion of the program's last node; none where its names or types are wrong.
@@ -23,15 +24,16 @@ fn expanded(alloc: Global, program: &Program) -> Option<Flat>
 }
 
 /// The flat program of the text.
-fn flat_of(alloc: Global, text: &[u8]) -> Result<Flat, Fail> {
+fn flat_of(alloc: Global, text: &[u8]) -> Option<Flat> {
     if text.len() > 10_000_000 {
-        return Err("too long".into());
+        return None;
     }
-    let program = parse(alloc, text)?;
-    programs_are_in_range();
-    match expanded(alloc, &program) {
-        Some(flat) => Ok(flat),
-        None => Err("not expanded".into()),
+    match parse(alloc, text) {
+        Ok(program) => {
+            programs_are_in_range();
+            expanded(alloc, &program)
+        }
+        Err(_) => None,
     }
 }
 
@@ -46,26 +48,31 @@ fn other_label(flows: &[Flow], labels: &[&str]) -> Option<usize> {
     None
 }
 
+/// A definition by its letter: a number, an output, a constant and an operator, where it has them.
+fn def_fields(def: &Def) -> (u8, u32, u32, Option<Value>, Option<Op>) {
+    match *def {
+        Def::Sensor(sensor) => (b's', sensor, 0, None, None),
+        Def::Copy(of) => (b'=', of.0, 0, None, None),
+        Def::Const(value) => (b'c', 0, 0, Some(value), None),
+        Def::Apply { app, out } => (b'a', app, out, None, None),
+        Def::Op { op, of } => (b'o', of.0, 0, None, Some(op)),
+    }
+}
+
 /// The number of the first of some flows that has another definition.
 fn other_def(flows: &[Flow], defs: &[(usize, Def)]) -> Option<usize> {
     for (k, def) in defs {
         match flows.get(*k) {
-            Some(flow) if flow.def == *def => {}
+            Some(flow) if def_fields(&flow.def) == def_fields(def) => {}
             _ => return Some(*k),
         }
     }
     None
 }
 
-/// Fails where flows have other labels, or some of them other definitions.
-fn compare(flows: &[Flow], labels: &[&str], defs: &[(usize, Def)]) -> Result<(), Fail> {
-    if other_label(flows, labels).is_some() {
-        return Err("another label".into());
-    }
-    if other_def(flows, defs).is_some() {
-        return Err("another definition".into());
-    }
-    Ok(())
+/// Whether flows have these labels, and some of them these definitions.
+fn are(flows: &[Flow], labels: &[&str], defs: &[(usize, Def)]) -> bool {
+    other_label(flows, labels).is_none() && other_def(flows, defs).is_none()
 }
 
 const TWICE: &[u8] = b"sensor i wcet 1;
@@ -100,9 +107,12 @@ const DEFS_OF_TWICE: [(usize, Def); 6] = [
 ];
 
 #[test]
-fn flows_of_twice(rt: HostRuntime) -> Result<(), Fail> {
-    let flat = flat_of(rt.alloc(), TWICE)?;
-    compare(flat.flows(), &LABELS_OF_TWICE, &DEFS_OF_TWICE)
+fn flows_of_twice(rt: HostRuntime) {
+    let is_right = match flat_of(rt.alloc(), TWICE) {
+        Some(flat) => are(flat.flows(), &LABELS_OF_TWICE, &DEFS_OF_TWICE),
+        None => false,
+    };
+    assert!(rt; is_right);
 }
 
 // The node g in the argument is entered before h, which comes after the constant.
@@ -168,64 +178,68 @@ fn is_of_one(apps: &[App], flow: FlowNo) -> bool {
     }
 }
 
-/// Fails with what is another in the expansion of nested nodes.
-fn compare_nested(flat: &Flat) -> Result<(), Fail> {
-    compare(flat.flows(), &LABELS_OF_NESTED, &DEFS_OF_NESTED)?;
-    if !is_declared(flat.flows()) {
-        return Err("another declaration".into());
-    }
-    if !is_of_one(flat.apps(), FlowNo(10)) {
-        return Err("another application".into());
-    }
-    Ok(())
+/// Whether this is the expansion of nested nodes.
+fn is_nested(flat: &Flat) -> bool {
+    are(flat.flows(), &LABELS_OF_NESTED, &DEFS_OF_NESTED)
+        && is_declared(flat.flows())
+        && is_of_one(flat.apps(), FlowNo(10))
 }
 
 #[test]
-fn nested_nodes_groups_and_two_outputs(rt: HostRuntime) -> Result<(), Fail> {
-    let flat = flat_of(rt.alloc(), NESTED)?;
-    compare_nested(&flat)
+fn nested_nodes_groups_and_two_outputs(rt: HostRuntime) {
+    let is_right = match flat_of(rt.alloc(), NESTED) {
+        Some(flat) => is_nested(&flat),
+        None => false,
+    };
+    assert!(rt; is_right);
 }
+
+/// 62 parentheses that begin, and 62 that end.
+const BEGINS: &str = "((((((((((((((((((((((((((((((((((((((((((((((((((((((((((((((";
+
+const ENDS: &str = "))))))))))))))))))))))))))))))))))))))))))))))))))))))))))))))";
 
 /// Adds node `k`, which applies the one before it in 62 parentheses.
-fn push_node(text: &mut Vec<u8>, k: u64) -> Result<(), AllocError> {
-    text.extend_from_slice(b"node n".as_slice())?;
-    push_number(text, k)?;
-    text.extend_from_slice(b" (x) returns (y) let y = ".as_slice())?;
-    text.extend_from_slice([b'('; 62].as_slice())?;
-    text.push(b'n')?;
-    push_number(text, k.saturating_sub(1))?;
-    text.extend_from_slice(b"(x)".as_slice())?;
-    text.extend_from_slice([b')'; 62].as_slice())?;
-    text.extend_from_slice(b"; tel ".as_slice())
+fn push_node(text: &mut String, k: u64) -> Result<(), AllocError> {
+    let before = k.saturating_sub(1);
+    write!(
+        text,
+        "node n{k} (x) returns (y) let y = {BEGINS}n{before}(x){ENDS}; tel "
+    )
 }
 
-/// 255 nodes, each of which applies the one before it in 62 parentheses; main applies the last.
-fn deepest(alloc: Global) -> Result<Vec<u8>, AllocError> {
-    let mut text = Vec::from_slice(
-        alloc,
-        b"sensor i wcet 1; actuator o wcet 1; node n0 (x) returns (y) let y = x; tel ".as_slice(),
-    )?;
+/// Adds 255 nodes, each of which applies the one before it in 62 parentheses; main applies the last.
+fn push_deepest(text: &mut String) -> Result<(), AllocError> {
+    text.push_str("sensor i wcet 1; actuator o wcet 1; node n0 (x) returns (y) let y = x; tel ")?;
     for k in 1..255 {
-        push_node(&mut text, k)?;
+        push_node(text, k)?;
     }
-    text.extend_from_slice(
-        b"node main (i: int rate (10, 0)) returns (o) let o = n254(i); tel".as_slice(),
-    )?;
-    Ok(text)
+    text.push_str("node main (i: int rate (10, 0)) returns (o) let o = n254(i); tel")
 }
 
-/// Fails where there are not so many flows, or the last one has another label.
-fn compare_last(flows: &[Flow], count: usize, label: &str) -> Result<(), Fail> {
+/// The flat program of these nodes.
+fn deepest(alloc: Global) -> Option<Flat> {
+    let mut text = String::new(alloc);
+    match push_deepest(&mut text) {
+        Ok(()) => flat_of(alloc, text.as_bytes()),
+        Err(_) => None,
+    }
+}
+
+/// Whether there are so many flows, and the last one has this label.
+fn ends_with(flows: &[Flow], count: usize, label: &str) -> bool {
     match flows.last() {
-        Some(flow) if flows.len() == count && flow.label.bytes() == label.as_bytes() => Ok(()),
-        _ => Err("another last flow".into()),
+        Some(flow) => flows.len() == count && flow.label.bytes() == label.as_bytes(),
+        None => false,
     }
 }
 
 #[test]
-fn deepest_program_that_is_accepted(rt: HostRuntime) -> Result<(), Fail> {
+fn deepest_program_that_is_accepted(rt: HostRuntime) {
     // Of 255 nodes and main each has two flows.
-    let text = deepest(rt.alloc())?;
-    let flat = flat_of(rt.alloc(), text.as_slice())?;
-    compare_last(flat.flows(), 512, "n0#254.y")
+    let is_right = match deepest(rt.alloc()) {
+        Some(flat) => ends_with(flat.flows(), 512, "n0#254.y"),
+        None => false,
+    };
+    assert!(rt; is_right);
 }

@@ -1,6 +1,5 @@
-//! Tests of public calls that no command line reaches: look-ups of plans, runs by earliest deadline first with other units than
-//! the WCETs, the machine over events, expansions and generated programs, halves of values, files and sinks; and what tests of
-//! plans share: the plan of a text, its horizon and rows of integers for its sensors, where these serve them.
+//! Tests of public calls that no command line reaches; and what tests of plans share: the plan of a text, its horizon and rows
+//! of integers for its sensors, where these serve them.
 #![tactic(auto)]
 
 mod devices;

@@ -1,6 +1,6 @@
 //! The machine over plans of a sensor and its actuator: what each event tells, and what the actuator got.
 
-ghost use Rattle.std.specs.Prelude.{◌≡◌, [], IfOk, true};
+ghost use Rattle.std.specs.Prelude.{◌≡◌, [], true};
 ghost use Rattle.prl_plan.specs.Horizons.{IsHorizon};
 ghost use Rattle.prl_track.specs.Machine.{Drives};
 ghost use Rattle.prl_values.specs.Fitting.{HaveTaskBodies, HaveTypedRows};
@@ -35,32 +35,60 @@ fn drives(plan: &Plan) -> bool
     tasks.len() > 1 && tasks[1].kind == Kind::Actuator(0)
 }
 
-/// The plan of a sensor with these rows and its actuator, and the horizon up to a date.
-fn ready(
-    alloc: Global,
-    plan: &[u8],
-    rows: &[Value],
-    until: u32,
-) -> Result<(Plan, Sensors, Horizon), Fail>
-    ensures drives { IfOk result (λ r. Drives r.0 1 0) }
-    ensures horizon { IfOk result (λ r. IsHorizon r.0 r.2) }
-    ensures bodies { IfOk result (λ r. HaveTaskBodies r.0.graph []) }
-    ensures rows { IfOk result (λ r. HaveTypedRows r.0.graph r.2.until r.1) }
-{
-    let made = plan_served(alloc, plan, 1, rows, until)?;
-    if drives(&made.0) {
-        Ok(made)
-    } else {
-        Err("another plan".into())
+/// What an event tells: a letter; task (or the date of a tick), job, port, edge, instance and cell, or 0; and its value.
+type Fields = (u8, [u64; 6], Option<Value>);
+
+/// What is told of a half, or of a whole write.
+fn cell_fields(kind: u8, task: TaskNo, job: u64, edge: EdgeNo, cell: CellNo) -> Fields {
+    let (edge, cell) = (edge.0 as u64, cell.0 as u64);
+    (kind, [task.0 as u64, job, 0, edge, 0, cell], None)
+}
+
+fn fields(seen: Seen) -> Fields {
+    match seen {
+        Seen::Ticked(now) => (b't', [now, 0, 0, 0, 0, 0], None),
+        Seen::Read {
+            task,
+            job,
+            port,
+            edge,
+            instance,
+            cell,
+            value,
+        } => {
+            let (edge, cell) = (edge.0 as u64, cell.0 as u64);
+            let numbers = [task.0 as u64, job, port as u64, edge, instance, cell];
+            (b'r', numbers, Some(value))
+        }
+        Seen::ReadConst {
+            task,
+            job,
+            port,
+            value,
+        } => {
+            let numbers = [task.0 as u64, job, port as u64, 0, 0, 0];
+            (b'c', numbers, Some(value))
+        }
+        Seen::Half {
+            task,
+            job,
+            edge,
+            cell,
+        } => cell_fields(b'h', task, job, edge, cell),
+        Seen::Wrote {
+            task,
+            job,
+            edge,
+            cell,
+        } => cell_fields(b'w', task, job, edge, cell),
+        Seen::Ended { task, job } => (b'e', [task.0 as u64, job, 0, 0, 0, 0], None),
     }
 }
 
-/// What the last event of a list told; or the number of the first that is refused, from 1, and the
-/// rule that it breaks.
-type Told = Result<Option<Seen>, (usize, Rule)>;
+/// What the last event of a list told; or the number of the first that is refused, from 1, and the rule that it breaks.
+type Told = Result<Option<Fields>, (usize, Rule)>;
 
-/// Does the events of a list in which `t` is a tick, `0` an act of task 0 and `1` one of task 1, up to the first that is
-/// refused.
+/// Does the events of a list, where `t` is a tick, and `0` and `1` are acts of tasks 0 and 1, up to the first that is refused.
 fn play(core: &mut Core<'_>, events: &[u8]) -> Told
     requires { Drives core.old.plan 1 0 }
     ensures { Drives core.new.plan 1 0 }
@@ -73,14 +101,13 @@ fn play(core: &mut Core<'_>, events: &[u8]) -> Told
             _ => Event::Act(TaskNo(1)),
         };
         match core.step(event) {
-            Ok(seen) => last = Some(seen),
+            Ok(seen) => last = Some(fields(seen)),
             Err(Illegal { rule }) => return Err((k + 1, rule)),
         }
     }
     Ok(last)
 }
 
-/// What comes of a list of events.
 #[derive(Clone, Copy)]
 struct Outcome {
     told: Told,
@@ -89,6 +116,20 @@ struct Outcome {
     /// Whether the actuator got just the values that are wanted.
     is_output: bool,
     has_machine: bool,
+}
+
+/// Plays a list on a machine.
+fn outcome_on(core: &mut Core<'_>, events: &[u8], output: &[Value]) -> Outcome
+    requires { Drives core.old.plan 1 0 }
+{
+    let told = play(core, events);
+    Outcome {
+        told,
+        finished: core.finished(),
+        next: core.next(),
+        is_output: core.output(0) == output,
+        has_machine: core.machine(TaskNo(1)).is_some(),
+    }
 }
 
 /// Plays a list on a plan with these rows, up to a horizon. No task runs a body.
@@ -106,15 +147,10 @@ fn played(
     requires rows { HaveTypedRows plan.now.graph horizon.until sensors.now }
 {
     let bodies = Bodies::none(alloc);
-    let mut core = Core::new(alloc, plan, &bodies, sensors, horizon)?;
-    let told = play(&mut core, events);
-    Ok(Outcome {
-        told,
-        finished: core.finished(),
-        next: core.next(),
-        is_output: core.output(0) == output,
-        has_machine: core.machine(TaskNo(1)).is_some(),
-    })
+    match Core::new(alloc, plan, &bodies, sensors, horizon) {
+        Ok(mut core) => Ok(outcome_on(&mut core, events, output)),
+        Err(_) => Err("no memory".into()),
+    }
 }
 
 /// Plays a list on the plan of a sensor with these rows and its actuator, up to a date.
@@ -126,14 +162,20 @@ fn outcome_of(
     events: &[u8],
     output: &[Value],
 ) -> Result<Outcome, Fail> {
-    let made = ready(alloc, plan, rows, until)?;
-    played(alloc, &made.0, &made.1, made.2, events, output)
+    match plan_served(alloc, plan, 1, rows, until) {
+        Ok(made) => {
+            if drives(&made.0) {
+                return played(alloc, &made.0, &made.1, made.2, events, output);
+            }
+            Err("another plan".into())
+        }
+        Err(fail) => Err(fail),
+    }
 }
 
 const ONE_AND_TWO: [Value; 2] = [Value::Int(1), Value::Int(2)];
 
-/// The number of the first of these lists, up to 20 with the rows 1 and 2, after which another
-/// thing is told.
+/// The number of the first of these lists, up to 20 with the rows 1 and 2, after which another thing is told.
 fn other_told(alloc: Global, plan: &[u8], lists: &[(&[u8], Told)]) -> Result<Option<usize>, Fail> {
     for (k, (events, told)) in lists.iter().enumerate() {
         let outcome = outcome_of(alloc, plan, ONE_AND_TWO.as_slice(), 20, events, &[])?;
@@ -144,55 +186,18 @@ fn other_told(alloc: Global, plan: &[u8], lists: &[(&[u8], Told)]) -> Result<Opt
     Ok(None)
 }
 
+const ONE: Option<Value> = Some(Value::Int(1));
+
+const NINE: Option<Value> = Some(Value::Int(9));
+
 /// What is told of copies: a write and a read by halves, an end and a tick.
 const COPIES: [(&[u8], Told); 6] = [
-    (
-        b"0",
-        Ok(Some(Seen::Half {
-            task: TaskNo(0),
-            job: 0,
-            edge: EdgeNo(0),
-            cell: CellNo(0),
-        })),
-    ),
-    (
-        b"00",
-        Ok(Some(Seen::Wrote {
-            task: TaskNo(0),
-            job: 0,
-            edge: EdgeNo(0),
-            cell: CellNo(0),
-        })),
-    ),
-    (
-        b"000",
-        Ok(Some(Seen::Ended {
-            task: TaskNo(0),
-            job: 0,
-        })),
-    ),
-    (b"000t", Ok(Some(Seen::Ticked(1)))),
-    (
-        b"000t1",
-        Ok(Some(Seen::Half {
-            task: TaskNo(1),
-            job: 0,
-            edge: EdgeNo(0),
-            cell: CellNo(0),
-        })),
-    ),
-    (
-        b"000t11",
-        Ok(Some(Seen::Read {
-            task: TaskNo(1),
-            job: 0,
-            port: 0,
-            edge: EdgeNo(0),
-            instance: 0,
-            cell: CellNo(0),
-            value: Value::Int(1),
-        })),
-    ),
+    (b"0", Ok(Some((b'h', [0, 0, 0, 0, 0, 0], None)))),
+    (b"00", Ok(Some((b'w', [0, 0, 0, 0, 0, 0], None)))),
+    (b"000", Ok(Some((b'e', [0, 0, 0, 0, 0, 0], None)))),
+    (b"000t", Ok(Some((b't', [1, 0, 0, 0, 0, 0], None)))),
+    (b"000t1", Ok(Some((b'h', [1, 0, 0, 0, 0, 0], None)))),
+    (b"000t11", Ok(Some((b'r', [1, 0, 0, 0, 0, 0], ONE)))),
 ];
 
 #[test]
@@ -201,38 +206,16 @@ fn writes_and_reads_are_told_by_halves(rt: HostRuntime) -> Result<(), Fail> {
     Ok(())
 }
 
-/// What is told of values that come one period late: the constant, then the first instance, while
-/// the second is written.
+/// What is told of values that come one period late: the constant, then the first instance, while the second is written.
 const LATE: [(&[u8], Told); 3] = [
-    (
-        b"0001",
-        Ok(Some(Seen::ReadConst {
-            task: TaskNo(1),
-            job: 0,
-            port: 0,
-            value: Value::Int(9),
-        })),
-    ),
+    (b"0001", Ok(Some((b'c', [1, 0, 0, 0, 0, 0], NINE)))),
     (
         b"00011tttttttttt00011",
-        Ok(Some(Seen::Read {
-            task: TaskNo(1),
-            job: 1,
-            port: 0,
-            edge: EdgeNo(0),
-            instance: 0,
-            cell: CellNo(0),
-            value: Value::Int(1),
-        })),
+        Ok(Some((b'r', [1, 1, 0, 0, 0, 0], ONE))),
     ),
     (
         b"00011tttttttttt00",
-        Ok(Some(Seen::Wrote {
-            task: TaskNo(0),
-            job: 1,
-            edge: EdgeNo(0),
-            cell: CellNo(1),
-        })),
+        Ok(Some((b'w', [0, 1, 0, 0, 0, 1], None))),
     ),
 ];
 
@@ -242,28 +225,36 @@ fn a_constant_is_read_before_instances(rt: HostRuntime) -> Result<(), Fail> {
     Ok(())
 }
 
-/// Whether all is done, and the actuator got just what is wanted.
-fn is_whole(outcome: Outcome) -> bool {
-    outcome.finished == Ok(()) && outcome.is_output
+/// What is left to be done, and what comes next.
+type Left = (Result<(), Unfinished>, Option<Event>);
+
+const NOTHING: Left = (Ok(()), None);
+
+/// Whether a list up to 20 with the rows 1 and 2 leaves this, and the actuator, whose task runs no machine, got just this.
+fn leaves(
+    alloc: Global,
+    plan: &[u8],
+    events: &[u8],
+    got: &[Value],
+    left: Left,
+) -> Result<bool, Fail> {
+    let made = outcome_of(alloc, plan, ONE_AND_TWO.as_slice(), 20, events, got)?;
+    Ok(made.is_output && made.finished == left.0 && made.next == left.1 && !made.has_machine)
 }
 
 #[test]
 fn an_actuator_gets_the_values_in_order(rt: HostRuntime) -> Result<(), Fail> {
     let alloc = rt.alloc();
-    let rows = ONE_AND_TWO.as_slice();
     let whole = b"000t111ttttttttt000t111";
-    let copied = outcome_of(alloc, COPIED_PLAN, rows, 20, whole, rows)?;
-    assert!(rt; is_whole(copied) && copied.next == None && !copied.has_machine);
-    let half = outcome_of(alloc, COPIED_PLAN, rows, 20, b"000t11", &[])?;
-    let left = Unfinished {
+    assert!(rt; leaves(alloc, COPIED_PLAN, whole, ONE_AND_TWO.as_slice(), NOTHING)?);
+    let job = Unfinished {
         task: TaskNo(0),
         job: 1,
     };
-    assert!(rt; half.is_output && half.finished == Err(left));
-    assert!(rt; half.next == Some(Event::Act(TaskNo(1))));
+    let left = (Err(job), Some(Event::Act(TaskNo(1))));
+    assert!(rt; leaves(alloc, COPIED_PLAN, b"000t11", &[], left)?);
     let nine_and_one = [Value::Int(9), Value::Int(1)];
-    let whole = b"00011tttttttttt000111";
-    let late = outcome_of(alloc, LATE_PLAN, rows, 20, whole, nine_and_one.as_slice())?;
-    assert!(rt; is_whole(late));
+    let late = b"00011tttttttttt000111";
+    assert!(rt; leaves(alloc, LATE_PLAN, late, nine_and_one.as_slice(), NOTHING)?);
     Ok(())
 }

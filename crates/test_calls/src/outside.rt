@@ -10,127 +10,122 @@ use std::io::{ErrorKind, Write};
 use std::test::Fail;
 use std::{fs, io};
 
-fn bytes(alloc: Global, text: &str) -> Result<Vec<u8>, AllocError> {
-    Vec::from_slice(alloc, text.as_bytes())
-}
+/// A file's name, how many bytes it may have, and its bytes or how its reading fails.
+type Reading = (&'static str, u64, Result<&'static str, FileFault>);
 
-fn label(alloc: Global, text: &str) -> Result<Label, AllocError> {
-    Label::new(alloc, text.as_bytes())
-}
-
-/// Reads a file of either kind, through the trait.
-fn read<F: Files>(
-    files: &mut F,
-    alloc: Global,
-    name: &str,
-    most: u64,
-) -> Result<Vec<u8>, FileFault> {
-    match label(alloc, name) {
-        Ok(name) => files.read(alloc, &name, most),
-        Err(_) => Err(FileFault::Memory),
+/// Whether a reading of a file of either kind, through the trait, gives these bytes, or fails so.
+fn gives<F: Files>(files: &mut F, alloc: Global, reading: Reading) -> Result<bool, AllocError> {
+    let name = Label::new(alloc, reading.0.as_bytes())?;
+    match files.read(alloc, &name, reading.1) {
+        Ok(bytes) => Ok(reading.2 == Ok(str::from_utf8(bytes.as_slice()).unwrap_or("no text"))),
+        Err(fault) => Ok(reading.2 == Err(fault)),
     }
 }
 
-/// Whether a reading gives these bytes, or fails so.
-fn gives<F: Files>(
+/// The number of the first of these readings, one after another, that gives something else.
+fn other_reading<F: Files>(
     files: &mut F,
     alloc: Global,
-    name: &str,
-    most: u64,
-    wanted: Result<&str, FileFault>,
-) -> bool {
-    match (read(files, alloc, name, most), wanted) {
-        (Ok(bytes), Ok(text)) => bytes.as_slice() == text.as_bytes(),
-        (Err(fault), Err(other)) => fault == other,
-        _ => false,
+    readings: &[Reading],
+) -> Result<Option<usize>, AllocError> {
+    for (k, reading) in readings.iter().enumerate() {
+        if !gives(files, alloc, *reading)? {
+            return Ok(Some(k));
+        }
     }
+    Ok(None)
+}
+
+/// Adds a file `a` of this text.
+fn add(alloc: Global, files: &mut Vec<(Label, Vec<u8>)>, text: &str) -> Result<(), AllocError> {
+    let text = Vec::from_slice(alloc, text.as_bytes())?;
+    Ok(files.push((Label::new(alloc, b"a")?, text))?)
 }
 
 /// Two files of one name, of which the fourth reading fails.
 fn two_files(alloc: Global) -> Result<MemFiles, AllocError> {
-    let entries = vec![in alloc;
-        (label(alloc, "a")?, bytes(alloc, "one")?),
-        (label(alloc, "a")?, bytes(alloc, "two")?),
-    ]?;
-    Ok(MemFiles::new(entries, vec![in alloc; 3]?))
+    let fails = vec![in alloc; 3]?;
+    let mut files = Vec::new(alloc);
+    add(alloc, &mut files, "one")?;
+    add(alloc, &mut files, "two")?;
+    Ok(MemFiles::new(files, fails))
+}
+
+/// What five readings of two files in memory give.
+const IN_MEMORY: [Reading; 5] = [
+    ("a", 3, Ok("one")),
+    ("a", 2, Err(FileFault::TooLong)),
+    ("b", 3, Err(FileFault::Absent)),
+    ("a", 3, Err(FileFault::Failed)),
+    ("a", 3, Ok("one")),
+];
+
+/// The number of the first of the five readings that gives something else.
+fn other_of_two(alloc: Global) -> Result<Option<usize>, AllocError> {
+    let mut files = two_files(alloc)?;
+    other_reading(&mut files, alloc, &IN_MEMORY)
 }
 
 #[test]
 fn files_in_memory(rt: HostRuntime) -> Result<(), Fail> {
-    let alloc = rt.alloc();
-    let mut files = two_files(alloc)?;
-    let are_right = gives(&mut files, alloc, "a", 3, Ok("one"))
-        && gives(&mut files, alloc, "a", 2, Err(FileFault::TooLong))
-        && gives(&mut files, alloc, "b", 3, Err(FileFault::Absent))
-        && gives(&mut files, alloc, "a", 3, Err(FileFault::Failed))
-        && gives(&mut files, alloc, "a", 3, Ok("one"));
-    assert!(rt; are_right);
+    assert!(rt; other_of_two(rt.alloc())? == None);
     Ok(())
 }
 
-/// Whether a sink whose third write fails, and that takes four bytes at most, has what was written up to then, and what is
-/// written later.
-fn fails_at_the_third_write(sink: &mut MemSink) -> bool {
-    let first = write_all(sink, b"o,0,0,1\no,1,10,2\n");
+/// Whether a sink whose third write fails, and that takes four bytes at most, has what was written up to then, and later.
+fn fails_at_the_third_write(alloc: Global) -> Result<bool, AllocError> {
+    let mut sink = MemSink::new(alloc, 1000, 4, vec![in alloc; 2]?)?;
+    let first = write_all(&mut sink, b"o,0,0,1\no,1,10,2\n");
     let has_first = sink.bytes() == b"o,0,0,1\n".as_slice();
-    let later = write_pieces(sink, &[b"o,".as_slice(), b"1".as_slice()]);
-    first == Err(Failed)
-        && has_first
-        && later == Ok(())
-        && sink.bytes() == b"o,0,0,1\no,1".as_slice()
+    let later = write_pieces(&mut sink, &[b"o,".as_slice(), b"1".as_slice()]);
+    let is_written = first == Err(Failed) && has_first && later == Ok(());
+    Ok(is_written && sink.bytes() == b"o,0,0,1\no,1".as_slice())
 }
 
 #[test]
 fn sink_in_memory(rt: HostRuntime) -> Result<(), Fail> {
-    let fails = vec![in rt.alloc(); 2]?;
-    let mut sink = MemSink::new(rt.alloc(), 1000, 4, fails)?;
-    assert!(rt; fails_at_the_third_write(&mut sink));
+    assert!(rt; fails_at_the_third_write(rt.alloc())?);
     Ok(())
 }
 
 /// Whether a sink with room for five bytes takes those and no more.
-fn takes_five(sink: &mut MemSink) -> bool {
+fn takes_five(alloc: Global) -> Result<bool, AllocError> {
+    let mut sink = MemSink::new(alloc, 5, 100, Vec::new(alloc))?;
     let first = sink.write(b"1234567");
     let later = sink.write(b"67");
-    first == Ok(5) && later == Err(Failed) && sink.bytes() == b"12345".as_slice()
+    Ok(first == Ok(5) && later == Err(Failed) && sink.bytes() == b"12345".as_slice())
 }
 
 #[test]
 fn full_sink(rt: HostRuntime) -> Result<(), Fail> {
-    let mut sink = MemSink::new(rt.alloc(), 5, 100, Vec::new(rt.alloc()))?;
-    assert!(rt; takes_five(&mut sink));
+    assert!(rt; takes_five(rt.alloc())?);
     Ok(())
 }
 
+/// What readings of files of the host give, where there is the first.
+const OF_THE_HOST: [Reading; 4] = [
+    ("prl_io_files.txt", 5, Ok("five!")),
+    ("prl_io_files.txt", 4, Err(FileFault::TooLong)),
+    ("prl_io_nothing.txt", 5, Err(FileFault::Absent)),
+    ("/", 5, Err(FileFault::Failed)),
+];
+
 /// Whether a file whose name is no text cannot be read.
-fn fails_without_text<F: Files>(files: &mut F, alloc: Global) -> Result<bool, AllocError> {
-    let no_text = Label::new(alloc, &[255])?;
-    Ok(files.read(alloc, &no_text, 5) == Err(FileFault::Failed))
+fn fails_without_text(rt: &HostRuntime) -> Result<bool, AllocError> {
+    let no_text = Label::new(rt.alloc(), &[255])?;
+    Ok(HostFiles::new(rt).read(rt.alloc(), &no_text, 5) == Err(FileFault::Failed))
+}
+
+/// Whether files of the host are read so.
+fn are_read(rt: &HostRuntime) -> Result<bool, AllocError> {
+    let other = other_reading(&mut HostFiles::new(rt), rt.alloc(), &OF_THE_HOST)?;
+    Ok(other == None && fails_without_text(rt)?)
 }
 
 #[test]
 fn files_of_the_host(rt: HostRuntime) -> Result<(), Fail> {
-    let alloc = rt.alloc();
     fs::write(&rt, "prl_io_files.txt", "five!")?;
-    let mut files = HostFiles::new(&rt);
-    let are_right = gives(&mut files, alloc, "prl_io_files.txt", 5, Ok("five!"))
-        && gives(
-            &mut files,
-            alloc,
-            "prl_io_files.txt",
-            4,
-            Err(FileFault::TooLong),
-        )
-        && gives(
-            &mut files,
-            alloc,
-            "prl_io_nothing.txt",
-            5,
-            Err(FileFault::Absent),
-        )
-        && gives(&mut files, alloc, "/", 5, Err(FileFault::Failed));
-    assert!(rt; are_right);
-    assert!(rt; fails_without_text(&mut files, alloc)?);
+    assert!(rt; are_read(&rt)?);
     fs::remove_file(&rt, "prl_io_files.txt")?;
     Ok(())
 }
@@ -178,12 +173,16 @@ fn are_refused() -> bool {
         && written(0, true, b"") == (Err(Failed), Ok(0))
 }
 
+/// Whether a sink over a vector writes to it.
+fn are_kept(alloc: Global) -> bool {
+    let mut kept = Vec::new(alloc);
+    let all = HostSink::new(&mut kept).write(b"abc");
+    all == Ok(3) && kept.as_slice() == b"abc".as_slice()
+}
+
 #[test]
 fn sink_of_the_host(rt: HostRuntime) -> Result<(), Fail> {
-    let mut kept = Vec::new(rt.alloc());
-    let all = HostSink::new(&mut kept).write(b"abc");
-    assert!(rt; all == Ok(3) && kept.as_slice() == b"abc".as_slice());
-    assert!(rt; are_refused());
+    assert!(rt; are_kept(rt.alloc()) && are_refused());
     Ok(())
 }
 

@@ -1,5 +1,4 @@
-//! Look-ups in the plan of the sampling program: a fast task F between a sensor and an actuator reads a slow task S that
-//! reads it.
+//! Look-ups in the plan of the sampling program, whose fast task is F, and its slow one S.
 
 use crate::lookups::{dates_of, operand_of};
 use crate::{SAMPLING_PLAN, plan_of};
@@ -46,8 +45,7 @@ fn other_dates(plan: &Plan) -> Option<(u32, u64)> {
 }
 
 /// How many cells each edge has.
-// S may write its first instance to F as early as 3, and F's last reader of it may end as late as
-// 59: two cells.
+// S may write its first instance to F as early as 3, and F's last reader of it may end as late as 59: two cells.
 const COUNTS: [u32; 4] = [1, 2, 1, 1];
 
 /// The first of the edges that has another count of cells.

@@ -61,8 +61,10 @@ fn plan_with(alloc: Global, slow: &str) -> Result<Plan, Fail> {
 
 /// What the run of the plan with this WCET of the slow task comes to.
 fn told_with(alloc: Global, slow: &str, most: u32) -> Result<Told, Fail> {
-    let plan = plan_with(alloc, slow)?;
-    told_of(alloc, &plan, most)
+    match plan_with(alloc, slow) {
+        Ok(plan) => told_of(alloc, &plan, most),
+        Err(fail) => Err(fail),
+    }
 }
 
 /// The number of the first of the runs that comes to something else.
@@ -100,6 +102,8 @@ fn count_events(alloc: Global, plan: &Plan, count: usize, ticks: usize) -> Resul
 
 #[test]
 fn run_has_its_acts_and_the_ticks_between(rt: HostRuntime) -> Result<(), Fail> {
-    let plan = plan_of(rt.alloc(), SAMPLING_PLAN.as_bytes())?;
-    count_events(rt.alloc(), &plan, 142, 53)
+    match plan_of(rt.alloc(), SAMPLING_PLAN.as_bytes()) {
+        Ok(plan) => count_events(rt.alloc(), &plan, 142, 53),
+        Err(fail) => Err(fail),
+    }
 }

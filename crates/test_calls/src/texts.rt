@@ -90,8 +90,23 @@ fn horizon_served(plan: &Plan, until: u32, rows: &[Seq<Value>]) -> Result<Horizo
     }
 }
 
-/// The plan of a text, so many sensors with these rows each, and the horizon up to a date, where no
-/// task runs a body.
+/// The plan, the sensors with these rows, and the horizon up to a date, where no task runs a body.
+fn with_rows(
+    plan: Plan,
+    rows: Vec<Seq<Value>>,
+    until: u32,
+) -> Result<(Plan, Sensors, Horizon), Fail>
+    ensures horizon { IfOk result (λ r. IsHorizon r.0 r.2) }
+    ensures bodies { IfOk result (λ r. HaveTaskBodies r.0.graph []) }
+    ensures rows { IfOk result (λ r. HaveTypedRows r.0.graph r.2.until r.1) }
+{
+    match horizon_served(&plan, until, rows.as_slice()) {
+        Ok(horizon) => Ok((plan, Sensors::new(rows), horizon)),
+        Err(fail) => Err(fail),
+    }
+}
+
+/// The plan of a text, so many sensors with these rows each, and the horizon up to a date, where no task runs a body.
 pub fn plan_served(
     alloc: Global,
     text: &[u8],
@@ -104,7 +119,8 @@ pub fn plan_served(
     ensures rows { IfOk result (λ r. HaveTypedRows r.0.graph r.2.until r.1) }
 {
     let rows = rows_of(alloc, sensors, rows)?;
-    let plan = plan_of(alloc, text)?;
-    let horizon = horizon_served(&plan, until, rows.as_slice())?;
-    Ok((plan, Sensors::new(rows), horizon))
+    match plan_of(alloc, text) {
+        Ok(plan) => with_rows(plan, rows, until),
+        Err(fail) => Err(fail),
+    }
 }

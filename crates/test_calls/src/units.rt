@@ -2,7 +2,7 @@
 
 ghost use Rattle.std.specs.Prelude.{◌≡◌, ◌≤◌, ◌<◌, length, map, vec_items, min, IfOk};
 ghost use Rattle.prl_plan.specs.Vocabulary.{IsHorizon, constants_of, task_at};
-ghost use Rattle.prl_demand.specs.Demand.{wcets_of};
+ghost use Rattle.prl_overlaps.specs.Demand.{wcets_of};
 ghost use Rattle.prl_edf.specs.UnitLists.{AreUnitLists};
 
 use prl_base::TaskNo;

@@ -4,7 +4,7 @@ use prl_base::{CellNo, EdgeNo, TaskNo, Value};
 use prl_board::{Gate, Got, Half, Release, Ticked, Wrote};
 
 /// What a task or the clock did.
-#[derive(Clone, Copy, PartialEq, Eq)]
+#[derive(Clone, Copy)]
 pub(crate) enum Did {
     Released(Release),
     Read(Got),
@@ -42,21 +42,47 @@ pub(crate) struct Case {
     pub(crate) shown: Shown,
 }
 
-/// One letter for what was done.
-pub(crate) fn letter_of(did: Did) -> u8 {
+/// What was done: a letter for it, and the numbers that tell more.
+pub(crate) fn told(did: Did) -> (u8, [u64; 3]) {
     match did {
-        Did::Released(Release::Open { .. }) => b'r',
-        Did::Released(Release::Early { .. }) => b'e',
-        Did::Released(Release::Over) => b'v',
-        Did::Read(Got::Half) => b'h',
-        Did::Read(Got::Value(_)) => b'g',
-        Did::Read(Got::NotYet { .. }) => b'n',
-        Did::Read(Got::Overrun { .. }) => b'x',
-        Did::Wrote(_) => b'w',
-        Did::Ended => b'.',
-        Did::Ticked(Ticked::Now(_)) => b't',
-        Did::Ticked(Ticked::Behind { .. }) => b'b',
-        Did::Ticked(Ticked::End) => b'z',
+        Did::Released(Release::Open { job }) => (b'r', [job, 0, 0]),
+        Did::Released(Release::Early { now, at }) => (b'e', [now, at, 0]),
+        Did::Released(Release::Over) => (b'v', [0, 0, 0]),
+        Did::Read(Got::Half) => (b'h', [0, 0, 0]),
+        Did::Read(Got::Value(Value::Int(value))) => {
+            (b'g', [(value < 0) as u64, value.unsigned_abs(), 0])
+        }
+        Did::Read(Got::Value(Value::Bool(value))) => (b'g', [2, value as u64, 0]),
+        Did::Read(
+            Got::NotYet {
+                cell,
+                wanted,
+                found,
+            },
+        ) => (b'n', [cell.0 as u64, wanted as u64, found as u64]),
+        Did::Read(
+            Got::Overrun {
+                cell,
+                wanted,
+                found,
+            },
+        ) => (b'x', [cell.0 as u64, wanted as u64, found as u64]),
+        Did::Wrote(Wrote { edge, cell, half }) => {
+            let high = matches!(half, Half::High) as u64;
+            (b'w', [edge.0 as u64, cell.0 as u64, high])
+        }
+        Did::Ended => (b'.', [0, 0, 0]),
+        Did::Ticked(Ticked::Now(now)) => (b't', [now, 0, 0]),
+        Did::Ticked(Ticked::Behind { task, job }) => (b'b', [task.0 as u64, job, 0]),
+        Did::Ticked(Ticked::End) => (b'z', [0, 0, 0]),
+    }
+}
+
+/// Whether this is what the last move of the case did.
+pub(crate) fn is_last(did: Option<Did>, case: &Case) -> bool {
+    match did {
+        Some(did) => told(did) == told(case.last),
+        None => false,
     }
 }
 

@@ -8,7 +8,7 @@ ghost use Rattle.prl_rule.specs.declared.views.ClockPart.{ClockPart};
 ghost use Rattle.prl_board.specs.Vocabulary.{IsClockOf, AreSeatsOf, IsLoneOf};
 ghost use Rattle.test_threads.specs.Pairs.{IsClosedPair, IsPair};
 
-use crate::cases::{Case, Did, letter_of};
+use crate::cases::{Case, Did, is_last, told};
 use crate::pairs::shown;
 use prl_base::TaskNo;
 use prl_board::{Board, ClockSeat, Closed, Lone, Place, Steps, TaskSeat, gather, open_board};
@@ -75,7 +75,7 @@ fn play<L: Ledger>(lone: &mut Lone, board: &Board, case: &Case, steps: &mut Step
     let mut last = Did::Ended;
     for n in 0..case.moves.len() {
         last = step(lone, board, case.moves[n], steps);
-        if case.letters.get(n) != Some(&letter_of(last)) {
+        if case.letters.get(n) != Some(&told(last).0) {
             return None;
         }
     }
@@ -109,7 +109,7 @@ fn holds_on<L: Ledger>(
     let mut steps = Steps::<L>::new(blank);
     let mut lone = gather(&board, seats, clock);
     let last = play(&mut lone, &board, case, &mut steps);
-    shown(&closed_pair(lone, board)) == case.shown && last == Some(case.last)
+    shown(&closed_pair(lone, board)) == case.shown && is_last(last, case)
 }
 
 /// Whether a case holds on a new board of the pair.

@@ -10,7 +10,7 @@ ghost use Rattle.prl_seats.specs.JobSeats.{IsSeatOf};
 ghost use Rattle.prl_board.specs.Vocabulary.{IsClockOf, AreSeatsOf, MayRead, place_of};
 ghost use Rattle.test_threads.specs.Pairs.{IsClosedPair, IsPair};
 
-use crate::cases::{Case, Did, letter_of};
+use crate::cases::{Case, Did, is_last, told};
 use crate::pairs::shown;
 use prl_base::TaskNo;
 use prl_board::{Board, ClockSeat, Closed, Got, Place, TaskSeat, Ticked, close, open_board};
@@ -119,7 +119,7 @@ fn play(board: &Board, seats: &mut Vec<TaskSeat>, clock: &mut ClockSeat, case: &
     let mut last = Did::Ended;
     for n in 0..case.moves.len() {
         last = step(board, seats, clock, case.moves[n]);
-        if case.letters.get(n) != Some(&letter_of(last)) {
+        if case.letters.get(n) != Some(&told(last).0) {
             return None;
         }
     }
@@ -149,7 +149,7 @@ fn comes_to(board: &Board, seats: &mut Vec<TaskSeat>, clock: &mut ClockSeat, cas
     let i = is_told(board, seats, 0, case.stop);
     let o = is_told(board, seats, 1, case.stop);
     let told = clock.stopped(board) == case.stop;
-    last == Some(case.last) && i && o && told
+    is_last(last, case) && i && o && told
 }
 
 /// Closes a board of the pair.

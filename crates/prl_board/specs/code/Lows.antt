@@ -7,8 +7,8 @@ use Rattle.prl_plan.specs.declared.events.SlotNo.{SlotNo}
 use Rattle.prl_plan.specs.Facts.{IsJob}
 use Rattle.prl_plan.specs.Plans.{low, high}
 use Rattle.prl_plan.specs.Runs.{action_at}
-use Rattle.prl_workers.specs.declared.workers.Worker.{Worker}
-use Rattle.prl_workers.specs.Workers.{IsWorker}
+use Rattle.prl_values.specs.declared.workers.Worker.{Worker}
+use Rattle.prl_values.specs.Workers.{IsWorker}
 use Rattle.prl_seats.specs.declared.jobs.Stage.{Stage}
 use Rattle.prl_seats.specs.declared.jobs.Stage.TheVariants as stages
 use Rattle.prl_rule.specs.declared.views.Constants.{Constants}

@@ -3,7 +3,7 @@ use Rattle.std.specs.Prelude.{◌≡◌, ◌≤◌, ◌*◌, ◌+ℤ◌, ◌*ℤ
 use Rattle.std.specs.Int.{IsGcd}
 use Rattle.prl_base.specs.Ratios.{Fraction, IsSmallFraction}
 use Rattle.prl_base.specs.Reductions.{IsPast}
-use Rattle.prl_clock.specs.declared.timings.Timing.{Timing}
+use Rattle.prl_flow.specs.declared.standings.Timing.{Timing}
 
 -- h = f g
 abbrev pub IsProduct : Fraction → Fraction → Fraction → Type 0

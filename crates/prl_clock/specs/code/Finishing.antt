@@ -1,18 +1,10 @@
 -- What is looked at after all constraints.
-use Rattle.std.specs.Prelude.{◌≡◌, ◌<◌, ℕ, List, length, None, Some, nat_abs, slice_get}
+use Rattle.std.specs.Prelude.{◌≡◌, ℕ, List, Some, nat_abs, slice_get}
 use Rattle.prl_base.specs.declared.operators.Clock.{Clock}
 use Rattle.prl_flow.specs.declared.programs.Flow.{Flow}
 use Rattle.prl_flow.specs.Programs.{FlatProgram}
 use Rattle.prl_clock.specs.Outcomes.{IsWhole}
-use Rattle.prl_clock.specs.code.Standings.{HasClock, standing_at}
-use Rattle.prl_clock.specs.declared.standings.Standing.{Standing}
-use Rattle.prl_clock.specs.declared.timings.Timing.{Timing}
-
--- the lowest flow without a clock
-pub record IsFirstFree (st : List Standing) (i : ℕ) : Type 0 where
-  pub within : i < length st
-  pub free : (standing_at st i).clock ≡ None
-  pub earlier : (x : ℕ) → x < i → HasClock st x
+use Rattle.prl_flow.specs.declared.standings.Timing.{Timing}
 
 -- the whole clock of a timing
 pub record IsWholeClock (t : Timing) (c : Clock) : Type 0 where

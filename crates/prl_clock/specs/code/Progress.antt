@@ -6,7 +6,7 @@ use Rattle.prl_clock.specs.Outcomes.{IsFine, clock_limit}
 use Rattle.prl_clock.specs.code.Standings.{IsRefused, IsSolved}
 use Rattle.prl_clock.specs.declared.calculus.ClockFault.{ClockFault}
 use Rattle.prl_clock.specs.declared.calculus.ClockFault.TheVariants as faults
-use Rattle.prl_clock.specs.declared.standings.Standing.{Standing}
+use Rattle.prl_flow.specs.declared.standings.Standing.{Standing}
 use Rattle.prl_clock.specs.declared.steps.Refusal.{Refusal}
 use Rattle.prl_clock.specs.declared.steps.Refusal.TheVariants as refusals
 

@@ -3,7 +3,7 @@ use Rattle.std.specs.Prelude.{◌≡◌, ◌*ℤ◌, pos}
 use Rattle.prl_base.specs.Ratios.{Fraction}
 use Rattle.prl_base.specs.Reductions.{IsReducedForm}
 use Rattle.prl_clock.specs.code.Composition.{IsPastTerms, IsSmallTiming}
-use Rattle.prl_clock.specs.declared.timings.Timing.{Timing}
+use Rattle.prl_flow.specs.declared.standings.Timing.{Timing}
 
 -- the timing `t` is `q`, whose start need not be in lowest terms
 pub record IsReducedTiming (q t : Timing) : Type 0 where

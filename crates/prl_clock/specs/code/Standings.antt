@@ -1,20 +1,14 @@
 -- Where each flow stands after some constraints: the lowest flow that is connected with it, what it is over that, and its clock where it has one.
-use Rattle.std.specs.Prelude.{◌≡◌, ◌≢◌, ◌≤◌, ◌<◌, ◌⊎◌, ℕ, pos, List, [], ◌∷◌, length, Option, Some, None, slice_index_or}
+use Rattle.std.specs.Prelude.{◌≡◌, ◌≢◌, ◌≤◌, ◌<◌, ◌⊎◌, ℕ, pos, List, [], ◌∷◌, length, Option, Some, None}
 use Rattle.prl_clock.specs.Assignments.{Assignment, tick, MeetsAll, IsConsistent, Joins, Connected, Passes}
-use Rattle.prl_clock.specs.Constraints.{Constraint, rated, related, Placed, same_clock}
+use Rattle.prl_clock.specs.Constraints.{Constraint, rated, related, Placed}
 use Rattle.prl_clock.specs.Timings.{IsOver}
 use Rattle.prl_clock.specs.code.Composition.{HasParts, IsComposed, IsComposedPast, IsOverPast, IsSmallTiming}
-use Rattle.prl_clock.specs.declared.standings.Standing.{Standing}
+use Rattle.prl_flow.specs.Standings.{HasClock, standing_at}
+use Rattle.prl_flow.specs.declared.standings.Standing.{Standing}
 use Rattle.prl_clock.specs.declared.steps.Refusal.{Refusal}
 use Rattle.prl_clock.specs.declared.steps.Refusal.TheVariants as refusals
-use Rattle.prl_clock.specs.declared.timings.Timing.{Timing}
-
--- a flow that no constraint names
-abbrev pub alone : ℕ → Standing
-alone x = record { root = x; over = same_clock; clock = None }
-
-abbrev pub standing_at : List Standing → ℕ → Standing
-standing_at st x = slice_index_or st x (alone x)
+use Rattle.prl_flow.specs.declared.standings.Timing.{Timing}
 
 abbrev pub root_at : List Standing → ℕ → ℕ
 root_at st x = (standing_at st x).root
@@ -34,9 +28,6 @@ IsRated (related u v q) x = ⊥
 abbrev pub HasRate : List Placed → ℕ → Type 0
 HasRate [] x = ⊥
 HasRate (c ∷ cs) x = IsRated c.constraint x ⊎ HasRate cs x
-
-abbrev pub HasClock : List Standing → ℕ → Type 0
-HasClock st x = (t : Timing) × ((standing_at st x).clock ≡ Some t)
 
 -- What the standings say is so in each assignment that meets the constraints, and there is one.
 pub record AreStandings (cs : List Placed) (st : List Standing) : Type 0 where

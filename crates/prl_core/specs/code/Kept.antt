@@ -10,8 +10,8 @@ use Rattle.prl_plan.specs.Runs.{RunConstants, ExecState}
 use Rattle.prl_plan.specs.States.{IsSound}
 use Rattle.prl_values.specs.Fitting.{HaveTaskBodies, HaveTypedRows}
 use Rattle.prl_values.specs.JobValues.{JobValues, value_from}
-use Rattle.prl_workers.specs.declared.workers.Worker.{Worker}
-use Rattle.prl_workers.specs.Workers.{IsWorker}
+use Rattle.prl_values.specs.declared.workers.Worker.{Worker}
+use Rattle.prl_values.specs.Workers.{IsWorker}
 use Rattle.prl_core.specs.Cores.{CoreView, constants, values_of}
 
 -- the workers of all tasks

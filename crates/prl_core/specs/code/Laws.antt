@@ -8,7 +8,7 @@ use Rattle.prl_plan.specs.Plans.{edge_at, low, high}
 use Rattle.prl_plan.specs.Runs.{ExecState}
 use Rattle.prl_plan.specs.States.{IsTagged}
 use Rattle.prl_values.specs.JobValues.{value_on}
-use Rattle.prl_workers.specs.Workers.{HaveWorkLaws}
+use Rattle.prl_values.specs.Workers.{HaveWorkLaws}
 use Rattle.prl_core.specs.Cores.{CoreView, constants, values_of}
 
 pub record HasCoreLaws (core : CoreView) : Type 0 where

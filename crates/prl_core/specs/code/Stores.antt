@@ -12,8 +12,8 @@ use Rattle.prl_plan.specs.Plans.{PlanView, edge_at}
 use Rattle.prl_track.specs.declared.seen.Seen.{Seen}
 use Rattle.prl_track.specs.declared.seen.Seen.TheVariants as sights
 use Rattle.prl_track.specs.Machine.{cell_no, sight_of_write}
-use Rattle.prl_workers.specs.declared.workers.Worker.{Worker}
-use Rattle.prl_workers.specs.Workers.{IsNewWorker, IsReady, HasTaken, HasBegun, HasEnded}
+use Rattle.prl_values.specs.declared.workers.Worker.{Worker}
+use Rattle.prl_values.specs.Workers.{IsNewWorker, IsReady, HasTaken, HasBegun, HasEnded}
 
 -- the workers of all tasks before the first event
 pub record AreNewWorkers (plan : PlanView) (bodies : List CheckedBody) (until : ℕ) (workers : List Worker) : Type 0 where

@@ -8,7 +8,7 @@ use Rattle.prl_flow.specs.Applications.{nth_step, registers_before}
 use Rattle.prl_flow.specs.declared.programs.App.{App}
 use Rattle.prl_flow.specs.declared.programs.Arg.{Arg}
 use Rattle.prl_flow.specs.Solutions.{values_of}
-use Rattle.prl_solutions.specs.Tables.{Table, inputs_of}
+use Rattle.prl_behaviours.specs.Tables.{Table, argument_values}
 use Rattle.prl_evaluation.specs.declared.runs.Run.{Run}
 
 -- instance `n` of each argument is there
@@ -41,9 +41,9 @@ pub record IsRun (bodies : List CheckedBody) (v : Table) (app : App) (r : Run) :
   pub typed : IsWellTyped body
   pub read : length r.inputs.items ≡ length app.args
   pub written : length r.outputs.items ≡ length app.outs
-  pub held : r.machine.registers ≡ registers_before body (inputs_of v app.args) r.steps
+  pub held : r.machine.registers ≡ registers_before body (argument_values v app.args) r.steps
   pub counted : r.machine.steps ≡ r.steps
-  pub given : (n : ℕ) → r.steps ≡ suc n → r.outputs.items ≡ (nth_step body (inputs_of v app.args) n).outputs
+  pub given : (n : ℕ) → r.steps ≡ suc n → r.outputs.items ≡ (nth_step body (argument_values v app.args) n).outputs
 
 -- there is a body of the application's name
 abbrev pub HasBodyNamed : List CheckedBody → App → Type 0

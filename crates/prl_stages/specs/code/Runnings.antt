@@ -23,7 +23,7 @@ use Rattle.prl_plan.specs.declared.graphs.TaskGraph.{TaskGraph}
 use Rattle.prl_replay.specs.Vocabulary.{AreFlowsBelow, out_flows}
 use Rattle.prl_sensors.specs.Facts.{AreRowsFor}
 use Rattle.prl_sensors.specs.SensorRows.{Inputs, sensors_of}
-use Rattle.prl_solutions.specs.Vocabulary.{ExactlyOne, HaveTypedBodies, clocks_in}
+use Rattle.prl_behaviours.specs.Vocabulary.{ExactlyOne, HaveTypedBodies, clocks_in}
 use Rattle.prl_types.specs.Typing.{IsTyped}
 use Rattle.prl_values.specs.Vocabulary.{AreJobValues, HaveTaskBodies, HaveTypedRows, JobValues, job_values, value_on}
 

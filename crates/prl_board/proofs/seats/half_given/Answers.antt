@@ -1,5 +1,5 @@
 use Rattle.std.proofs.Common.{refl, sym, ap, ◌∙◌}
-use Rattle.prl_workers.specs.Workers.{HasBegun}
+use Rattle.prl_values.specs.Workers.{HasBegun}
 use Rattle.prl_rule.specs.RunValues.{half_with}
 use Rattle.prl_board.proofs.Worked.{given_half, out_there, write_may}
 use Rattle.prl_board.proofs.Begun.{begun_with, ready_with}

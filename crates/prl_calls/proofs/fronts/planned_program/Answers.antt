@@ -1,17 +1,15 @@
-use Rattle.std.proofs.Common.{◌++◌}
-use Rattle.prl_stages.specs.Stages.{front, graphed, planned}
-use Rattle.prl_calls.specs.Stops.{given_of, AllHold, StopsIn}
-use Rattle.prl_calls.proofs.Stops.{both_hold, err_map, ok_map, stops_rest}
+use Rattle.prl_base.proofs.Standard.{◌++◌, err_from_is_err_and}
+use Rattle.prl_stages.specs.Vocabulary.{HasPlan, front, graphed, planned}
+use Rattle.prl_calls.specs.Stops.{given_of}
+use Rattle.prl_calls.proofs.Stops.{passes_rest, stops_first}
 use Rattle.prl_calls.proofs.fronts.planned_program.Goals as goal
 
-pub returns-clause-holds : goal.returns-clause-holds
-returns-clause-holds c =
-    let g = given_of c.args.request.now in
-    ok_map c.make_planned.result (λ _. AllHold g planned) (λ _. AllHold g (front ++ graphed ++ planned))
-    (λ plan holds. both_hold g (front ++ graphed) planned c.in_ok-made.ensures.holds holds) c.make_planned.ensures.holds
+pub returns-in_err-made : goal.returns-in_err-made
+returns-in_err-made c =
+    let p = err_from_is_err_and c.from_residual.result c.from_residual.ensures.1 in
+    rw (p.1, p.2) (stops_first (given_of c.args.request.now) (front ++ graphed) planned c.in_err-made.field-0.0 c.in_err-made.ensures)
 
-pub returns-clause-stop : goal.returns-clause-stop
-returns-clause-stop c =
+pub returns : goal.returns
+returns c =
     let g = given_of c.args.request.now in
-    err_map c.make_planned.result (StopsIn g planned) (StopsIn g (front ++ graphed ++ planned))
-    (λ stop at. stops_rest g (front ++ graphed) planned stop c.in_ok-made.ensures.holds at) c.make_planned.ensures.stop
+    passes_rest g (front ++ graphed) c.in_ok-made.ensures.1 _ (HasPlan g) (λ plan found. found.1) planned c.make_planned.result c.make_planned.ensures

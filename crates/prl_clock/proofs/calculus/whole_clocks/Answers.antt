@@ -2,7 +2,7 @@ use Rattle.std.proofs.Common.{◌≡◌, ◌<◌, ◌+◌, ◌++◌, ◌∷◌, 
 use Rattle.prl_base.specs.declared.operators.Clock.{Clock}
 use Rattle.prl_flow.specs.Solutions.{clock_of}
 use Rattle.prl_clock.specs.Vocabulary.{IsWholeClock, Timing, standing_at, Standing}
-use Rattle.prl_clock.proofs.Loops.{item_is}
+use Rattle.prl_flow.proofs.StandingsAt.{item_is}
 use Rattle.prl_clock.proofs.Finishing.{not_whole_is, whole_are, clock_pushed, if_true}
 use Rattle.prl_clock.proofs.calculus.whole_clocks.Goals as goal
 use Rattle.prl_clock.proofs.calculus.whole_clocks.Goals.{After-index-standings-i}

@@ -1,6 +1,6 @@
 use Rattle.std.proofs.Common.{◌≡◌, refl, sym, subst, ◌∙◌}
 use Rattle.prl_clock.specs.Vocabulary.{timing_of_rate, IsReducedTiming, Timing, standing_at}
-use Rattle.prl_clock.proofs.Loops.{item_is}
+use Rattle.prl_flow.proofs.StandingsAt.{item_is}
 use Rattle.prl_clock.proofs.Rated.{rate_link, rate_lowest, has_solved, has_refused, consistent, start_past, nonzero_over, over_past, one_past, timed_solved}
 use Rattle.prl_clock.proofs.Terms.{if_limit}
 use Rattle.prl_clock.proofs.rates.rate_flow.Goals as goal

@@ -1,5 +1,5 @@
 use Rattle.std.proofs.Common.{◌≡◌, ℕ, length}
-use Rattle.prl_clock.specs.code.Standings.{alone, standing_at}
+use Rattle.prl_clock.specs.Vocabulary.{alone, standing_at}
 use Rattle.prl_clock.proofs.standings.alone.Given as goal
 
 abbrev pub invariant-loop-root : goal.invariant-loop-root

@@ -1,5 +1,5 @@
 use Rattle.std.proofs.Common.{◌≡◌, ◌<◌, ◌≤◌, ℕ}
-use Rattle.prl_clock.specs.code.Standings.{IsTimed, standing_at}
+use Rattle.prl_clock.specs.Vocabulary.{IsTimed, standing_at}
 use Rattle.prl_clock.proofs.standings.time_all.Given as goal
 
 abbrev pub invariant-loop-standing : goal.invariant-loop-standing

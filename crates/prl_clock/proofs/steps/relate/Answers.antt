@@ -1,6 +1,6 @@
 use Rattle.std.proofs.Common.{◌≡◌, refl, sym, arith, ◌∙◌}
-use Rattle.prl_clock.specs.code.Standings.{standing_at}
-use Rattle.prl_clock.proofs.Loops.{item_is}
+use Rattle.prl_flow.specs.Standings.{standing_at}
+use Rattle.prl_flow.proofs.StandingsAt.{item_is}
 use Rattle.prl_clock.proofs.Terms.{small_parts, if_limit}
 use Rattle.prl_clock.proofs.Related.{small_read, clock_read, parts_there, same_solved, same_refused, agree_refused, consistent, down_past, down_merging, up_past, up_merging, with_link}
 use Rattle.prl_clock.proofs.steps.relate.Goals as goal

@@ -1,8 +1,8 @@
 use Rattle.prl_base.proofs.Standard.{◌≡◌, length, map, vec_items, refl, ap, arith, length-map}
 use Rattle.prl_plan.specs.Vocabulary.{constants_of, task_at}
 use Rattle.prl_plan.specs.declared.graphs.TaskGraph.{TaskGraph}
-use Rattle.prl_demand.specs.Demand.{wcets_of}
-use Rattle.prl_demand.proofs.Starts.{wcet_bounds}
+use Rattle.prl_overlaps.specs.Demand.{wcets_of}
+use Rattle.prl_overlaps.proofs.Starts.{wcet_bounds}
 use Rattle.prl_edf.proofs.FullUnits.{full_lists}
 use Rattle.prl_edf.proofs.analysis.full_units.Goals as goal
 

@@ -1,6 +1,6 @@
 use Rattle.std.proofs.Common.{◌+◌, ◌≤◌, sym, ◌∙◌, arith}
 use Rattle.prl_plan.specs.Horizons.{constants_of}
-use Rattle.prl_demand.specs.Demand.{wcets_of}
+use Rattle.prl_overlaps.specs.Demand.{wcets_of}
 use Rattle.prl_edf.proofs.Skips.{room, passes, tells}
 use Rattle.prl_edf.proofs.unrolling.unroll_piece.Goals as goal
 use Rattle.prl_edf.proofs.unrolling.unroll_piece.Goals.{After-plan_facts}

@@ -6,4 +6,4 @@ pub returns-in_err-ready-clause-stop : goal.returns-in_err-ready-clause-stop
 returns-in_err-ready-clause-stop c =
     let p = err_from_is_err_and c.from_residual.result c.from_residual.ensures.1 in
     rw (p.1, p.2)
-    (generated_stop c.args.command.now c.requires.mode c.args.request.now c.requires.given c.in_err-ready.field-0.0 c.in_err-ready.ensures.stop)
+    (generated_stop c.args.command.now c.requires.mode c.args.request.now c.requires.given c.in_err-ready.field-0.0 c.in_err-ready.ensures)

@@ -3,9 +3,9 @@ use Rattle.prl_arguments.specs.declared.arguments.Mode.{Mode}
 use Rattle.prl_stages.specs.Stages.{front, ran, stages_after}
 use Rattle.prl_endings.specs.Vocabulary.{IsAnswerOf, IsAnswerStop, HasFiles}
 use Rattle.prl_executions.specs.Ready.{IsOutcome}
-use Rattle.prl_calls.specs.Stops.{given_of, AllHold, StopsIn}
+use Rattle.prl_calls.specs.Stops.{given_of, StopsIn}
 use Rattle.prl_endings.proofs.Answered.{answer_stop, files_stop, outcome_answered}
-use Rattle.prl_calls.proofs.Stops.{err_map, ok_both}
+use Rattle.prl_calls.proofs.Stops.{err_passed, ok_passed}
 use Rattle.prl_endings.proofs.pipeline.answer_threads.Goals as goal
 
 pub returns-in_err-request-clause-stop : goal.returns-in_err-request-clause-stop
@@ -19,9 +19,9 @@ returns-clause-outcome g c =
     let request = c.in_ok-request.request in
     let told = (g.F.Files.seen c.args.files.now).folder in
     let command = c.args.command.now in
-    ok_both c.run_outcome-outcome.result (IsOutcome (given_of request) command.clock) (λ _. AllHold (given_of request) (front ++ ran)) (IsAnswerOf told command)
+    ok_passed (given_of request) (front ++ ran) (IsOutcome (given_of request) command.clock) (IsAnswerOf told command)
     (λ outcome is hold. outcome_answered told command c.requires.mode request c.in_ok-request.ensures.request outcome is hold)
-    c.run_outcome-outcome.ensures.outcome c.run_outcome-outcome.ensures.holds
+    c.run_outcome-outcome.result c.run_outcome-outcome.ensures
 
 pub returns-clause-stop : goal.returns-clause-stop
 returns-clause-stop g c =
@@ -29,6 +29,6 @@ returns-clause-stop g c =
     let old = g.F.Files.seen c.args.files.now in
     let new = g.F.Files.seen c.read_request.new.files in
     let command = c.args.command.now in
-    err_map c.run_outcome-outcome.result (StopsIn (given_of request) (front ++ ran)) (IsAnswerStop old new command)
+    err_passed (given_of request) (front ++ ran) (IsOutcome (given_of request) command.clock) (IsAnswerStop old new command)
     (λ stop at. answer_stop old new command request stop (subst HasFiles (sym c.requires.mode) tt) c.in_ok-request.ensures.request c.in_ok-request.ensures.failed
-    (subst (λ (m : Mode). StopsIn (given_of request) (stages_after m request.named) stop) (sym c.requires.mode) at)) c.run_outcome-outcome.ensures.stop
+    (subst (λ (m : Mode). StopsIn (given_of request) (stages_after m request.named) stop) (sym c.requires.mode) at)) c.run_outcome-outcome.result c.run_outcome-outcome.ensures

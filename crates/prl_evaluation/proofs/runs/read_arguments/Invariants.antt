@@ -1,6 +1,6 @@
 use Rattle.std.proofs.Common.{◌≡◌, take}
-use Rattle.prl_solutions.specs.Tables.{inputs_of, table_of}
+use Rattle.prl_behaviours.specs.Tables.{argument_values, table_of}
 use Rattle.prl_evaluation.proofs.runs.read_arguments.Given as goal
 
 abbrev pub invariant-loop-k : goal.invariant-loop-k
-invariant-loop-k l = take l.k l.inputs ≡ take l.k (inputs_of (table_of l.flows) l.args l.n)
+invariant-loop-k l = take l.k l.inputs ≡ take l.k (argument_values (table_of l.flows) l.args l.n)

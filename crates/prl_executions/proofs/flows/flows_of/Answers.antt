@@ -4,8 +4,8 @@ use Rattle.prl_base.specs.declared.operators.Clock.{Clock}
 use Rattle.prl_behaviours.specs.Behaviours.{state_in}
 use Rattle.prl_evaluation.specs.Evaluations.{AreSolution}
 use Rattle.prl_flow.specs.Vocabulary.{AreUpTo, actuator_text, HaveBodies, FlatProgram, Timed}
-use Rattle.prl_solutions.specs.Conditions.{clocks_in}
-use Rattle.prl_stages.specs.Runs.{rows_for}
+use Rattle.prl_behaviours.specs.Conditions.{clocks_in}
+use Rattle.prl_stages.specs.Runs.{IsFlowsText, rows_for}
 use Rattle.prl_stages.specs.Vocabulary.{SolutionLaws}
 use Rattle.prl_stages.proofs.Inputs.{few_outputs}
 use Rattle.prl_stages.proofs.Meaning.{one, outs, state_is, up_to}
@@ -44,8 +44,8 @@ lent_text-requires c =
     c.flows-flows.ensures.well_formed run.clocks.of is.has.rows.clocked.only run.bodies run.sensors until c.in_ok-table.table c.in_ok-table.ensures.solution in
     (until, omega (arith, c.requires.until), subst (AreUpTo until) (sym told) all)
 
-pub returns-clause-text : goal.returns-clause-text
-returns-clause-text c = λ g is.
+pub returns : goal.returns
+returns c = λ g is.
     let t = c.args.typed.now in
     let p = program_tree t.program in
     let run = c.args.run.now in
@@ -61,7 +61,7 @@ returns-clause-text c = λ g is.
     let behaviour = one law p asked t.main t.types run.flat is.typed c.requires.expanded formed run.clocks.of only run.bodies run.sensors until table solution in
     let state = state_is law p asked t.main t.types run.flat is.typed c.requires.expanded formed run.clocks.of only run.bodies run.sensors until table solution in
     let clocked : run.clocks.of ≡ clocks_in (state_in behaviour.one) = sym (ap clocks_in state ∙ solution.clocks_are) in
-    record {
+    let text : IsFlowsText g c.in_ok-lent_text.field-0.items = record {
       meaning = record {
         program = p;
         main = t.main;
@@ -79,4 +79,4 @@ returns-clause-text c = λ g is.
           ∙ ap (actuator_text until) told
           ∙ ap (actuator_text until)
           (outs law p asked t.main t.types run.flat is.typed c.requires.expanded formed run.clocks.of only run.bodies run.sensors until table solution);
-    }
+    } in (text, (c.in_ok-table.ensures.passes g is.has).1)

@@ -22,7 +22,7 @@ evaluate-requires-clause-types c =
     typed_rows run.flat run.clocks.of c.args.until c.flows-flows.ensures.well_formed c.rows_are_typed_and_enough.ensures text run.sensors
     (subst (λ (until : ℕ). sensors_of (inputs_of run.flat) (needs_of run.flat run.clocks.of until) text ≡ Ok run.sensors) has.date has.rows.read)
 
-pub returns-in_err-evaluate-clause-stop : goal.returns-in_err-evaluate-clause-stop
-returns-in_err-evaluate-clause-stop c = λ g has.
+pub returns-in_err-evaluate-clause-passes : goal.returns-in_err-evaluate-clause-passes
+returns-in_err-evaluate-clause-passes c = λ g has.
     let p = err_from_is_err_and c.from_residual.result c.from_residual.ensures.1 in
     rw (p.1, p.2) (too_many_values g c.args.until c.args.run.now c.in_err-evaluate.field-0.0 has c.in_err-evaluate.ensures.fault)

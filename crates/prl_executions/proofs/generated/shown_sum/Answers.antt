@@ -1,6 +1,6 @@
 use Rattle.std.proofs.Common.{◌≡◌, ◌∙◌, List, ap}
 use Rattle.prl_flow.specs.declared.programs.OutFlow.{OutFlow}
-use Rattle.prl_results.specs.Shown.{AreShown}
+use Rattle.prl_replay.specs.Shown.{AreShown}
 use Rattle.prl_stages.specs.Ran.{sum_of}
 use Rattle.prl_calls.proofs.Stops.{ok_map}
 use Rattle.prl_executions.proofs.generated.shown_sum.Goals as goal

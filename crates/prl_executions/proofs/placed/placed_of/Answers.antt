@@ -12,30 +12,27 @@ trace_text-requires-clause-outputs c =
     let small = is.until in
     (c.args.ready.now.horizon.until, omega (arith, small), c.in-Ok.ensures.found.traced.outputs)
 
-pub returns-in_ok-trace_text-in-Ok-clause-text : goal.returns-in_ok-trace_text-in-Ok-clause-text
-returns-in_ok-trace_text-in-Ok-clause-text c =
+pub returns-in_ok-trace_text-in-Ok : goal.returns-in_ok-trace_text-in-Ok
+returns-in_ok-trace_text-in-Ok c =
     let g = given_of c.args.request.now in
     let r = c.args.ready.now in
     let placement = c.args.spread.now.placement in
     let found = c.in-Ok.ensures.found in
     let horizon = horizon_there g r c.requires.ready in
-    let gated = c.spread_list_is_gated.ensures r.plan r.horizon placement (plan_there g r c.requires.ready) horizon c.requires.placement.spread found.events found.traced.is.run.legal in
-    cores_text_is g r c.requires.ready found.events c.in-Ok.trace.reads c.in-Ok.trace.outputs found.traced.outputs _
-    (c.in_ok-trace_text-in-Ok.ensures r.horizon.until found.traced.outputs) placement c.requires.placement found.listed gated found.traced.is
-
-pub returns-in_ok-trace_text-in-Ok-clause-holds : goal.returns-in_ok-trace_text-in-Ok-clause-holds
-returns-in_ok-trace_text-in-Ok-clause-holds c =
-    let r = c.args.ready.now in
-    let found = c.in-Ok.ensures.found in (
-      r.plan,
-      c.args.spread.now.placement,
-      r.horizon,
-      record {
-        has_horizon = has_horizon_there (given_of c.args.request.now) r c.requires.ready;
-        has_placement = c.requires.placement;
-        events = found.events;
-        listed = found.listed;
-        legal = found.traced.is.run.legal;
-        complete = found.traced.is.run.complete;
-      },
+    let gated = c.spread_list_is_gated.ensures r.plan r.horizon placement (plan_there g r c.requires.ready) horizon c.requires.placement.spread found.events found.traced.is.run.legal in (
+      cores_text_is g r c.requires.ready found.events c.in-Ok.trace.reads c.in-Ok.trace.outputs found.traced.outputs _
+          (c.in_ok-trace_text-in-Ok.ensures r.horizon.until found.traced.outputs) placement c.requires.placement found.listed gated found.traced.is,
+      (
+        r.plan,
+        placement,
+        r.horizon,
+        record {
+          has_horizon = has_horizon_there g r c.requires.ready;
+          has_placement = c.requires.placement;
+          events = found.events;
+          listed = found.listed;
+          legal = found.traced.is.run.legal;
+          complete = found.traced.is.run.complete;
+        },
+      ),
     )

@@ -5,16 +5,16 @@ use Rattle.prl_calls.specs.Stops.{given_of}
 use Rattle.prl_calls.proofs.Stops.{both_hold, stops_first, stops_rest}
 use Rattle.prl_executions.proofs.ready.plan_to_horizon.Goals as goal
 
-pub returns-in_err-plan-clause-stop : goal.returns-in_err-plan-clause-stop
-returns-in_err-plan-clause-stop c =
+pub returns-in_err-plan : goal.returns-in_err-plan
+returns-in_err-plan c =
     let p = err_from_is_err_and c.from_residual.result c.from_residual.ensures.1 in
-    rw (p.1, p.2) (stops_first (given_of c.args.request.now) planned (stages.Horizon ∷ []) c.in_err-plan.field-0.0 c.in_err-plan.ensures.stop)
+    rw (p.1, p.2) (stops_first (given_of c.args.request.now) planned (stages.Horizon ∷ []) c.in_err-plan.field-0.0 c.in_err-plan.ensures)
 
-pub returns-in_err-horizon-clause-stop : goal.returns-in_err-horizon-clause-stop
-returns-in_err-horizon-clause-stop c =
-    let p = err_from_is_err_and c.from_residual-in_err-horizon.result c.from_residual-in_err-horizon.ensures.1 in
-    rw (p.1, p.2) (stops_rest (given_of c.args.request.now) planned (stages.Horizon ∷ []) c.in_err-horizon.field-0.0 c.in_ok-plan.ensures.holds
-    (inl c.in_err-horizon.ensures.stop))
+pub returns-in-Err : goal.returns-in-Err
+returns-in-Err c = stops_rest (given_of c.args.request.now) planned (stages.Horizon ∷ []) c.in-Err.stop c.in_ok-plan.ensures.1 (inl c.in-Err.ensures)
 
-pub returns-clause-holds : goal.returns-clause-holds
-returns-clause-holds c = both_hold (given_of c.args.request.now) planned (stages.Horizon ∷ []) c.in_ok-plan.ensures.holds (c.in_ok-horizon.ensures.holds, tt)
+pub returns-in-Ok : goal.returns-in-Ok
+returns-in-Ok c = (
+  (c.in_ok-plan.ensures.0.0, c.in-Ok.ensures.0),
+  both_hold (given_of c.args.request.now) planned (stages.Horizon ∷ []) c.in_ok-plan.ensures.1 (c.in-Ok.ensures.1, tt),
+)

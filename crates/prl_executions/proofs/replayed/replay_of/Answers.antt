@@ -39,32 +39,29 @@ schedule_refusal-requires c =
     subst (λ (graph : TaskGraph). IsOfTask (length graph.tasks) c.in-Err.fault) (sym c.graph.ensures.graph)
     (of_task r.plan r.horizon r.bodies r.sensors c.deref.result.now c.in-Err.fault c.in-Err.ensures.run)
 
-pub returns-in_ok-trace_text-in-Ok-clause-text : goal.returns-in_ok-trace_text-in-Ok-clause-text
-returns-in_ok-trace_text-in-Ok-clause-text c =
+pub returns-in_ok-trace_text-in-Ok : goal.returns-in_ok-trace_text-in-Ok
+returns-in_ok-trace_text-in-Ok c =
+    let g = given_of c.args.request.now in
     let r = c.args.ready.now in
     let run = c.in-Ok.ensures.run in
     let trace = c.in-Ok.trace in
-    let listed = subst (λ (text : List ℕ). schedule_of (task_names r.plan) text ≡ Ok run.0) c.deref.ensures.value run.1 in
-    replay_text_is (given_of c.args.request.now) r c.requires run.0 trace.reads trace.outputs c.in-Ok.ensures.outputs _
-    (c.in_ok-trace_text-in-Ok.ensures r.horizon.until c.in-Ok.ensures.outputs) listed run.2
-
-pub returns-in_ok-trace_text-in-Ok-clause-holds : goal.returns-in_ok-trace_text-in-Ok-clause-holds
-returns-in_ok-trace_text-in-Ok-clause-holds c =
-    let r = c.args.ready.now in
-    let run = c.in-Ok.ensures.run in
     let listed = subst (λ (text : List ℕ). schedule_of (task_names r.plan) text ≡ Ok run.0) c.deref.ensures.value run.1 in (
-      r.plan,
-      r.horizon,
-      record {
-        has_horizon = has_horizon_there (given_of c.args.request.now) r c.requires;
-        events = run.0;
-        listed = listed;
-        whole = record { legal = run.2.run.legal; complete = run.2.run.complete };
-      },
+      replay_text_is g r c.requires run.0 trace.reads trace.outputs c.in-Ok.ensures.outputs _
+          (c.in_ok-trace_text-in-Ok.ensures r.horizon.until c.in-Ok.ensures.outputs) listed run.2,
+      (
+        r.plan,
+        r.horizon,
+        record {
+          has_horizon = has_horizon_there g r c.requires;
+          events = run.0;
+          listed = listed;
+          whole = record { legal = run.2.run.legal; complete = run.2.run.complete };
+        },
+      ),
     )
 
-pub returns-in-Some-clause-stop : goal.returns-in-Some-clause-stop
-returns-in-Some-clause-stop c =
+pub returns-in-Some : goal.returns-in-Some
+returns-in-Some c =
     let r = c.args.ready.now in
     let fault = c.in-Err.fault in
     let refusal = c.in-Some.refusal in

@@ -1,18 +1,17 @@
-use Rattle.std.proofs.Common.{◌≡◌, ◌++◌, inl, subst, sym}
+use Rattle.prl_base.proofs.Standard.{◌≡◌, ◌++◌, Result, Ok, Err, IfOk, IfErr, inl, subst, sym}
+use Rattle.prl_stages.specs.Vocabulary.{Given, IsRunText, front, ran}
+use Rattle.prl_stages.specs.declared.stages.Stop.{Stop}
 use Rattle.prl_stages.specs.declared.stages.Stop.TheVariants as stops
-use Rattle.prl_stages.specs.Vocabulary.{IsRunText, front, ran}
-use Rattle.prl_calls.specs.Stops.{given_of, AllHold, StopsIn}
-use Rattle.prl_calls.proofs.Stops.{err_map, ok_map}
+use Rattle.prl_calls.specs.Stops.{given_of, AllHold, Passes, StopsIn}
 use Rattle.prl_executions.proofs.running.run_text.Goals as goal
 
-pub returns-clause-holds : goal.returns-clause-holds
-returns-clause-holds c =
-    let g = given_of c.args.request.now in
-    ok_map c.ended_text-made.result (λ made. IsRunText g c.args.gate made.0.items made.1) (λ _. AllHold g (front ++ ran))
-    (λ made text. c.in_ok-ready.ensures.holds) c.ended_text-made.ensures.text
+-- the stages hold, and what comes then stops by want of memory alone
+passed : (g : Given) {X : Type 0} (P : X → Type 0) → AllHold g (front ++ ran) → (r : Result X Stop) → IfOk r P → IfErr r (λ stop. stop ≡ stops.Memory)
+    → Passes g (front ++ ran) P r
+passed g P hold (Ok x) is none = (is, hold)
+passed g P hold (Err stop) is none = subst (StopsIn g (front ++ ran)) (sym none) (inl tt)
 
-pub returns-clause-stop : goal.returns-clause-stop
-returns-clause-stop c =
+pub returns : goal.returns
+returns c =
     let g = given_of c.args.request.now in
-    err_map c.ended_text-made.result (λ stop. stop ≡ stops.Memory) (StopsIn g (front ++ ran))
-    (λ stop is. subst (StopsIn g (front ++ ran)) (sym is) (inl tt)) c.ended_text-made.ensures.stop
+    passed g (λ made. IsRunText g c.args.gate made.0.items made.1) c.in_ok-ready.ensures.1 c.ended_text-made.result c.ended_text-made.ensures.text c.ended_text-made.ensures.stop

@@ -1,6 +1,6 @@
 use Rattle.prl_base.proofs.Standard.{◌∙◌, ℕ, List, Option, ap, map, subst, IfOk, option_map, string_bytes}
 use denote.Ref.{Bor}
-use Rattle.prl_companions.specs.Pairs.{value_of}
+use Rattle.prl_io.specs.Pairs.{value_of}
 use Rattle.prl_explain.specs.Explanations.{IsByNamed}
 use Rattle.prl_explain.specs.Texts.{option_of}
 use Rattle.prl_explain.proofs.explanations.by_part.Goals as goal

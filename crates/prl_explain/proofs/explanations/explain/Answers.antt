@@ -1,9 +1,9 @@
 use Rattle.prl_base.proofs.Standard.{◌≡◌, ◌∙◌, ℕ, List, Option, map, drop, Result, Ok, Err, ap, sym, subst, IfOk, IfErr, vec_items, string_bytes, drop-map, OnFalse, OnFalse_at, OnFalse_from}
 use Rattle.prl_io.specs.Views.{SinkView}
-use Rattle.prl_companions.specs.declared.endings.Stop.{Stop}
-use Rattle.prl_companions.specs.Endings.{Ends}
+use Rattle.prl_io.specs.declared.endings.Stop.{Stop}
+use Rattle.prl_io.specs.Endings.{Ends}
 use Rattle.prl_explain.specs.Explanations.{IsExplanation, IsStop, asks_help}
-use Rattle.prl_wrong.specs.Dashes.{before_dashes, from_dashes}
+use Rattle.prl_arguments.specs.Dashes.{before_dashes, from_dashes}
 use Rattle.prl_explain.proofs.explanations.explain.Goals as goal
 
 -- an outcome with its text as a list of bytes

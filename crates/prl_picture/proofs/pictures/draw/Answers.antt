@@ -1,5 +1,5 @@
 use Rattle.prl_base.proofs.Standard.{◌≡◌, ◌∙◌, map, drop, ap, sym, vec_items, string_bytes, drop-map}
-use Rattle.prl_companions.proofs.Outcomes.{answers}
+use Rattle.prl_io.proofs.Outcomes.{answers}
 use Rattle.prl_picture.specs.Pictures.{IsPicture}
 use Rattle.prl_picture.proofs.pictures.draw.Goals as goal
 

@@ -1,6 +1,6 @@
 use Rattle.prl_base.proofs.Standard.{ℕ, List, map, subst, sym, string_bytes, IfOk-weaker}
 use Rattle.prl_plantext.specs.ReadTexts.{IsTextOf}
-use Rattle.prl_companions.specs.Faults.{Folder}
+use Rattle.prl_io.specs.Faults.{Folder}
 use Rattle.prl_picture.specs.Pictures.{IsDrawn}
 use Rattle.prl_picture.proofs.pictures.picture.Goals as goal
 

@@ -2,7 +2,7 @@ use Rattle.prl_base.proofs.Standard.{◌≡◌, ℕ, List, map, subst, string_by
 use Rattle.prl_plan.specs.Plans.{PlanView}
 use Rattle.prl_plot.specs.declared.forms.Form.{Form}
 use Rattle.prl_steps.specs.Flows.{FlowView}
-use Rattle.prl_companions.specs.Faults.{Folder}
+use Rattle.prl_io.specs.Faults.{Folder}
 use Rattle.prl_plot.specs.Asked.{AreFlows, AreSensors, IsPlanAsked, timed_form}
 use Rattle.prl_plot.proofs.asked.sensors_in.Goals as goal
 

@@ -1,5 +1,5 @@
 use Rattle.prl_base.proofs.Standard.{◌≡◌, ◌∙◌, map, drop, ap, sym, vec_items, string_bytes, drop-map}
-use Rattle.prl_companions.proofs.Outcomes.{answers}
+use Rattle.prl_io.proofs.Outcomes.{answers}
 use Rattle.prl_plot.specs.Answers.{IsPlotted}
 use Rattle.prl_plot.proofs.plots.plot.Goals as goal
 

@@ -3,5 +3,5 @@ use Rattle.prl_spots.specs.Unexpected.{MayStand}
 use Rattle.prl_spots.proofs.unexpected.standing.Given as goal
 
 -- each of the words so far may stand there
-abbrev pub invariant-loop-trial : goal.invariant-loop-trial
-invariant-loop-trial l = All (λ t. MayStand l.text l.at t.word.now) l.trials.items
+abbrev pub invariant-loop-row : goal.invariant-loop-row
+invariant-loop-row l = All (λ t. MayStand l.text l.at t.word.now) l.standing.items

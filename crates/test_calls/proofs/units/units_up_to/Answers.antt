@@ -2,7 +2,7 @@ use Rattle.prl_base.proofs.Standard.{◌≡◌, length, map, vec_items, min, ap,
 use Rattle.prl_plan.specs.Vocabulary.{constants_of, task_at}
 use Rattle.prl_plan.specs.declared.graphs.TaskGraph.{TaskGraph}
 use Rattle.prl_plan.proofs.RoundPeriods.{task_is}
-use Rattle.prl_demand.specs.Demand.{wcets_of}
+use Rattle.prl_overlaps.specs.Demand.{wcets_of}
 use Rattle.test_calls.proofs.EvenUnits.{even_lists}
 use Rattle.test_calls.proofs.units.units_up_to.Goals as goal
 

@@ -2,8 +2,8 @@ use Rattle.std.proofs.Common.{◌≡◌, ◌+◌, ℕ, sym, ap, subst, ◌∙◌
 use Rattle.prl_plan.specs.declared.graphs.Kind.TheVariants as kinds
 use Rattle.prl_plan.specs.Jobs.{task_at}
 use Rattle.prl_rule.specs.Known.{job_values_of}
-use Rattle.prl_workers.specs.declared.workers.Work.TheVariants as works
-use Rattle.prl_workers.specs.Workers.{IsWork, once}
+use Rattle.prl_values.specs.declared.workers.Work.TheVariants as works
+use Rattle.prl_values.specs.Workers.{IsWork, once}
 use Rattle.prl_board.specs.Closings.{IsNoActuator}
 use Rattle.prl_seats.specs.JobSeats.{JobSeatView}
 use Rattle.prl_board.proofs.seats.TaskSeat.has_output.Goals as goal

@@ -2,8 +2,8 @@ use Rattle.prl_base.proofs.Standard.{arith, ◌≡◌, ◌+◌, ◌≤◌, ℕ, 
 use Rattle.prl_base.specs.declared.values.Value.{Value}
 use Rattle.prl_plan.specs.declared.graphs.Kind.TheVariants as kinds
 use Rattle.prl_rule.specs.Known.{job_values_of, run_of}
-use Rattle.prl_workers.specs.declared.workers.Work.TheVariants as works
-use Rattle.prl_workers.specs.Workers.{IsWork, once}
+use Rattle.prl_values.specs.declared.workers.Work.TheVariants as works
+use Rattle.prl_values.specs.Workers.{IsWork, once}
 use Rattle.prl_board.specs.Closings.{AreOutputs, Drives}
 use Rattle.prl_seats.specs.JobSeats.{JobSeatView}
 use Rattle.prl_board.proofs.Outputs.{column_outputs}

@@ -1,5 +1,5 @@
 use Rattle.prl_base.proofs.Standard.{◌<◌, length, refl, sym, subst, MatchOption}
-use Rattle.prl_workers.specs.Workers.{HasMachine, HasNoMachine}
+use Rattle.prl_values.specs.Workers.{HasMachine, HasNoMachine}
 use Rattle.prl_core.specs.Cores.{CoreView, IsMachineOf, IsNoNode}
 use Rattle.prl_core.proofs.Given.{work_at, match_mono, machine_told, no_machine_told}
 use Rattle.prl_core.proofs.cores.Core.machine.Goals as goal

@@ -1,5 +1,5 @@
 use Rattle.std.proofs.Common.{[], ◌∷◌, length, length-append, ap, arith}
-use Rattle.prl_workers.specs.Workers.{IsNewWorker}
+use Rattle.prl_values.specs.Workers.{IsNewWorker}
 use Rattle.prl_core.proofs.Stored.{workers_more}
 use Rattle.prl_core.proofs.stores.Store.new.Goals as goal
 

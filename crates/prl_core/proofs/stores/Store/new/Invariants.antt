@@ -1,6 +1,6 @@
 use Rattle.std.proofs.Common.{◌≡◌, ℕ, length, Some, slice_get}
-use Rattle.prl_workers.specs.Workers.{IsNewWorker}
-use Rattle.prl_workers.specs.declared.workers.Worker.{Worker}
+use Rattle.prl_values.specs.Workers.{IsNewWorker}
+use Rattle.prl_values.specs.declared.workers.Worker.{Worker}
 use Rattle.prl_core.proofs.stores.Store.new.Given as goal
 
 -- the workers of the tasks so far

@@ -1,0 +1,5 @@
+use Rattle.prl_base.proofs.Standard.{rules, wraps}
+use Rattle.prl_base.proofs.body_operators.sum.Goals as goal
+
+pub returns : goal.returns
+returns c = search (rules, wraps)

@@ -1,5 +1,0 @@
-use Rattle.prl_base.proofs.Standard.{rules, wraps}
-use Rattle.prl_bodyops.proofs.operators.difference.Goals as goal
-
-pub returns : goal.returns
-returns c = search (rules, wraps)

@@ -1,5 +1,0 @@
-use Rattle.std.proofs.Common.{length}
-use Rattle.prl_companions.proofs.words.+is_option.Given as goal
-
-abbrev pub decreases-is_option : goal.decreases-is_option
-decreases-is_option l = length l.options.now

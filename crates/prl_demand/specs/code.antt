@@ -1,2 +1,0 @@
--- demand by tick
-pub mod Starts

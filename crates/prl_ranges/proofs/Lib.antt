@@ -1,4 +1,0 @@
-mod PrecedingNumbers
-mod WordPeriods
-mod HorizonNumbers
-mod FirstItems

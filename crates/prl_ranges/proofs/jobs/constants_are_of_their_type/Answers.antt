@@ -1,5 +1,0 @@
-use Rattle.prl_plan.proofs.ReadOrder.{constant_typed}
-use Rattle.prl_ranges.proofs.jobs.constants_are_of_their_type.Goals as goal
-
-pub returns : goal.returns
-returns c = constant_typed

@@ -1,5 +1,0 @@
-use Rattle.prl_plan.proofs.PlanFacts.{turns_are_taken}
-use Rattle.prl_ranges.proofs.jobs.instances_take_turns.Goals as goal
-
-pub returns : goal.returns
-returns c = turns_are_taken

@@ -1,5 +1,0 @@
-use Rattle.prl_plan.proofs.NotLater.{released_first}
-use Rattle.prl_ranges.proofs.jobs.precedence_is_not_later.Goals as goal
-
-pub returns : goal.returns
-returns c = released_first

@@ -1,5 +1,0 @@
-use Rattle.prl_plan.proofs.PlanNumbers.{window_within}
-use Rattle.prl_ranges.proofs.laws.windows_are_within_dues.Goals as goal
-
-pub returns : goal.returns
-returns c = window_within

@@ -1,5 +1,0 @@
-use Rattle.prl_ranges.proofs.FirstItems.{FirstAre, IsSmallEdge}
-use Rattle.prl_ranges.proofs.sizes.graph_is_representable.Given as goal
-
-abbrev pub invariant-loop-edge : goal.invariant-loop-edge
-invariant-loop-edge l = FirstAre IsSmallEdge l.graph.edges l.edge-index

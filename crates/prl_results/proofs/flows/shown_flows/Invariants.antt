@@ -1,6 +1,0 @@
-use Rattle.prl_results.specs.Shown.{AreShownBelow}
-use Rattle.prl_results.proofs.flows.shown_flows.Given as goal
-
--- the flows of the tasks so far
-abbrev pub invariant-loop-i : goal.invariant-loop-i
-invariant-loop-i l = AreShownBelow l.closed l.plan.graph l.i l.flows.items

@@ -1,2 +1,0 @@
--- What a closed board shows of the actuators.
-pub mod Shown

@@ -1,6 +1,0 @@
--- which word of a command line is wrong
-pub mod Wrong
--- how it is told
-pub mod WrongTexts
--- the words of a command among others
-pub mod Dashes
