@@ -3,7 +3,7 @@
 use crate::comparing::GAP;
 use crate::drafts::Draft;
 use crate::expanding::{Filling, add_lines, add_text};
-use crate::lines::{after, said};
+use crate::lines::said;
 use crate::report::Report;
 use crate::scenes::{Scene, filled};
 
@@ -77,14 +77,7 @@ pub fn is_of_call(line: &str) -> bool {
         return true;
     }
     match line.split_once(' ') {
-        Some((word, _)) => is_word(word),
-        None => false,
-    }
-}
-
-fn is_word(word: &str) -> bool {
-    match word {
-        "status" | "into" | "fronts" | "files" | "out" | "err" => true,
+        Some(("status" | "into" | "fronts" | "files" | "out" | "err", _)) => true,
         _ => false,
     }
 }
@@ -116,7 +109,7 @@ pub fn limits_of(report: &mut Report, lines: &[&str], start: &str) -> Limits {
         fails: Vec::new(report.alloc),
     };
     for line in lines {
-        if let Some(words) = after(line, start) {
+        if let Some(words) = line.strip_prefix(start) {
             read_limits(report, &mut limits, words);
         }
     }

@@ -29,15 +29,10 @@ pub fn add_text(out: &mut Draft, text: &str, fillings: &[Filling<'_>]) {
         None => out.add(text),
         Some((first, rest)) => {
             out.add(first);
-            add_parts(out, rest, fillings);
+            for part in rest.split('{') {
+                add_part(out, part, fillings);
+            }
         }
-    }
-}
-
-/// Adds what follows the first `{`.
-fn add_parts(out: &mut Draft, text: &str, fillings: &[Filling<'_>]) {
-    for part in text.split('{') {
-        add_part(out, part, fillings);
     }
 }
 
@@ -81,17 +76,13 @@ fn add_hole(out: &mut Draft, name: &str, fillings: &[Filling<'_>]) {
 
 /// Adds the character of a hexadecimal number.
 fn add_numbered_char(out: &mut Draft, digits: &str) {
-    match char_of(digits) {
-        Some(letter) => out.add_char(letter),
-        None => out.refuse("no character"),
-    }
-}
-
-/// The character of a hexadecimal number.
-fn char_of(digits: &str) -> Option<char> {
-    match u32::from_str_radix(digits, 16) {
+    let letter = match u32::from_str_radix(digits, 16) {
         Ok(number) => char::from_u32(number),
         Err(_) => None,
+    };
+    match letter {
+        Some(letter) => out.add_char(letter),
+        None => out.refuse("no character"),
     }
 }
 

@@ -11,16 +11,11 @@ pub fn lines_of<'a>(report: &mut Report, text: &'a str) -> Vec<&'a str> {
     lines
 }
 
-/// What follows this start of a line.
-pub fn after<'a>(line: &'a str, start: &str) -> Option<&'a str> {
-    line.strip_prefix(start)
-}
-
 /// What the last line that begins so says.
 pub fn said<'a>(lines: &[&'a str], start: &str) -> Option<&'a str> {
     let mut found = None;
     for line in lines {
-        if let Some(rest) = after(line, start) {
+        if let Some(rest) = line.strip_prefix(start) {
             found = Some(rest);
         }
     }

@@ -2,7 +2,7 @@
 
 use crate::calls::is_of_call;
 use crate::expanding::Filling;
-use crate::lines::{after, behind, front, trimmed};
+use crate::lines::{behind, front, trimmed};
 use crate::report::Report;
 use crate::running::run_call;
 use crate::scenes::{Body, CaseFile, LineEnd, Scene, filled};
@@ -30,35 +30,25 @@ enum Kind<'a> {
 }
 
 fn kind_of(line: &str) -> Kind<'_> {
-    if let Some(name) = after(line, "# ") {
+    if let Some(name) = line.strip_prefix("# ") {
         return Kind::Case(name);
     }
-    if let Some(head) = file_head(line) {
-        return Kind::File(head);
+    if let Some(rest) = line.strip_prefix("-- ") {
+        return match rest.strip_suffix(" --") {
+            Some(head) => Kind::File(head),
+            None => Kind::Nothing,
+        };
     }
     if let Some(rest) = line.strip_prefix('=') {
         return Kind::Filling(rest);
     }
-    match command(line) {
+    if line == "$" {
+        return Kind::Call("");
+    }
+    match line.strip_prefix("$ ") {
         Some(words) => Kind::Call(words),
         None => Kind::Nothing,
     }
-}
-
-/// What stands between the marks of a line that begins a file.
-fn file_head(line: &str) -> Option<&str> {
-    match after(line, "-- ") {
-        Some(rest) => rest.strip_suffix(" --"),
-        None => None,
-    }
-}
-
-/// The command line of a line that begins a call.
-fn command(line: &str) -> Option<&str> {
-    if line == "$" {
-        return Some("");
-    }
-    after(line, "$ ")
 }
 
 /// Runs the cases of the lines of this file.
@@ -75,7 +65,7 @@ pub fn run_lines<'a>(report: &mut Report, file: &str, lines: &'a [&'a str]) {
 
 fn run_cases<'a>(report: &mut Report, file: &str, shared: &[CaseFile<'_>], lines: &'a [&'a str]) {
     for (k, line) in lines.iter().enumerate() {
-        if let Some(name) = after(line, "# ") {
+        if let Some(name) = line.strip_prefix("# ") {
             report.begin(file, name);
             run_case(report, shared, lines, k.saturating_add(1));
             if has_case(front(lines, k), name) {
@@ -89,7 +79,7 @@ fn run_cases<'a>(report: &mut Report, file: &str, shared: &[CaseFile<'_>], lines
 /// Whether a case of this name begins in the lines.
 fn has_case(lines: &[&str], name: &str) -> bool {
     for line in lines {
-        match after(line, "# ") {
+        match line.strip_prefix("# ") {
             Some(other) if other == name => return true,
             _ => {}
         }
@@ -106,7 +96,7 @@ fn run_case(report: &mut Report, shared: &[CaseFile<'_>], lines: &[&str], number
         case_lines(behind(lines, number)),
         number.saturating_add(1),
     );
-    report.go_to(number);
+    report.line = number;
     if scene.words.is_empty() {
         report.refuse("no call");
     }
@@ -116,7 +106,7 @@ fn run_case(report: &mut Report, shared: &[CaseFile<'_>], lines: &[&str], number
 fn take_lines<'a>(report: &mut Report, scene: &mut Scene<'a>, lines: &'a [&'a str], first: usize) {
     let mut place = Place::Head;
     for (k, line) in lines.iter().enumerate() {
-        report.go_to(first.saturating_add(k));
+        report.line = first.saturating_add(k);
         place = take_line(
             report,
             scene,
@@ -169,22 +159,14 @@ fn check_line(report: &mut Report, place: Place, line: &str) {
 /// The file that a head begins: a name, and `crlf` or `open` behind it.
 fn add_file<'a>(report: &mut Report, scene: &mut Scene<'a>, head: &'a str, lines: &'a [&'a str]) {
     let (name, kind) = head.split_once(' ').unwrap_or((head, ""));
-    match line_end(kind) {
-        Some(end) => {
-            let body = Body::Lines(trimmed(lines), end);
-            report.put(&mut scene.files, CaseFile { name, body });
-        }
-        None => report.refuse("no kind of file"),
-    }
-}
-
-fn line_end(kind: &str) -> Option<LineEnd> {
-    match kind {
-        "" => Some(LineEnd::Feed),
-        "crlf" => Some(LineEnd::ReturnFeed),
-        "open" => Some(LineEnd::LastOpen),
-        _ => None,
-    }
+    let end = match kind {
+        "" => LineEnd::Feed,
+        "crlf" => LineEnd::ReturnFeed,
+        "open" => LineEnd::LastOpen,
+        _ => return report.refuse("no kind of file"),
+    };
+    let body = Body::Lines(trimmed(lines), end);
+    report.put(&mut scene.files, CaseFile { name, body });
 }
 
 /// The text for the holes of a name, from `NAME TEXT`.
@@ -197,7 +179,7 @@ fn add_filling<'a>(report: &mut Report, scene: &mut Scene<'a>, rest: &'a str) {
 /// The lines up to the next case.
 fn case_lines<'a>(lines: &'a [&'a str]) -> &'a [&'a str] {
     for (k, line) in lines.iter().enumerate() {
-        if after(line, "# ").is_some() {
+        if line.starts_with("# ") {
             return front(lines, k);
         }
     }

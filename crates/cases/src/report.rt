@@ -11,7 +11,8 @@ pub struct Report {
     pub text: Draft,
     /// The file and the case.
     place: Draft,
-    line: u64,
+    /// The line that is being read.
+    pub line: usize,
     passes: bool,
     /// How many cases passed, and how many did not.
     pub counts: (u64, u64),
@@ -37,11 +38,6 @@ impl Report {
         self.place.add(file);
         self.place.add(": ");
         self.place.add(case);
-    }
-
-    /// Another line is read.
-    pub fn go_to(&mut self, line: usize) {
-        self.line = line as u64;
     }
 
     /// Counts the case that was begun last; where it is none, only if something in it is wrong.
@@ -73,7 +69,7 @@ impl Report {
         self.passes = false;
         self.text.add(self.place.text.as_str());
         self.text.add(": line ");
-        self.text.add_number(self.line);
+        self.text.add_number(self.line as u64);
         self.text.add(": ");
         self.text.add(why);
         self.text.add("\n");

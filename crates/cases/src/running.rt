@@ -30,13 +30,11 @@ pub fn run_call<'a>(
 fn run_read<'a>(report: &mut Report, scene: &mut Scene<'a>, call: &Call<'a>) {
     match said(call.lines, "fronts ") {
         Some(name) => run_fronts(report, scene, call, name),
-        None => run_once(report, scene, call),
+        None => {
+            let folder = folder_of(report, scene);
+            run_on(report, scene, call, folder, call.err.as_str());
+        }
     }
-}
-
-fn run_once<'a>(report: &mut Report, scene: &mut Scene<'a>, call: &Call<'a>) {
-    let folder = folder_of(report, scene);
-    run_on(report, scene, call, folder, call.err.as_str());
 }
 
 /// Makes a call for each line of `err`, on the fronts of 0, 1, 2, .. bytes of the file of this name.
@@ -58,17 +56,11 @@ fn run_front<'a>(
     count: usize,
     err: &str,
 ) {
-    let folder = front_of(report, scene, name, count);
-    run_on(report, scene, call, folder, err);
-}
-
-/// The files of a scene, with so many bytes of the one of this name.
-fn front_of(report: &mut Report, scene: &Scene<'_>, name: &str, count: usize) -> Folder {
     let mut folder = folder_of(report, scene);
     if !cut(&mut folder, name, count) {
         report.refuse("a front that the file does not have");
     }
-    folder
+    run_on(report, scene, call, folder, err);
 }
 
 /// Makes a call on these files, which is to tell this on `err`.
@@ -116,30 +108,22 @@ fn keep<'a>(report: &mut Report, scene: &mut Scene<'a>, lines: &[&'a str], out: 
 
 /// Refuses what a call told where it is not what is wanted, with this text on `err`.
 fn check(report: &mut Report, call: &Call<'_>, status: u8, out: &[u8], told: &[u8], err: &str) {
-    let out = text_of(out);
-    let told = text_of(told);
+    let out = str::from_utf8(out).unwrap_or("no UTF-8");
+    let told = str::from_utf8(told).unwrap_or("no UTF-8");
     let out_fits = is_made_of(report, out, call.out.as_str());
     if status == call.status && out_fits && told == err {
         return;
     }
     report.refuse("the call told something else");
-    print_call(&mut report.text, call.line.as_str(), status);
+    report.text.add("$ ");
+    report.text.add(call.line.as_str());
+    report.text.add("\nstatus ");
+    report.text.add_number(status as u64);
+    report.text.add("\n");
     if !out_fits {
         print_lines(&mut report.text, "> ", out);
     }
     print_lines(&mut report.text, "! ", told);
-}
-
-fn text_of(bytes: &[u8]) -> &str {
-    str::from_utf8(bytes).unwrap_or("no UTF-8")
-}
-
-fn print_call(text: &mut Draft, line: &str, status: u8) {
-    text.add("$ ");
-    text.add(line);
-    text.add("\nstatus ");
-    text.add_number(status as u64);
-    text.add("\n");
 }
 
 /// Tells the lines of a text, as a file of cases would have it.

@@ -77,7 +77,10 @@ fn add_files(
     fillings: &[Filling<'_>],
 ) {
     for file in files {
-        let bytes = bytes_of(report, &file.body, fillings);
+        let bytes = match &file.body {
+            Body::Bytes(bytes) => report.copy(bytes.as_slice()),
+            Body::Lines(lines, end) => written(report, lines, *end, fillings),
+        };
         add_entry(report, folder, file.name, bytes);
     }
 }
@@ -89,36 +92,21 @@ fn add_entry(report: &mut Report, folder: &mut Folder, name: &str, bytes: Vec<u8
     }
 }
 
-fn bytes_of(report: &mut Report, body: &Body<'_>, fillings: &[Filling<'_>]) -> Vec<u8> {
-    match body {
-        Body::Bytes(bytes) => report.copy(bytes.as_slice()),
-        Body::Lines(lines, end) => written(report, lines, *end, fillings),
-    }
-}
-
 /// The lines with these ends, each without a `\` that begins it.
 fn written(report: &mut Report, lines: &[&str], end: LineEnd, fillings: &[Filling<'_>]) -> Vec<u8> {
+    let mark = match end {
+        LineEnd::Feed | LineEnd::LastOpen => "\n",
+        LineEnd::ReturnFeed => "\r\n",
+    };
     let mut draft = Draft::new(report.alloc);
     for line in lines {
-        add_lines(
-            &mut draft,
-            line.strip_prefix('\\').unwrap_or(line),
-            mark_of(end),
-            fillings,
-        );
+        let line = line.strip_prefix('\\').unwrap_or(line);
+        add_lines(&mut draft, line, mark, fillings);
     }
     if let LineEnd::LastOpen = end {
         let _ = draft.text.pop();
     }
     report.take(draft).into_bytes()
-}
-
-/// What stands at the end of each line.
-fn mark_of(end: LineEnd) -> &'static str {
-    match end {
-        LineEnd::Feed | LineEnd::LastOpen => "\n",
-        LineEnd::ReturnFeed => "\r\n",
-    }
 }
 
 /// The text with its holes filled.

@@ -84,7 +84,6 @@ pub enum Setting {
 
 /// What the arguments of a command line ask for. An option that is not given is None, and a number that is
 /// not given is 0, but there is one worker then.
-#[derive(Drop)]
 pub struct Command {
     pub mode: Mode,
     /// The file of the program.
@@ -604,5 +603,32 @@ pub fn read_words(alloc: Global, words: &[String]) -> Result<Command, WordsFault
             Err(_) => Err(WordsFault::Memory),
         },
         Err(_) => Err(WordsFault::Memory),
+    }
+}
+
+impl Drop for Command {
+    fn drop(self) {
+        let Command {
+            mode: _,
+            program,
+            bodies,
+            sensors,
+            schedule,
+            table,
+            cores,
+            node,
+            until: _,
+            workers: _,
+            clock: _,
+            seed: _,
+            size: _,
+        } = self;
+        drop(program);
+        drop(bodies);
+        drop(sensors);
+        drop(schedule);
+        drop(table);
+        drop(cores);
+        drop(node);
     }
 }

@@ -4,7 +4,6 @@ use crate::expressions::Expr;
 use prl_base::{Name, Ratio, Seq, Span, Ty};
 
 /// A program: its declarations, each kind in the order of the text.
-#[derive(Drop)]
 pub struct Program {
     pub imports: Seq<Import>,
     pub sensors: Seq<Device>,
@@ -13,7 +12,6 @@ pub struct Program {
 }
 
 /// An imported node.
-#[derive(Drop)]
 pub struct Import {
     pub name: Name,
     pub ins: Seq<Port>,
@@ -25,7 +23,6 @@ pub struct Import {
 }
 
 /// An input or an output of an import.
-#[derive(Drop)]
 pub struct Port {
     pub name: Name,
     pub ty: Ty,
@@ -34,7 +31,6 @@ pub struct Port {
 }
 
 /// A sensor or an actuator.
-#[derive(Drop)]
 pub struct Device {
     pub name: Name,
     /// Its worst-case execution time in ticks, 1 to 2^31 - 1.
@@ -44,7 +40,6 @@ pub struct Device {
 }
 
 /// A node of the program.
-#[derive(Drop)]
 pub struct Node {
     pub name: Name,
     pub ins: Seq<Param>,
@@ -56,7 +51,6 @@ pub struct Node {
 }
 
 /// An input, an output or a local variable of a node, with what its note says.
-#[derive(Drop)]
 pub struct Param {
     pub name: Name,
     pub ty: Option<Ty>,
@@ -77,7 +71,6 @@ pub struct Rate {
 }
 
 /// The flows on the left are those of the expression.
-#[derive(Drop)]
 pub struct Equation {
     pub lefts: Seq<Placed>,
     pub right: Expr,
@@ -90,4 +83,95 @@ pub struct Equation {
 pub struct Placed {
     pub name: Name,
     pub at: Span,
+}
+
+impl Drop for Program {
+    fn drop(self) {
+        let Program {
+            imports,
+            sensors,
+            actuators,
+            nodes,
+        } = self;
+        drop(imports);
+        drop(sensors);
+        drop(actuators);
+        drop(nodes);
+    }
+}
+
+impl Drop for Import {
+    fn drop(self) {
+        let Import {
+            name,
+            ins,
+            outs,
+            wcet: _,
+            at: _,
+        } = self;
+        drop(name);
+        drop(ins);
+        drop(outs);
+    }
+}
+
+impl Drop for Port {
+    fn drop(self) {
+        let Port { name, ty: _, at: _ } = self;
+        drop(name);
+    }
+}
+
+impl Drop for Device {
+    fn drop(self) {
+        let Device {
+            name,
+            wcet: _,
+            at: _,
+        } = self;
+        drop(name);
+    }
+}
+
+impl Drop for Node {
+    fn drop(self) {
+        let Node {
+            name,
+            ins,
+            outs,
+            locals,
+            eqs,
+            at: _,
+        } = self;
+        drop(name);
+        drop(ins);
+        drop(outs);
+        drop(locals);
+        drop(eqs);
+    }
+}
+
+impl Drop for Param {
+    fn drop(self) {
+        let Param {
+            name,
+            ty: _,
+            rate: _,
+            due: _,
+            at: _,
+        } = self;
+        drop(name);
+    }
+}
+
+impl Drop for Equation {
+    fn drop(self) {
+        let Equation {
+            lefts,
+            right,
+            at: _,
+        } = self;
+        drop(lefts);
+        drop(right);
+    }
 }

@@ -52,7 +52,6 @@ pub enum NameFault {
 
 /// A word of 1 to 64 bytes: a letter or `_`, and then letters, digits and `_`, all of them ASCII. A
 /// keyword is one too. Contracts see the list of its bytes.
-#[derive(Drop)]
 pub struct Name {
     bytes: Vec<u8>,
 }
@@ -112,7 +111,6 @@ impl Name {
 }
 
 /// Any bytes: the name of a flow, of a task or of a file. Contracts see the list of its bytes.
-#[derive(Drop)]
 pub struct Label {
     bytes: Vec<u8>,
 }
@@ -140,5 +138,19 @@ impl Label {
         ensures { result.now ≡ self.now }
     {
         self.bytes.as_slice()
+    }
+}
+
+impl Drop for Name {
+    fn drop(self) {
+        let Name { bytes } = self;
+        drop(bytes);
+    }
+}
+
+impl Drop for Label {
+    fn drop(self) {
+        let Label { bytes } = self;
+        drop(bytes);
     }
 }

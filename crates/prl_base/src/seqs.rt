@@ -7,7 +7,6 @@ use std::marker::Model;
 
 /// A vector whose model is its list of items. A public field that a clause compares with a definition's value has this type
 /// and not `Vec`, of which contracts see more than the items.
-#[derive(Drop)]
 pub struct Seq<T> {
     items: Vec<T>,
 }
@@ -56,5 +55,12 @@ impl<T> Seq<T> {
     {
         let Seq { items } = self;
         items
+    }
+}
+
+impl<T: Drop> Drop for Seq<T> {
+    fn drop(self) {
+        let Seq { items } = self;
+        drop(items);
     }
 }

@@ -27,7 +27,6 @@ pub enum Ticked {
 }
 
 /// The seat of the clock. Contracts see a `ClockSeatView`.
-#[derive(Drop)]
 pub struct ClockSeat {
     seat: Seat,
     now: u64,
@@ -164,5 +163,17 @@ impl ClockSeat {
     {
         let word = board.load_clock_stop(&mut self.seat);
         board.task_named(word)
+    }
+}
+
+impl Drop for ClockSeat {
+    fn drop(self) {
+        let ClockSeat {
+            seat,
+            now: _,
+            looks,
+        } = self;
+        drop(seat);
+        drop(looks);
     }
 }

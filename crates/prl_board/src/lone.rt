@@ -27,7 +27,6 @@ use std::marker::Model;
 use std::sync::ledger::Ledger;
 
 /// One thread that holds all seats of a board: each has lent its part to one seat of the table. Contracts see a `LoneView`.
-#[derive(Drop)]
 pub struct Lone {
     seats: Vec<TaskSeat>,
     clock: ClockSeat,
@@ -288,5 +287,18 @@ impl Lone {
         ensures { (k : Constants) → self.entry.now.view.constants ≡ Some k → IsWhole k self.entry.now }
     {
         let _ = &self.whole;
+    }
+}
+
+impl Drop for Lone {
+    fn drop(self) {
+        let Lone {
+            seats,
+            clock,
+            whole,
+        } = self;
+        drop(seats);
+        drop(clock);
+        drop(whole);
     }
 }

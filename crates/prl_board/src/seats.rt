@@ -76,7 +76,6 @@ pub struct Wrote {
 }
 
 /// The seat of a task. Contracts see a `JobSeatView`.
-#[derive(Drop)]
 pub struct TaskSeat {
     job: JobSeat,
     /// The low half of the instance of which the high half is to be read.
@@ -455,3 +454,15 @@ fn seats_are_sent() {
 }
 
 fn is_sent<T: Send>() {}
+
+impl Drop for TaskSeat {
+    fn drop(self) {
+        let TaskSeat {
+            job,
+            low: _,
+            worker,
+        } = self;
+        drop(job);
+        drop(worker);
+    }
+}

@@ -6,7 +6,6 @@ use prl_base::{Name, Seq, Value};
 use std::marker::Model;
 
 /// A register of a checked body.
-#[derive(Drop)]
 pub struct Register {
     pub name: Name,
     /// Its value before the first step.
@@ -16,7 +15,6 @@ pub struct Register {
 }
 
 /// The parts of a checked body.
-#[derive(Drop)]
 pub struct CheckedBody {
     /// The import's name.
     pub name: Name,
@@ -32,7 +30,6 @@ pub struct CheckedBody {
 
 /// A body that fits its import, with its names resolved. Contracts see its tree, with the names and types
 /// of the import's ports.
-#[derive(Drop)]
 pub struct Body {
     parts: CheckedBody,
 }
@@ -70,5 +67,41 @@ impl Body {
         ensures well_typed { IsWellTyped self.now }
     {
         &self.parts
+    }
+}
+
+impl Drop for Register {
+    fn drop(self) {
+        let Register {
+            name,
+            first: _,
+            next,
+        } = self;
+        drop(name);
+        drop(next);
+    }
+}
+
+impl Drop for CheckedBody {
+    fn drop(self) {
+        let CheckedBody {
+            name,
+            ins,
+            outs,
+            registers,
+            values,
+        } = self;
+        drop(name);
+        drop(ins);
+        drop(outs);
+        drop(registers);
+        drop(values);
+    }
+}
+
+impl Drop for Body {
+    fn drop(self) {
+        let Body { parts } = self;
+        drop(parts);
     }
 }

@@ -12,7 +12,6 @@ use std::marker::Model;
 use std::mem;
 
 /// The registers of a body and the number of its steps. Contracts see these two.
-#[derive(Drop)]
 pub struct Machine {
     registers: Vec<Value>,
     /// Where a step builds the next registers: as many values as there are registers.
@@ -94,5 +93,17 @@ impl Machine {
         write_registers(parts, inputs, self.registers.as_slice(), &mut self.next);
         mem::swap(&mut self.registers, &mut self.next);
         self.steps += 1;
+    }
+}
+
+impl Drop for Machine {
+    fn drop(self) {
+        let Machine {
+            registers,
+            next,
+            steps: _,
+        } = self;
+        drop(registers);
+        drop(next);
     }
 }

@@ -18,7 +18,6 @@ use std::alloc::Global;
 use std::marker::Model;
 
 /// The bodies of a program's imports. Contracts see the list of their parts, in the order of the text.
-#[derive(Drop)]
 pub struct Bodies {
     bodies: Vec<Body>,
 }
@@ -131,4 +130,11 @@ pub fn check_bodies(
     let bodies = checked_bodies(alloc, &directory)?;
     all_there(alloc, &directory, bodies.as_slice(), used)?;
     Ok(Bodies { bodies })
+}
+
+impl Drop for Bodies {
+    fn drop(self) {
+        let Bodies { bodies } = self;
+        drop(bodies);
+    }
 }

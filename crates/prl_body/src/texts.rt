@@ -3,13 +3,11 @@
 use prl_base::{Name, Operator, Prefix, Seq, Span, Value};
 
 /// The bodies of a text, in order.
-#[derive(Drop)]
 pub struct BodyTexts {
     pub bodies: Seq<BodyText>,
 }
 
 /// One body.
-#[derive(Drop)]
 pub struct BodyText {
     pub name: Name,
     /// The name.
@@ -19,7 +17,6 @@ pub struct BodyText {
 }
 
 /// `reg NAME = const;`
-#[derive(Drop)]
 pub struct RegisterText {
     pub name: Name,
     pub first: Value,
@@ -28,7 +25,6 @@ pub struct RegisterText {
 }
 
 /// `NAME = e;`
-#[derive(Drop)]
 pub struct Statement {
     pub left: Name,
     pub right: Expr,
@@ -72,4 +68,44 @@ pub struct ExprRight {
     pub operator: Operator,
     pub at: Span,
     pub right: Expr,
+}
+
+impl Drop for BodyTexts {
+    fn drop(self) {
+        let BodyTexts { bodies } = self;
+        drop(bodies);
+    }
+}
+
+impl Drop for BodyText {
+    fn drop(self) {
+        let BodyText {
+            name,
+            at: _,
+            registers,
+            statements,
+        } = self;
+        drop(name);
+        drop(registers);
+        drop(statements);
+    }
+}
+
+impl Drop for RegisterText {
+    fn drop(self) {
+        let RegisterText {
+            name,
+            first: _,
+            at: _,
+        } = self;
+        drop(name);
+    }
+}
+
+impl Drop for Statement {
+    fn drop(self) {
+        let Statement { left, right, at: _ } = self;
+        drop(left);
+        drop(right);
+    }
 }

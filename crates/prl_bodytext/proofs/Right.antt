@@ -3,9 +3,9 @@ use Rattle.prl_base.proofs.Standard.{map, ◌≡◌, ◌<◌, ◌≤◌, List, l
 use Rattle.prl_base.specs.declared.places.Span.{Span}
 use Rattle.prl_body.specs.Texts.{Tree}
 use Rattle.prl_body.specs.declared.texts.RegisterText.{RegisterText}
-use Rattle.prl_grammar.specs.Vocabulary.{Lexeme, ◌⊳◌, Grammar, many, placed, inner, inner_of, read_at, IsApart, shape}
-use Rattle.prl_grammar.proofs.Loops.{Steps, steps}
-use Rattle.prl_grammar.proofs.Nesting.{IsRight, text_fewer, text_left}
+use Rattle.prl_lex.specs.Vocabulary.{Lexeme, ◌⊳◌, Grammar, many, placed, inner, inner_of, read_at, IsApart, shape}
+use Rattle.prl_lex.proofs.Loops.{Steps, steps}
+use Rattle.prl_lex.proofs.Nesting.{IsRight, text_fewer, text_left}
 use Rattle.prl_bodytext.specs.Trees.{Sign}
 use Rattle.prl_bodytext.specs.declared.levels.Level.{Level}
 use Rattle.prl_bodytext.specs.declared.levels.Level.TheVariants as levels

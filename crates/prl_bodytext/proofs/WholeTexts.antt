@@ -5,10 +5,10 @@ use Rattle.prl_body.specs.declared.faults.BodyFault.{BodyFault}
 use Rattle.prl_body.specs.declared.faults.BodyFault.TheVariants as faults
 use Rattle.prl_lex.specs.declared.tokens.LexFault.TheVariants as lexical
 use Rattle.prl_lex.proofs.Outcomes.{text_has_outcome}
-use Rattle.prl_grammar.specs.Vocabulary.{IsRead, tree_of_text, told}
-use Rattle.prl_grammar.specs.declared.texts.TextFault.{TextFault}
-use Rattle.prl_grammar.specs.declared.texts.TextFault.TheVariants as texts
-use Rattle.prl_grammar.proofs.TextTrees.{read_is, is_read}
+use Rattle.prl_lex.specs.Vocabulary.{IsRead, tree_of_text, told}
+use Rattle.prl_lex.specs.declared.texts.TextFault.{TextFault}
+use Rattle.prl_lex.specs.declared.texts.TextFault.TheVariants as texts
+use Rattle.prl_lex.proofs.TextTrees.{read_is, is_read}
 use Rattle.prl_bodytext.specs.Parsing.{body_texts, Explains, IsParsed}
 use Rattle.prl_bodytext.specs.code.Outcomes.{of_text}
 use Rattle.prl_bodytext.proofs.Right.{right, bodies_apart}

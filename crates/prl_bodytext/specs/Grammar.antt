@@ -9,10 +9,10 @@ use Rattle.prl_base.specs.declared.body_operators.Prefix.{Prefix}
 use Rattle.prl_base.specs.declared.body_operators.Prefix.TheVariants as prefixes
 use Rattle.prl_body.specs.declared.texts.RegisterText.{RegisterText}
 use Rattle.prl_body.specs.Texts.{Tree, constant, name, choice, StatementTree, TextTree}
-use Rattle.prl_grammar.specs.Numbers.{positive, negative}
-use Rattle.prl_grammar.specs.Productions.{Grammar as GrammarIn, many, inner}
-use Rattle.prl_grammar.specs.Combinators.{◌=>◌, ◌means◌, ◌or◌, ◌&◌, ◌⊳◌, ◌⊲◌, maybe, place, named, number}
-use Rattle.prl_grammar.specs.Language.{Language}
+use Rattle.prl_lex.specs.Numbers.{positive, negative}
+use Rattle.prl_lex.specs.Productions.{Grammar as GrammarIn, many, inner}
+use Rattle.prl_lex.specs.Combinators.{◌=>◌, ◌means◌, ◌or◌, ◌&◌, ◌⊳◌, ◌⊲◌, maybe, place, named, number}
+use Rattle.prl_lex.specs.Language.{Language}
 use Rattle.prl_bodytext.specs.declared.levels.Level.{Level}
 use Rattle.prl_bodytext.specs.declared.levels.Level.TheVariants as levels
 use Rattle.prl_bodytext.specs.declared.words.Fixed.{Fixed}

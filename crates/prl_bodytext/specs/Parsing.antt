@@ -5,7 +5,7 @@ use Rattle.prl_body.specs.declared.faults.BodyFault.TheVariants as faults
 use Rattle.prl_body.specs.Texts.{Tree, TextTree}
 use Rattle.prl_lex.specs.declared.tokens.LexFault.TheVariants as lexical
 use Rattle.prl_lex.specs.Lexing.{tokens_of}
-use Rattle.prl_grammar.specs.Texts.{Texts, IsTextOf, IsUnexpectedAt, IsOutOfRangeAt}
+use Rattle.prl_lex.specs.Texts.{Texts, IsTextOf, IsUnexpectedAt, IsOutOfRangeAt}
 use Rattle.prl_bodytext.specs.Grammar.{Bodies, bodies}
 use Rattle.prl_bodytext.specs.Ranges.{body_ranges}
 use Rattle.prl_bodytext.specs.Words.{body_vocabulary}

@@ -1,7 +1,7 @@
 -- The ranges of the numbers of bodies. What stands before a number tells its range: whether a register is being declared
 -- there, from `reg` to its `;`, and the token just before it.
 use Rattle.std.specs.Prelude.{ℕ, ◌==◌, ◌&&◌, nat_le, Bool, if◌then◌else◌}
-use Rattle.prl_grammar.specs.Ranges.{Ranges}
+use Rattle.prl_lex.specs.Ranges.{Ranges}
 use Rattle.prl_base.specs.declared.decimals.TheConstants.{MAX_NEGATIVE, MAX_POSITIVE}
 use Rattle.prl_bodytext.specs.declared.words.Fixed.TheVariants as fixed
 use Rattle.prl_bodytext.specs.Words.{class_of}

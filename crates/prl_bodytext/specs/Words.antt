@@ -1,6 +1,6 @@
 -- The keywords and symbols of bodies.
 use Rattle.std.specs.Prelude.{ℕ}
-use Rattle.prl_grammar.specs.Lexing.{Vocabulary, class_in}
+use Rattle.prl_lex.specs.Classes.{Vocabulary, class_in}
 use Rattle.prl_bodytext.specs.declared.words.Fixed.{Fixed}
 use Rattle.prl_bodytext.specs.declared.words.Fixed.TheVariants as fixed
 use Rattle.prl_bodytext.specs.declared.words.TheConstants.{KEYWORDS, SYMBOLS}

@@ -3,8 +3,8 @@
 ghost use Rattle.std.specs.Prelude.{◌≡◌, map};
 ghost use Rattle.prl_base.specs.Reading.{Gives};
 ghost use Rattle.prl_body.specs.Texts.{statement_tree, text_tree, text_trees, tree_of};
-ghost use Rattle.prl_grammar.specs.Vocabulary.{◌&◌, ◌⊳◌, ◌⊲◌, inner, many, read_at, stop_of};
-ghost use Rattle.prl_grammar.specs.Vocabulary.{all_at};
+ghost use Rattle.prl_lex.specs.Vocabulary.{◌&◌, ◌⊳◌, ◌⊲◌, inner, many, read_at, stop_of};
+ghost use Rattle.prl_lex.specs.Vocabulary.{all_at};
 ghost use Rattle.prl_bodytext.specs.Grammar.{the, Constant, Register, StatementLine, Body, Bodies, bodies};
 ghost use Rattle.prl_bodytext.specs.code.Parses.{Parses};
 ghost use Rattle.prl_bodytext.specs.declared.words.Fixed.TheVariants as kinds;
@@ -14,7 +14,7 @@ use crate::repeats::Item;
 use crate::words::Fixed;
 use prl_base::{Seq, Value};
 use prl_body::{BodyText, BodyTexts, Expr, RegisterText, Statement};
-use prl_grammar::{Stop, Terminal};
+use prl_lex::{Stop, Terminal};
 use std::alloc::Global;
 
 impl<'a> Parser<'a> {

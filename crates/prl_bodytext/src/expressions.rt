@@ -2,7 +2,7 @@
 
 ghost use Rattle.std.specs.Prelude.{◌≡◌, ◌∷◌, [], map};
 ghost use Rattle.prl_body.specs.Texts.{tree_of};
-ghost use Rattle.prl_grammar.specs.Vocabulary.{◌⊳◌, ◌⊲◌, next_in, many, inner, shape, inner_of};
+ghost use Rattle.prl_lex.specs.Vocabulary.{◌⊳◌, ◌⊲◌, next_in, many, inner, shape, inner_of};
 ghost use Rattle.prl_bodytext.specs.Grammar.{the, sign, Operators, RightOf, SeriesOf, Comparison, Negation, Unary, Primary, Enclosed, Conditional, Operand, bodies};
 ghost use Rattle.prl_bodytext.specs.code.Parses.{Parses};
 ghost use Rattle.prl_bodytext.specs.declared.words.Fixed.TheVariants as kinds;
@@ -14,7 +14,7 @@ use crate::trees::{compared, in_series, prefixed};
 use crate::words::Fixed;
 use prl_base::{Span, Value};
 use prl_body::{Expr, ExprRight, Operator, Prefix};
-use prl_grammar::{Stop, positive};
+use prl_lex::{Stop, positive};
 
 impl<'a> Parser<'a> {
     #[tactic(auto, unfolding(crate::specs::Grammar::Operators, crate::specs::Grammar::RightOf))]
@@ -97,7 +97,7 @@ impl<'a> Parser<'a> {
     }
 
     /// Takes as many of the token as are next, and answers their places.
-    #[tactic(auto, using(prl_grammar::proofs::Loops::loops, crate::proofs::Right::prefix_steps))]
+    #[tactic(auto, using(prl_lex::proofs::Loops::loops, crate::proofs::Right::prefix_steps))]
     fn prefixes(&mut self, fixed: Fixed) -> Result<Vec<Span>, Stop>
         ensures { Parses (λ x. x.items) (many (the fixed)) result self.entry.now self.exit.now }
     {
@@ -113,7 +113,7 @@ impl<'a> Parser<'a> {
     fn primary(&mut self) -> Result<Expr, Stop>
         ensures { Parses tree_of Primary result self.entry.now self.exit.now }
     {
-        if prl_grammar::next_is(self.rest, 1) {
+        if prl_lex::next_is(self.rest, 1) {
             return Ok(Expr::Const(positive(self.number()?)));
         }
         if self.next_is(Fixed::True) {
@@ -244,7 +244,7 @@ impl<'a> Parser<'a> {
     }
 
     #[cycle(expression)]
-    #[tactic(auto, using(prl_grammar::proofs::Loops::loops, crate::proofs::Right::pair_steps))]
+    #[tactic(auto, using(prl_lex::proofs::Loops::loops, crate::proofs::Right::pair_steps))]
     fn rights(&mut self, level: Level) -> Result<Vec<ExprRight>, Stop>
         ensures { Parses (λ x. map pair_view x.items) (many (RightOf level (Operand level))) result self.entry.now self.exit.now }
     {

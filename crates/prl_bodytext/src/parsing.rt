@@ -9,8 +9,7 @@ use crate::bodies::bodies;
 use crate::ranges::greatest;
 use crate::words::{Fixed, KEYWORDS, SYMBOLS, class_of};
 use prl_body::{BodyFault, BodyTexts};
-use prl_grammar::{Stop, Syntax, Terminal, TextFault, class_in, read_text};
-use prl_lex::LexFault;
+use prl_lex::{LexFault, Stop, Syntax, Terminal, TextFault, class_in, read_text};
 use std::alloc::Global;
 
 /// The texts of bodies.

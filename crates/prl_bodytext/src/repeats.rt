@@ -1,18 +1,18 @@
 //! What is read one after another.
 
 ghost use Rattle.std.specs.Prelude.{◌≡◌, map};
-ghost use Rattle.prl_grammar.specs.Vocabulary.{inner_of, IsApart, many, shape, next_in};
+ghost use Rattle.prl_lex.specs.Vocabulary.{inner_of, IsApart, many, shape, next_in};
 ghost use Rattle.prl_bodytext.specs.Grammar.{bodies};
 ghost use Rattle.prl_bodytext.specs.code.Parses.{Parses};
 
 use crate::parser::Parser;
-use prl_grammar::Stop;
+use prl_lex::Stop;
 
 /// What may stand many times in a row.
 pub trait Item: Sized + Drop {
-    ghost use Rattle.prl_grammar.specs.Productions.{Grammar};
-    ghost use Rattle.prl_grammar.specs.code.Shapes.{shape};
-    ghost use Rattle.prl_grammar.specs.code.Languages.{inner_of};
+    ghost use Rattle.prl_lex.specs.Productions.{Grammar};
+    ghost use Rattle.prl_lex.specs.code.Shapes.{shape};
+    ghost use Rattle.prl_lex.specs.code.Languages.{inner_of};
     ghost use Rattle.prl_body.specs.Texts.{Tree};
     ghost use Rattle.prl_bodytext.specs.Grammar.{bodies};
 
@@ -33,7 +33,7 @@ pub trait Item: Sized + Drop {
 
 impl<'a> Parser<'a> {
     /// Takes as many as there are.
-    #[tactic(auto, using(prl_grammar::proofs::Loops::loops, crate::proofs::Right::loop_steps))]
+    #[tactic(auto, using(prl_lex::proofs::Loops::loops, crate::proofs::Right::loop_steps))]
     pub fn many<T: Item>(&mut self) -> Result<Vec<T>, Stop>
         requires { IsApart (inner_of bodies) (many T.grammar) }
         ensures { Parses (λ x. map T.seen x.items) (many T.grammar) result self.entry.now self.exit.now }

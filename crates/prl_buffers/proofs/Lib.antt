@@ -1,3 +1,4 @@
+mod Grown
 mod TurnSteps
 mod Cuts
 mod EdgeNumbers

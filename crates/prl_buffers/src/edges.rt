@@ -8,8 +8,8 @@ ghost use Rattle.prl_buffers.specs.code.Turns.{IsTurn};
 
 use crate::turns::{Turn, sums_of, turn_of};
 use prl_base::{Clock, Seq, TaskNo};
-use prl_numbers::least_count;
-use prl_plan::{Dates, Edge, Producer, TaskGraph, Used, Word, shortest_repeat};
+use prl_numbers::{least_count, shortest_repeat};
+use prl_plan::{Dates, Edge, Producer, TaskGraph, Used, Word};
 use std::alloc::{AllocError, Global};
 
 /// The least number of cells of an edge, its used instances and the sums of their gaps.

@@ -12,7 +12,6 @@ use std::marker::Model;
 
 /// The dates of a list of clocks before a date, each told once, in order. Contracts see the
 /// clocks, from which date on and before which one their dates are told.
-#[derive(Drop)]
 pub struct Calendar<'a> {
     clocks: &'a [Clock],
     /// For each clock the place of the next one that equals it, or the number of clocks.
@@ -87,4 +86,17 @@ fn sort(due: &mut Vec<u32>)
         return;
     }
     due.sort_unstable();
+}
+
+impl<'a> Drop for Calendar<'a> {
+    fn drop(self) {
+        let Calendar {
+            clocks: _,
+            following,
+            turns: _,
+            from: _,
+            until: _,
+        } = self;
+        drop(following);
+    }
 }

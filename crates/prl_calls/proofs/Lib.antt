@@ -1,4 +1,5 @@
 mod Contents
+mod Flats
 mod Found
 pub mod Schedules
 pub mod Stops

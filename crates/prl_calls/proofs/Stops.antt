@@ -3,7 +3,7 @@ use Rattle.prl_base.proofs.Standard.{◌≡◌, ◌≢◌, ◌++◌, ℕ, List, 
 use Rattle.prl_ast.specs.Trees.{ProgramTree}
 use Rattle.prl_body.specs.declared.faults.BodyFault.{BodyFault}
 use Rattle.prl_body.specs.declared.faults.BodyFault.TheVariants as body_faults
-use Rattle.prl_stages.specs.Vocabulary.{Given, text_of, IsMain, RefusesBodies, IsNoPlan, Comes, front, graphed, planned, stop_of, told_body}
+use Rattle.prl_stages.specs.Vocabulary.{Given, text_of, IsMain, RefusesBodies, IsPlanOrNone, Comes, front, graphed, planned, stop_of, told_body}
 use Rattle.prl_stages.specs.declared.faults.Fault.{Fault}
 use Rattle.prl_stages.specs.declared.faults.InputFile.{InputFile}
 use Rattle.prl_stages.specs.declared.stages.Stage.{Stage}
@@ -39,11 +39,11 @@ pub stops_unread : (g : Given) (list : List Stage) (part : InputFile) → StopsI
 stops_unread g [] part h = h
 stops_unread g (s ∷ rest) part h = elim h [ inl k ↦ k | inr k ↦ stops_unread g rest part k.1 ]
 
--- a stop of the stages of a plan says why there is none
-pub stops_no_plan : (g : Given) (stop : Stop) → StopsIn g (front ++ graphed ++ planned) stop → IsNoPlan g stop
-stops_no_plan g (stops.Unread part) h = absurd (stops_unread g (front ++ graphed ++ planned) part h)
-stops_no_plan g (stops.Refused stage fault) h = stops_comes g (front ++ graphed ++ planned) stage fault h
-stops_no_plan g stops.Memory h = tt
+-- a stop of the stages of a plan that is no want of memory says why there is none
+pub stops_plan_or_none : (g : Given) (stop : Stop) → StopsIn g (front ++ graphed ++ planned) stop → stop ≢ stops.Memory → IsPlanOrNone g None
+stops_plan_or_none g (stops.Unread part) h other = absurd (stops_unread g (front ++ graphed ++ planned) part h)
+stops_plan_or_none g (stops.Refused stage fault) h other = (stage, fault, stops_comes g (front ++ graphed ++ planned) stage fault h)
+stops_plan_or_none g stops.Memory h other = absurd (other refl)
 
 -- a stop of the first of two lists, or of the second after all of the first hold, is one of both
 pub stops_first : (g : Given) (first rest : List Stage) (stop : Stop) → StopsIn g first stop → StopsIn g (first ++ rest) stop

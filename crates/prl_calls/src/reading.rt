@@ -12,7 +12,6 @@ use prl_stages::{Fault, InputFile, MAX_BODIES, MAX_PROGRAM, Stage, Stop, most_of
 use std::alloc::{AllocError, Global};
 
 /// The bytes of the files of a command: none where no file is named.
-#[derive(Drop)]
 pub struct Texts {
     pub program: Vec<u8>,
     pub bodies: Vec<u8>,
@@ -24,7 +23,6 @@ pub struct Texts {
 
 /// What the stages of a command are asked about: the texts of its files, whether one of bodies and whether a schedule is named, the
 /// name of the node that is to be main, or none where it is the last one, and the date up to which it runs, in ticks.
-#[derive(Drop)]
 pub struct Request {
     pub texts: Texts,
     pub named: bool,
@@ -157,5 +155,38 @@ pub fn read_request<F: Files>(
             drop(texts);
             Err(Stop::Memory)
         }
+    }
+}
+
+impl Drop for Texts {
+    fn drop(self) {
+        let Texts {
+            program,
+            bodies,
+            sensors,
+            schedule,
+            table,
+            cores,
+        } = self;
+        drop(program);
+        drop(bodies);
+        drop(sensors);
+        drop(schedule);
+        drop(table);
+        drop(cores);
+    }
+}
+
+impl Drop for Request {
+    fn drop(self) {
+        let Request {
+            texts,
+            named: _,
+            listed: _,
+            node,
+            until: _,
+        } = self;
+        drop(texts);
+        drop(node);
     }
 }

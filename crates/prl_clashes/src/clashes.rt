@@ -10,7 +10,6 @@ use prl_flow::Flat;
 use std::alloc::{AllocError, Global};
 
 /// A flow, and two ways that give it two clocks.
-#[derive(Drop)]
 pub struct Clash {
     pub flow: u32,
     pub one: Way,
@@ -161,4 +160,16 @@ pub fn clash_at(alloc: Global, flat: &Flat, at: u32) -> Result<Option<Clash>, Al
         }
     }
     Ok(None)
+}
+
+impl Drop for Clash {
+    fn drop(self) {
+        let Clash {
+            flow: _,
+            one,
+            other,
+        } = self;
+        drop(one);
+        drop(other);
+    }
 }

@@ -17,7 +17,6 @@ pub struct Hop {
 }
 
 /// A flow with a declared rate, the flows after it, and the clock that follows for the last.
-#[derive(Drop)]
 pub struct Way {
     pub first: u32,
     pub rest: Seq<Hop>,
@@ -91,4 +90,15 @@ pub(crate) fn way_of(flat: &Flat, first: u32, rest: Vec<Hop>, to: u32) -> Option
         rest: Seq::new(rest),
         clock,
     })
+}
+
+impl Drop for Way {
+    fn drop(self) {
+        let Way {
+            first: _,
+            rest,
+            clock: _,
+        } = self;
+        drop(rest);
+    }
 }

@@ -20,7 +20,6 @@ use std::alloc::{AllocError, Global};
 use std::marker::Model;
 
 /// The machine of a plan, its bodies, the rows of its sensors and a horizon. Contracts see a `CoreView`.
-#[derive(Drop)]
 pub struct Core<'a> {
     plan: &'a Plan,
     bodies: &'a Bodies,
@@ -189,5 +188,20 @@ impl<'a> Core<'a> {
         ensures { MatchOption result (IsNoNode self.entry.now task.0) (λ machine. IsMachineOf self.entry.now task.0 machine.now) }
     {
         self.store.workers[task.0 as usize].machine()
+    }
+}
+
+impl<'a> Drop for Core<'a> {
+    fn drop(self) {
+        let Core {
+            plan: _,
+            bodies: _,
+            sensors: _,
+            horizon: _,
+            track,
+            store,
+        } = self;
+        drop(track);
+        drop(store);
     }
 }

@@ -18,7 +18,6 @@ use prl_values::Worker;
 use std::alloc::{AllocError, Global};
 
 /// The values of a machine.
-#[derive(Drop)]
 pub(crate) struct Store {
     /// By half of a cell, the value of which it holds a half.
     pub(crate) halves: Vec<Value>,
@@ -205,5 +204,13 @@ fn sight_of_write(task: TaskNo, job: u64, edge: EdgeNo, slot: SlotNo) -> Seen
             edge,
             cell,
         }
+    }
+}
+
+impl Drop for Store {
+    fn drop(self) {
+        let Store { halves, workers } = self;
+        drop(halves);
+        drop(workers);
     }
 }

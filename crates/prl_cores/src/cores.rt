@@ -20,7 +20,6 @@ use std::marker::Model;
 
 /// The machine of a plan that is spread over processors, with its bodies, the rows of its sensors and a horizon. All processors
 /// share one clock. Contracts see the `CoreView` of its one machine.
-#[derive(Drop)]
 pub struct Cores<'a> {
     core: Core<'a>,
 }
@@ -96,5 +95,12 @@ impl<'a> Cores<'a> {
         ensures { (i : ℕ) × Drives self.entry.now.plan i actuator × AreOutputs self.entry.now i result.now }
     {
         self.core.output(actuator)
+    }
+}
+
+impl<'a> Drop for Cores<'a> {
+    fn drop(self) {
+        let Cores { core } = self;
+        drop(core);
     }
 }

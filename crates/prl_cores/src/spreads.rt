@@ -9,7 +9,6 @@ use prl_plan::{Dates, Placed};
 use std::marker::Model;
 
 /// The tasks of a plan on their processors, and the windows by which their jobs are released. Contracts see a `SpreadView`.
-#[derive(Drop)]
 pub struct Spread {
     processors: Vec<u32>,
     dates: Dates,
@@ -59,5 +58,18 @@ impl Spread {
         ensures { result ≡ self.now.placement }
     {
         Placed::on(self.processors.as_slice(), &self.dates)
+    }
+}
+
+impl Drop for Spread {
+    fn drop(self) {
+        let Spread {
+            processors,
+            dates,
+            clocks,
+        } = self;
+        drop(processors);
+        drop(dates);
+        drop(clocks);
     }
 }

@@ -8,7 +8,8 @@ ghost use Rattle.prl_dates.specs.code.Windows.{AreWindowsOf, AreWindows};
 
 use crate::numbers::{jobs_before, jobs_of, wcet_of};
 use prl_base::{Seq, TaskNo};
-use prl_plan::{TaskGraph, Window, shortest_repeat};
+use prl_numbers::shortest_repeat;
+use prl_plan::{TaskGraph, Window};
 use std::alloc::{AllocError, Global};
 
 /// The shortest list of windows of the task.

@@ -1,6 +1,7 @@
 -- Lists of one event, and where a job's list of actions ends.
-use Rattle.prl_base.proofs.Standard.{◌≡◌, ◌+◌, ◌<◌, ◌++◌, ℕ, List, [], ◌∷◌, length, replicate, append_assoc, inl, inr, sym, ap, ◌∙◌, arith, cases_lt, replicate_more}
+use Rattle.prl_base.proofs.Standard.{◌≡◌, ◌+◌, ◌<◌, ◌≤◌, ◌^◌, ◌++◌, ℕ, List, [], ◌∷◌, length, replicate, append_assoc, inl, inr, sym, ap, ◌∙◌, arith, cases_lt, replicate_more}
 use Rattle.prl_plan.specs.declared.events.Action.TheVariants as actions
+use Rattle.prl_plan.specs.declared.limits.TheConstants.{MAX_EVENTS}
 use Rattle.prl_plan.specs.Vocabulary.{IsJob, RunConstants, action_at}
 use Rattle.prl_plan.specs.declared.events.Event.{Event}
 use Rattle.prl_edf.specs.Unrolled.{HaveOneEnd}
@@ -20,3 +21,7 @@ module _ (c : RunConstants) (one : HaveOneEnd c) (i n : ℕ) (job : IsJob c i n)
         let same : end.0 ≡ place = omega (arith, end.1, past, ahead) in
         more (ap (action_at c i n) (sym same) ∙ end.2))
   ]
+
+-- the dates of a job within the end are small
+pub small_dates : (events acts released due end : ℕ) → released < due → due ≤ end → events ≡ acts + end → events ≤ MAX_EVENTS → (released < 2 ^ 63) × (due < 2 ^ 63)
+small_dates events acts released due end window within events_are few = (omega (arith, window, within, events_are, few), omega (arith, within, events_are, few))

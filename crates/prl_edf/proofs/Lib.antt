@@ -1,4 +1,5 @@
 mod Units
+mod Grown
 mod Busy
 mod Feasible
 mod Overloaded

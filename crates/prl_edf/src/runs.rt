@@ -16,7 +16,6 @@ use prl_plan::{Horizon, Plan, look_ups_fit, plan_facts};
 use std::alloc::{AllocError, Global};
 
 /// A timed run: its pieces, in order of time, each as long as possible.
-#[derive(Drop)]
 pub struct Timed {
     pub pieces: Seq<Piece>,
 }
@@ -203,5 +202,12 @@ pub fn run_units(
                 )?;
             }
         }
+    }
+}
+
+impl Drop for Timed {
+    fn drop(self) {
+        let Timed { pieces } = self;
+        drop(pieces);
     }
 }

@@ -10,8 +10,8 @@ use Rattle.prl_flow.specs.Vocabulary.{dates_before, FlatProgram, clock_of, value
 use Rattle.prl_flow.specs.declared.programs.App.{App}
 use Rattle.prl_flow.specs.declared.programs.Flow.{Flow}
 use Rattle.prl_flow.proofs.ClockDates.{dates_before_number}
-use Rattle.prl_behaviours.specs.Tables.{Reads, nothing, table_of, value_of}
-use Rattle.prl_behaviours.proofs.Earlier.{reads_earlier, value_local}
+use Rattle.prl_causal.specs.Tables.{Reads, nothing, table_of, value_of}
+use Rattle.prl_causal.proofs.Earlier.{reads_earlier, value_local}
 use Rattle.prl_evaluation.specs.Vocabulary.{IsFull, IsPlain, IsSet, IsThere, UnderWay, len, AreWhole, IsGroup, Run, Setting}
 use Rattle.prl_evaluation.proofs.Groups.{clock_there, names_of_reads}
 use Rattle.prl_evaluation.proofs.There.{is_there_at}

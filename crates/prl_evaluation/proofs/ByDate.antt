@@ -12,8 +12,8 @@ use Rattle.prl_flow.specs.declared.programs.App.{App}
 use Rattle.prl_flow.specs.declared.programs.Flow.{Flow}
 use Rattle.prl_flow.specs.declared.programs.Def.TheVariants as definitions
 use Rattle.prl_flow.proofs.ClockDates.{dates_before_number}
-use Rattle.prl_behaviours.specs.Tables.{Reads}
-use Rattle.prl_behaviours.proofs.Earlier.{reads_earlier}
+use Rattle.prl_causal.specs.Tables.{Reads}
+use Rattle.prl_causal.proofs.Earlier.{reads_earlier}
 use Rattle.prl_evaluation.specs.Vocabulary.{AreAt, AreFull, IsPart, IsRest, clocks_by, place_after, CanGrow, HasGrown, IsSet, len, Setting}
 
 not_more : (a b : ℕ) → ((k : ℕ) → k < a → k < b) → a ≤ b

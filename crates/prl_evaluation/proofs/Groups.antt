@@ -12,8 +12,8 @@ use Rattle.prl_flow.specs.declared.programs.Def.{Def}
 use Rattle.prl_flow.specs.declared.programs.Flow.{Flow}
 use Rattle.prl_flow.specs.declared.programs.Def.TheVariants as definitions
 use Rattle.prl_flow.proofs.ClockDates.{dates_before_number}
-use Rattle.prl_behaviours.specs.Tables.{Reads}
-use Rattle.prl_behaviours.proofs.Earlier.{reads_earlier}
+use Rattle.prl_causal.specs.Tables.{Reads}
+use Rattle.prl_causal.proofs.Earlier.{reads_earlier}
 use Rattle.prl_evaluation.specs.Vocabulary.{AreAt, IsFull, IsPlain, IsRest, CanGrow, HasGrown, IsSet, UnderWay, len, AreWhole, IsFilling, IsGroup, Names, is_full, Run, Setting}
 use Rattle.prl_evaluation.proofs.Orders.{order_once, order_within}
 

@@ -16,10 +16,10 @@ use Rattle.prl_flow.specs.declared.programs.Flow.{Flow}
 use Rattle.prl_flow.specs.declared.programs.Def.TheVariants as definitions
 use Rattle.prl_flow.proofs.Applied.{length_HaveTypes}
 use Rattle.prl_flow.proofs.ClockDates.{dates_before_number}
-use Rattle.prl_behaviours.specs.Tables.{Reads, argument_values, nothing, table_of, value_of}
-use Rattle.prl_behaviours.proofs.Earlier.{inputs_local, reads_before, reads_earlier, value_local}
-use Rattle.prl_behaviours.proofs.Solved.{applied_is}
-use Rattle.prl_behaviours.proofs.Typed.{types_inputs, types_registers}
+use Rattle.prl_causal.specs.Tables.{Reads, argument_values, nothing, table_of, value_of}
+use Rattle.prl_causal.proofs.Earlier.{inputs_local, reads_before, reads_earlier, value_local}
+use Rattle.prl_causal.proofs.Solved.{applied_is}
+use Rattle.prl_causal.proofs.Typed.{types_inputs, types_registers}
 use Rattle.prl_evaluation.specs.Vocabulary.{HasGrown, IsPlain, IsReady, IsUnderWay, len, pushed, HasStepped, HaveArguments, IsRun, MayStep, Run}
 
 same_application : (j o k out : ℕ) → definitions.Apply j o ≡ definitions.Apply k out → j ≡ k

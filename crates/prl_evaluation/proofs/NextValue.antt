@@ -7,7 +7,7 @@ use Rattle.prl_flow.specs.declared.programs.Arg.{Arg}
 use Rattle.prl_flow.specs.declared.programs.Def.{Def}
 use Rattle.prl_flow.specs.declared.programs.Flow.{Flow}
 use Rattle.prl_flow.specs.declared.programs.Def.TheVariants as definitions
-use Rattle.prl_behaviours.specs.Tables.{argument_values, nothing, table_of, value_of}
+use Rattle.prl_causal.specs.Tables.{argument_values, nothing, table_of, value_of}
 use Rattle.prl_evaluation.specs.Vocabulary.{CanGrow, IsPlain, IsReady, IsSet, IsThere, UnderWay, len, pushed, HasStepped, HaveArguments, MayStep, Run, Setting}
 use Rattle.prl_evaluation.proofs.Grown as grown
 use Rattle.prl_evaluation.proofs.There.{is_there}

@@ -10,12 +10,12 @@ use Rattle.prl_flow.specs.Vocabulary.{HaveBodies, dates_before, FlatProgram, IsF
 use Rattle.prl_flow.specs.declared.programs.App.{App}
 use Rattle.prl_flow.proofs.ClockDates.{dates_before_number}
 use Rattle.prl_flow.proofs.Lists.{element_at}
-use Rattle.prl_behaviours.specs.Vocabulary.{HaveTypedBodies, clocks_in, values_in, IsFixed, nothing, table_of, ExactlyOne}
-use Rattle.prl_behaviours.proofs.Listed.{solutions_same}
-use Rattle.prl_behaviours.proofs.Ones.{AreOfTheirClocks, solves_over}
-use Rattle.prl_behaviours.proofs.Rounds.{fixed_along, the_table, the_table_fixed}
-use Rattle.prl_behaviours.proofs.Solved.{solves_from_fixed}
-use Rattle.prl_behaviours.proofs.Typed.{fixed_typed}
+use Rattle.prl_causal.specs.Vocabulary.{HaveTypedBodies, clocks_in, values_in, IsFixed, nothing, table_of, ExactlyOne}
+use Rattle.prl_causal.proofs.Listed.{solutions_same}
+use Rattle.prl_causal.proofs.Ones.{AreOfTheirClocks, solves_over}
+use Rattle.prl_causal.proofs.Rounds.{fixed_along, the_table, the_table_fixed}
+use Rattle.prl_causal.proofs.Solved.{solves_from_fixed}
+use Rattle.prl_causal.proofs.Typed.{fixed_typed}
 use Rattle.prl_evaluation.specs.Vocabulary.{AreAt, AreFull, AreSolution, IsSet, UnderWay, len, IsNew, Run, Setting}
 
 module _ (s : Setting) (set : IsSet s) where

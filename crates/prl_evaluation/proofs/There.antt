@@ -8,7 +8,7 @@ use Rattle.prl_base.specs.declared.operators.Op.TheVariants as operators
 use Rattle.prl_flow.specs.Vocabulary.{FlatProgram, HasInstance, IsWellDefined, Rows, rows_of}
 use Rattle.prl_flow.specs.declared.programs.Def.{Def}
 use Rattle.prl_flow.specs.declared.programs.Def.TheVariants as definitions
-use Rattle.prl_behaviours.specs.Tables.{Reads}
+use Rattle.prl_causal.specs.Tables.{Reads}
 use Rattle.prl_evaluation.specs.code.Fronts.{IsPlain, IsReady, IsThere, len}
 
 -- an operator's result has an instance where what it reads is there

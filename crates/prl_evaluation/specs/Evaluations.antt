@@ -7,7 +7,7 @@ use Rattle.prl_body.specs.declared.bodies.CheckedBody.{CheckedBody}
 use Rattle.prl_flow.specs.Programs.{FlatProgram}
 use Rattle.prl_flow.specs.Rows.{Rows}
 use Rattle.prl_flow.specs.States.{IsSolution, State}
-use Rattle.prl_behaviours.specs.Conditions.{clocks_in, values_in}
+use Rattle.prl_causal.specs.Conditions.{clocks_in, values_in}
 use Rattle.prl_evaluation.specs.declared.evaluation.FlowFault.{FlowFault}
 use Rattle.prl_evaluation.specs.declared.evaluation.TheConstants.{MAX_VALUES}
 use Rattle.prl_evaluation.specs.declared.evaluation.FlowFault.TheVariants as faults

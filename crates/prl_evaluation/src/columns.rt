@@ -4,7 +4,7 @@ ghost use Rattle.std.specs.Prelude.{◌≡◌, ◌<◌, ℕ, List, IfOk, length,
 ghost use Rattle.prl_base.specs.Operators.{origin_of};
 ghost use Rattle.prl_body.specs.declared.bodies.CheckedBody.{CheckedBody};
 ghost use Rattle.prl_flow.specs.Vocabulary.{FlatProgram, HasInstance};
-ghost use Rattle.prl_behaviours.specs.Tables.{nothing, table_of, taken, value_of};
+ghost use Rattle.prl_causal.specs.Tables.{nothing, table_of, taken, value_of};
 ghost use Rattle.prl_evaluation.specs.code.Fronts.{IsPlain, IsThere};
 
 use crate::settings::Setting;

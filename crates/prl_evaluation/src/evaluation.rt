@@ -4,7 +4,7 @@ ghost use Rattle.std.specs.Prelude.{◌≡◌, ◌<◌, ◌≤◌, ◌^◌, ℕ,
 ghost use Rattle.prl_flow.specs.Vocabulary.{HaveBodies, values_before, AreClocks, HasRows, clock_of, values_of, IsOrder};
 ghost use Rattle.prl_flow.specs.declared.programs.App.{App as AnyApp};
 ghost use Rattle.prl_base.specs.Clocks.{IsClock};
-ghost use Rattle.prl_behaviours.specs.Conditions.{AreTypedRows};
+ghost use Rattle.prl_causal.specs.Conditions.{AreTypedRows};
 ghost use Rattle.prl_evaluation.specs.Evaluations.{AreSolution, IsFlowFault};
 ghost use Rattle.prl_evaluation.specs.code.Fronts.{IsSet};
 ghost use Rattle.prl_evaluation.specs.code.Runs.{HasBodyNamed, IsNew};
@@ -15,8 +15,8 @@ use crate::settings::Setting;
 use crate::tables::{FlowTable, Values};
 use crate::wholes::fill_all;
 use prl_base::{Clock, Limit, What};
-use prl_behaviours::{programs_have_one_solution, solutions_are_of_their_clocks};
 use prl_body::Bodies;
+use prl_causal::{programs_have_one_solution, solutions_are_of_their_clocks};
 use prl_flow::{App, Clocks, Flat, Order, Sensors, dates_before};
 use std::alloc::{AllocError, Global};
 

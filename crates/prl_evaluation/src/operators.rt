@@ -3,7 +3,7 @@
 ghost use Rattle.std.specs.Prelude.{◌≡◌, ◌<◌, List, length};
 ghost use Rattle.prl_body.specs.declared.bodies.CheckedBody.{CheckedBody};
 ghost use Rattle.prl_flow.specs.Vocabulary.{FlatProgram, rows_of, values_of};
-ghost use Rattle.prl_behaviours.specs.Tables.{table_of, value_of};
+ghost use Rattle.prl_causal.specs.Tables.{table_of, value_of};
 ghost use Rattle.prl_evaluation.specs.code.Fronts.{IsPlain, IsThere};
 
 use crate::tables::Values;

@@ -1,7 +1,7 @@
 //! Runs of applications: the steps of their bodies, one after another.
 
 ghost use Rattle.std.specs.Prelude.{◌≡◌, ◌<◌, ◌^◌, length, slice_index_or, IfOk};
-ghost use Rattle.prl_behaviours.specs.Tables.{argument_values, nothing, table_of};
+ghost use Rattle.prl_causal.specs.Tables.{argument_values, nothing, table_of};
 ghost use Rattle.prl_evaluation.specs.code.Runs.{HasBodyNamed, HasStepped, HaveArguments, IsNew, MayStep};
 
 use crate::operators::value_in;

@@ -106,7 +106,6 @@ pub(crate) fn count(flows: &[Values<'_>], i: usize) -> usize
 }
 
 /// The flows of a program up to a date; those that only hand rows on are lent them. Contracts see the list of the lists of their values.
-#[derive(Drop)]
 pub struct FlowTable<'a> {
     flows: Vec<Values<'a>>,
 }
@@ -133,5 +132,12 @@ impl<'a> FlowTable<'a> {
         ensures { result.now ≡ values_of self.now flow.0 }
     {
         self.flows[flow.0 as usize].as_slice()
+    }
+}
+
+impl<'a> Drop for FlowTable<'a> {
+    fn drop(self) {
+        let FlowTable { flows } = self;
+        drop(flows);
     }
 }

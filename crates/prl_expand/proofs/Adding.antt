@@ -9,7 +9,7 @@ use Rattle.prl_flow.specs.declared.programs.App.{App}
 use Rattle.prl_flow.specs.declared.programs.Arg.{Arg}
 use Rattle.prl_flow.specs.declared.programs.Flow.{Flow}
 use Rattle.prl_flow.specs.declared.programs.Def.TheVariants as definitions
-use Rattle.prl_behaviours.specs.Asked.{first_of as first_given, last_of}
+use Rattle.prl_causal.specs.Asked.{first_of as first_given, last_of}
 use Rattle.prl_expand.specs.Vocabulary.{Numbered, flow_no, made_flow, operator_flows, output_flows, ExpandFault, Next, Made, Adds, IsFew, IsPast, first_type, head_of, operated_flows, operated_given}
 use Rattle.prl_expand.specs.Vocabulary.{operated_types, types_of, arg_of, flow_of, flows_of, number_of, operators_made, operators_over, output_terms, outputs_made, placed_at}
 use Rattle.prl_expand.specs.declared.counts.ExpandFault.TheVariants as faults

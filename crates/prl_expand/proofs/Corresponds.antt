@@ -7,10 +7,10 @@ use Rattle.prl_flow.specs.Vocabulary.{FlatProgram, Rows, Rule, mark_rule, flows_
 use Rattle.prl_flow.specs.declared.programs.App.{App}
 use Rattle.prl_names.proofs.Right.{named}
 use Rattle.prl_types.specs.Typing.{IsTyped}
-use Rattle.prl_behaviours.specs.Vocabulary.{flows_in, imports_in, inputs_of, program_rules, sensed_rules, entered_rules, Behaviour, Satisfies, behaviour_of, state_in}
-use Rattle.prl_behaviours.proofs.Marks.{program-map}
-use Rattle.prl_behaviours.proofs.Shapes.{one_behaviour}
-use Rattle.prl_behaviours.proofs.States.{made, own, flow_places, import_places}
+use Rattle.prl_causal.specs.Vocabulary.{flows_in, imports_in, inputs_of, program_rules, sensed_rules, entered_rules, Behaviour, Satisfies, behaviour_of, state_in}
+use Rattle.prl_causal.proofs.Marks.{program-map}
+use Rattle.prl_causal.proofs.Shapes.{one_behaviour}
+use Rattle.prl_causal.proofs.States.{made, own, flow_places, import_places}
 use Rattle.prl_expand.specs.Vocabulary.{IsOneToOne, Expansion, IsExpansion, Numbered, all_numbered, entered_apps, flat_of, sensors_from}
 use Rattle.prl_expand.proofs.FlatRules.{sensors_count, Tells, numbered_rules, zipped_rules, entered_tells, definitions_sensors}
 use Rattle.prl_expand.proofs.Lists.{head_same, tail_same, to_mapped, of_mapped, all_both, all_first, all_second}

@@ -18,10 +18,10 @@ use Rattle.prl_flow.specs.declared.programs.Def.{Def}
 use Rattle.prl_names.specs.Vocabulary.{callee_of, param_of, params_of, IsKnown, IsKnownRoot, AreKnown, AreKnownEquations}
 use Rattle.prl_types.specs.Vocabulary.{equations_faults, faults_in, root_faults, all_faults, first_of}
 use Rattle.prl_types.specs.Flows as flows
-use Rattle.prl_behaviours.specs.Annotations.{Entered, entered, Rights, done, next, Part, part, Core, Parts, imports_in, right_imports, part_imports, core_imports, parts_imports}
-use Rattle.prl_behaviours.specs.Annotations as notes
-use Rattle.prl_behaviours.specs.Asked.{inputs_of, outputs_of, one, at_index, at_variable, last_of, first_of as first_flow, given, root_given, all_given}
-use Rattle.prl_behaviours.specs.Texts.{node_at, node_of, IsText, AreRights, IsPart, IsCore, AreParts}
+use Rattle.prl_causal.specs.Annotations.{Entered, entered, Rights, done, next, Part, part, Core, Parts, imports_in, right_imports, part_imports, core_imports, parts_imports}
+use Rattle.prl_causal.specs.Annotations as notes
+use Rattle.prl_causal.specs.Asked.{inputs_of, outputs_of, one, at_index, at_variable, last_of, first_of as first_flow, given, root_given, all_given}
+use Rattle.prl_causal.specs.Texts.{node_at, node_of, IsText, AreRights, IsPart, IsCore, AreParts}
 use Rattle.prl_expand.specs.Cycles.{HasName}
 use Rattle.prl_expand.specs.Flats.{Numbered, Types, copy_of, resolved, variable_flows, equated, copies, operator_flows, output_flows, import_at, ports_of, label_of_node, entered_flows, right_flows, part_flows, root_flows_of, all_flows, entered_apps, right_apps, part_apps, root_apps, all_apps}
 use Rattle.prl_expand.proofs.FlatRules.{all_tells, part_tells, arguments_are}

@@ -9,8 +9,8 @@ use Rattle.prl_flow.specs.declared.programs.App.{App}
 use Rattle.prl_flow.specs.declared.programs.Def.{Def}
 use Rattle.prl_flow.specs.declared.programs.Flow.{Flow}
 use Rattle.prl_types.specs.Flows as types
-use Rattle.prl_behaviours.specs.Vocabulary.{Entered, Rights, outputs_of, node_at}
-use Rattle.prl_behaviours.specs.Annotations as notes
+use Rattle.prl_causal.specs.Vocabulary.{Entered, Rights, outputs_of, node_at}
+use Rattle.prl_causal.specs.Annotations as notes
 use Rattle.prl_expand.specs.Flats as flats
 use Rattle.prl_expand.specs.Vocabulary.{Numbered, Types, equated, resolved, ExpandFault, Next, IsPast, a_node, all_resolved, the_rights, types_of, past_entered, past_rights, flow_of, flows_of}
 use Rattle.prl_expand.specs.Vocabulary.{have_types, copies, type_at, variable_flow, variable_flows, variables_made}
@@ -19,7 +19,7 @@ use Rattle.prl_terms.specs.declared.terms.Term.TheVariants as terms
 use Rattle.prl_types.specs.Parameters.{first_of as first_param}
 use Rattle.prl_expand.proofs.Adding.{past_more}
 use Rattle.prl_names.specs.Lookups.{params_of}
-use Rattle.prl_behaviours.proofs.Lists.{head_same, tail_same}
+use Rattle.prl_causal.proofs.Elements.{head_same, tail_same}
 use Rattle.prl_expand.proofs.Existence.{ranges}
 use Rattle.prl_expand.proofs.Expressions.{next_of}
 

@@ -10,9 +10,9 @@ use Rattle.prl_names.specs.Vocabulary.{is_node, applied_in, applied_root, applie
 use Rattle.prl_names.specs.declared.lookups.Callee.{Callee}
 use Rattle.prl_names.specs.declared.lookups.Callee.TheVariants as callees
 use Rattle.prl_names.proofs.Marking.{callee_below}
-use Rattle.prl_behaviours.specs.Annotations.{Entered, Rights, Part, Core, Parts, flows_in, right_flows, part_flows, core_flows, parts_flows, imports_in, right_imports, part_imports, core_imports, parts_imports, nodes_in, right_nodes, part_nodes, core_nodes, parts_nodes}
-use Rattle.prl_behaviours.specs.Texts as texts
-use Rattle.prl_behaviours.specs.Texts.{node_at, node_of, IsNodeCall, IsImportCall, HasVariables, IsText, AreRights, IsPart, IsCore, AreParts}
+use Rattle.prl_causal.specs.Annotations.{Entered, Rights, Part, Core, Parts, flows_in, right_flows, part_flows, core_flows, parts_flows, imports_in, right_imports, part_imports, core_imports, parts_imports, nodes_in, right_nodes, part_nodes, core_nodes, parts_nodes}
+use Rattle.prl_causal.specs.Texts as texts
+use Rattle.prl_causal.specs.Texts.{node_at, node_of, IsNodeCall, IsImportCall, HasVariables, IsText, AreRights, IsPart, IsCore, AreParts}
 use Rattle.prl_expand.specs.Vocabulary.{IsExpansion, ports_of, Next, ExpandFault, IsPast, a_node, Enter, all_from, called, entered_from, node_from, part_from, past_part, past_parts, rights_from}
 use Rattle.prl_expand.specs.Vocabulary.{root_from, IsExpandFault}
 use Rattle.prl_expand.proofs.Existence.{From, both_from, range_from, true_or, or_true, same_node, import_found, no_callee}

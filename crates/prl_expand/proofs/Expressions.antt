@@ -20,8 +20,8 @@ use Rattle.prl_names.specs.declared.lookups.Callee.{Callee}
 use Rattle.prl_names.specs.declared.lookups.Callee.TheVariants as callees
 use Rattle.prl_terms.specs.declared.terms.Term.{Term}
 use Rattle.prl_types.specs.Flows as types
-use Rattle.prl_behaviours.specs.Vocabulary.{Entered, next, Part, Core, Parts, all_given, last_of, outputs_of, root_given, node_at, node_of, at_index, at_variable, one, node_or}
-use Rattle.prl_behaviours.specs.Annotations as notes
+use Rattle.prl_causal.specs.Vocabulary.{Entered, next, Part, Core, Parts, all_given, last_of, outputs_of, root_given, node_at, node_of, at_index, at_variable, one, node_or}
+use Rattle.prl_causal.specs.Annotations as notes
 use Rattle.prl_expand.specs.Flats as flats
 use Rattle.prl_expand.specs.Vocabulary.{Numbered, Types, arguments, copy_of, flow_no, import_at, ports_of, operator_flows, output_flows, resolved, ExpandFault, Next, Made, Adds, IsPast, a_call}
 use Rattle.prl_expand.specs.Vocabulary.{a_core, a_node, a_part, all_parts, all_resolved, called_apps, called_flows, called_given, first_type, operated_flows, types_of, called, entered_from, past}

@@ -21,10 +21,10 @@ use Rattle.prl_names.proofs.Marking.{index_found}
 use Rattle.prl_types.specs.Vocabulary.{equations_faults, faults_in, root_faults, all_faults, first_of}
 use Rattle.prl_types.specs.Flows as flows
 use Rattle.prl_types.specs.Rules as typing
-use Rattle.prl_behaviours.specs.Annotations.{Entered, entered, Rights, done, next, Part, part, Core, Parts}
-use Rattle.prl_behaviours.specs.Annotations as notes
-use Rattle.prl_behaviours.specs.Asked.{inputs_of, last_of, root_given, all_given}
-use Rattle.prl_behaviours.specs.Texts.{node_at, node_of, IsNodeCall, IsImportCall, IsText, AreRights, IsPart, IsCore, AreParts}
+use Rattle.prl_causal.specs.Annotations.{Entered, entered, Rights, done, next, Part, part, Core, Parts}
+use Rattle.prl_causal.specs.Annotations as notes
+use Rattle.prl_causal.specs.Asked.{inputs_of, last_of, root_given, all_given}
+use Rattle.prl_causal.specs.Texts.{node_at, node_of, IsNodeCall, IsImportCall, IsText, AreRights, IsPart, IsCore, AreParts}
 use Rattle.prl_expand.specs.Flats.{Numbered, Types, resolved, copy_of, variable_flows, equated, copies, operator_flows, output_flows, import_at, ports_of, label_of_node, arguments, entered_flows, right_flows, part_flows, root_flows_of, all_flows, entered_apps, right_apps, part_apps, root_apps, all_apps}
 use Rattle.prl_expand.proofs.Bodies.{Has, has_left, has_right, import_is, import_used, expanded_more, port_types_are, numbers_are}
 use Rattle.prl_expand.proofs.Existence.{same_node, or_true, true_or}

@@ -16,10 +16,10 @@ use Rattle.prl_flow.specs.declared.programs.Def.{Def}
 use Rattle.prl_names.specs.Vocabulary.{callee_of, params_of, IsKnown, IsKnownRoot, AreKnown, AreKnownEquations}
 use Rattle.prl_types.specs.Vocabulary.{equations_faults, faults_in, root_faults, all_faults, first_of}
 use Rattle.prl_types.specs.Flows as flows
-use Rattle.prl_behaviours.specs.Annotations.{Entered, entered, Rights, done, next, Part, part, Core, Parts, imports_in, right_imports, part_imports, core_imports, parts_imports}
-use Rattle.prl_behaviours.specs.Annotations as notes
-use Rattle.prl_behaviours.specs.Asked.{inputs_of, last_of, given, root_given, all_given, constant_rules, all_same, operator_rules, declared_rules, entered_rules, rights_rules, part_rules, root_rules, all_rules, sensed_rules, at_lefts}
-use Rattle.prl_behaviours.specs.Texts.{node_at, node_of, IsText, AreRights, IsPart, IsCore, AreParts}
+use Rattle.prl_causal.specs.Annotations.{Entered, entered, Rights, done, next, Part, part, Core, Parts, imports_in, right_imports, part_imports, core_imports, parts_imports}
+use Rattle.prl_causal.specs.Annotations as notes
+use Rattle.prl_causal.specs.Asked.{inputs_of, last_of, given, root_given, all_given, constant_rules, all_same, operator_rules, declared_rules, entered_rules, rights_rules, part_rules, root_rules, all_rules, sensed_rules, at_lefts}
+use Rattle.prl_causal.specs.Texts.{node_at, node_of, IsText, AreRights, IsPart, IsCore, AreParts}
 use Rattle.prl_expand.specs.Flats.{Numbered, Types, flow_no, copy_of, resolved, variable_flows, equated, copies, operator_flows, output_flows, import_at, ports_of, constant_flows, entered_flows, right_flows, part_flows, root_flows_of, all_flows, placed, arguments, entered_apps, right_apps, part_apps, root_apps, all_apps, sensors_from, label_of_node, source_of}
 use Rattle.prl_expand.proofs.Lists.{all_both, all_first, all_second, no_first, no_second, lengths_append}
 use Rattle.prl_expand.proofs.Sound.{IsRightNode, IsSound, operated_right, argued_right, enough_given, equated_right, entered_is, call_of}

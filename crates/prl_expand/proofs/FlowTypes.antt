@@ -20,10 +20,10 @@ use Rattle.prl_types.specs.Vocabulary.{faults_in, root_faults, all_faults, first
 use Rattle.prl_terms.specs.declared.terms.Term.{Term}
 use Rattle.prl_terms.specs.declared.terms.Term.TheVariants as terms
 use Rattle.prl_types.specs.Flows as flows
-use Rattle.prl_behaviours.specs.Annotations.{Entered, entered, Rights, Part, part, Core, Parts}
-use Rattle.prl_behaviours.specs.Annotations as notes
-use Rattle.prl_behaviours.specs.Asked.{inputs_of, outputs_of, one, at_index, last_of, first_of as first_flow, given, root_given, all_given}
-use Rattle.prl_behaviours.specs.Texts.{node_at, node_of, IsNodeCall, IsImportCall, IsText, IsPart, IsCore, AreParts}
+use Rattle.prl_causal.specs.Annotations.{Entered, entered, Rights, Part, part, Core, Parts}
+use Rattle.prl_causal.specs.Annotations as notes
+use Rattle.prl_causal.specs.Asked.{inputs_of, outputs_of, one, at_index, last_of, first_of as first_flow, given, root_given, all_given}
+use Rattle.prl_causal.specs.Texts.{node_at, node_of, IsNodeCall, IsImportCall, IsText, IsPart, IsCore, AreParts}
 use Rattle.prl_expand.specs.Flats.{Numbered, Types, type_at, resolved, flow_no, copy_of, variable_flows, equated, copies, operator_flows, output_flows, import_at, ports_of, label_of_node, entered_flows, right_flows, part_flows, root_flows_of, all_flows}
 use Rattle.prl_expand.proofs.Lists.{some_inner, all_both, all_first, all_second, no_first, no_second}
 use Rattle.prl_expand.proofs.Numbers.{postfix_one, prefix_one}

@@ -25,8 +25,8 @@ use Rattle.prl_terms.specs.declared.terms.Term.{Term}
 use Rattle.prl_terms.specs.declared.terms.Term.TheVariants as terms
 use Rattle.prl_types.specs.Vocabulary.{first_of, count_of, parameters_of, rules_of, declared_rules, nodes_rules, equations_rules, IsTyped}
 use Rattle.prl_types.proofs.Fitting.{rules_fit}
-use Rattle.prl_behaviours.specs.Vocabulary.{flows_in, imports_in, inputs_of, node_at, node_or, HasVariables}
-use Rattle.prl_behaviours.specs.Annotations.{entered}
+use Rattle.prl_causal.specs.Vocabulary.{flows_in, imports_in, inputs_of, node_at, node_or, HasVariables}
+use Rattle.prl_causal.specs.Annotations.{entered}
 use Rattle.prl_expand.specs.Expansions.{Expansion, IsExpansion}
 use Rattle.prl_expand.specs.Flats.{Numbered, Types, type_at, resolved, flow_no, variable_flows, equated, copies, right_flows, all_numbered, entered_apps, sensors_from, wcet_named, devices_of, flat_of}
 use Rattle.prl_expand.proofs.FlatRules.{sensors_count, entered_tells}

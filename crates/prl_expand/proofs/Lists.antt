@@ -1,7 +1,7 @@
 use Rattle.prl_base.proofs.Standard.{if◌then◌else◌, ◌≡◌, ◌==◌, ℕ, Bool, true, false, List, [], ◌∷◌, ◌++◌, length, refl, arith, eqb-true}
 use Rattle.std.proofs.lemmas.List.{length-append}
 -- Lists of which each element has a property, and lists that are put together.
-pub use Rattle.prl_behaviours.proofs.Lists.{some_inner, head_same, tail_same, all_both, all_first, all_second, to_mapped, of_mapped, at_place}
+pub use Rattle.prl_causal.proofs.Elements.{some_inner, head_same, tail_same, all_both, all_first, all_second, to_mapped, of_mapped, at_place}
 
 pub no_first : {A : Type 0} (xs ys : List A) → xs ++ ys ≡ [] → xs ≡ []
 no_first [] ys e = refl

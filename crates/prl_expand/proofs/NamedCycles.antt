@@ -9,7 +9,7 @@ use Rattle.prl_flow.specs.declared.programs.App.{App}
 use Rattle.prl_flow.specs.declared.programs.Flow.{Flow}
 use Rattle.prl_names.proofs.Right as right_names
 use Rattle.prl_types.specs.Typing.{IsTyped}
-use Rattle.prl_behaviours.specs.Vocabulary.{flows_in, imports_in, inputs_of}
+use Rattle.prl_causal.specs.Vocabulary.{flows_in, imports_in, inputs_of}
 use Rattle.prl_expand.specs.Vocabulary.{HasName, Passes, PassesName, Expansion, IsExpansion, Numbered, all_numbered, entered_apps, flat_of, sensors_from}
 use Rattle.prl_expand.proofs.Earlier.{Counted, UsesEarlier, counted_range, entered_use, no_start}
 use Rattle.prl_expand.proofs.FlatRules.{entered_tells, sensors_count}

@@ -21,8 +21,8 @@ use Rattle.prl_ast.specs.declared.expressions.PlacedOp.{PlacedOp}
 use Rattle.prl_ast.specs.Trees.{tree}
 use Rattle.prl_flow.specs.declared.programs.Def.TheVariants as definitions
 use Rattle.prl_flow.specs.declared.programs.Flow.{Flow}
-use Rattle.prl_behaviours.specs.Annotations.{entered, done, next, Part, part}
-use Rattle.prl_behaviours.specs.Annotations as notes
+use Rattle.prl_causal.specs.Annotations.{entered, done, next, Part, part}
+use Rattle.prl_causal.specs.Annotations as notes
 use Rattle.prl_expand.specs.Vocabulary.{Expansion, flat_of}
 
 abbrev token : ℕ → Span

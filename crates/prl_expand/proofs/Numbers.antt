@@ -15,10 +15,10 @@ use Rattle.prl_names.specs.declared.lookups.Callee.{Callee}
 use Rattle.prl_names.specs.declared.lookups.Callee.TheVariants as callees
 use Rattle.prl_types.specs.Vocabulary.{equations_faults, faults_in, root_faults, all_faults, prefix_fault, postfix_fault, last_at, first_of}
 use Rattle.prl_types.specs.Flows as flows
-use Rattle.prl_behaviours.specs.Annotations.{Entered, entered, Rights, done, next, Part, part, Core, Parts}
-use Rattle.prl_behaviours.specs.Annotations as notes
-use Rattle.prl_behaviours.specs.Asked.{inputs_of, last_of, root_given, all_given}
-use Rattle.prl_behaviours.specs.Texts.{node_at, node_of, IsImportCall, IsText, AreRights, IsPart, IsCore, AreParts}
+use Rattle.prl_causal.specs.Annotations.{Entered, entered, Rights, done, next, Part, part, Core, Parts}
+use Rattle.prl_causal.specs.Annotations as notes
+use Rattle.prl_causal.specs.Asked.{inputs_of, last_of, root_given, all_given}
+use Rattle.prl_causal.specs.Texts.{node_at, node_of, IsImportCall, IsText, AreRights, IsPart, IsCore, AreParts}
 use Rattle.prl_expand.specs.Flats.{Numbered, Types, copy_of, resolved, label_of_node, variable_flows, equated, copies, operator_flows, output_flows, import_at, ports_of, entered_flows, right_flows, part_flows, root_flows_of, all_flows}
 use Rattle.prl_expand.proofs.Lists.{no_first, no_second, equal_unless}
 use Rattle.prl_expand.proofs.Sound.{IsRightNode, IsSound, root_length, last_length, operated_right, argued_right, enough_given, equated_right, entered_is, all_defined}

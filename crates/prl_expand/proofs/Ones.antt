@@ -1,7 +1,7 @@
 -- One solution makes one behaviour.
 use Rattle.std.proofs.Common.{◌∙◌, sym}
 use Rattle.prl_expand.specs.Correspondence.{IsOneToOne}
-use Rattle.prl_behaviours.specs.Uniqueness.{ExactlyOne}
+use Rattle.prl_causal.specs.Uniqueness.{ExactlyOne}
 
 -- what corresponds one to one to the only thing is the only one
 pub one_along : {X Y : Type 0} (P : X → Type 0) (Q : Y → Type 0) (f : X → Y) → IsOneToOne P Q f → ExactlyOne Q → ExactlyOne P

@@ -7,8 +7,8 @@ use Rattle.prl_flow.specs.declared.programs.App.{App}
 use Rattle.prl_flow.specs.declared.programs.Arg.{Arg}
 use Rattle.prl_flow.specs.declared.programs.Flow.{Flow}
 use Rattle.prl_types.specs.Flows as types
-use Rattle.prl_behaviours.specs.Vocabulary.{Rights, next, Part, Parts, given, node_at}
-use Rattle.prl_behaviours.specs.Annotations as notes
+use Rattle.prl_causal.specs.Vocabulary.{Rights, next, Part, Parts, given, node_at}
+use Rattle.prl_causal.specs.Annotations as notes
 use Rattle.prl_expand.specs.Flats as flats
 use Rattle.prl_expand.specs.Vocabulary.{Numbered, Types, arguments, equated, flow_no, paired, placed, resolved, ExpandFault, Next, Made, Adds, IsFew, IsPast, a_part, all_parts, all_resolved}
 use Rattle.prl_expand.specs.Vocabulary.{the_rights, types_given, types_of, past, past_part, past_parts, past_rights, arg_of, flow_of, flows_of, Pair, pairs_of}

@@ -8,7 +8,7 @@ use Rattle.prl_flow.specs.Applications.{HaveBodies}
 use Rattle.prl_names.specs.Vocabulary.{reaches, IsNamed, is_expanded, used_imports}
 use Rattle.prl_names.proofs.Right.{named}
 use Rattle.prl_types.specs.Typing.{IsTyped}
-use Rattle.prl_behaviours.specs.Asked.{inputs_of}
+use Rattle.prl_causal.specs.Asked.{inputs_of}
 use Rattle.prl_expand.specs.Vocabulary.{Expansion, IsExpansion, entered_apps, flat_of, sensors_from}
 use Rattle.prl_expand.proofs.Existence.{true_or}
 use Rattle.prl_expand.proofs.Fitting.{IsOfUsed, entered_used, body_of}

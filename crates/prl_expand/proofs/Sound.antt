@@ -20,11 +20,11 @@ use Rattle.prl_types.specs.Vocabulary.{arity_faults, nodes_faults, equations_fau
 use Rattle.prl_types.specs.Vocabulary.{root_flows, all_flows, outputs_of, inputs_of, import_outputs, node_inputs, node_outputs, parameters_from, first_of}
 use Rattle.prl_terms.specs.declared.terms.Term.{Term}
 use Rattle.prl_terms.specs.declared.terms.Term.TheVariants as terms
-use Rattle.prl_behaviours.specs.Annotations.{Entered, entered, Part, part, Core, Parts}
-use Rattle.prl_behaviours.specs.Annotations as notes
-use Rattle.prl_behaviours.specs.Asked as asked
-use Rattle.prl_behaviours.specs.Asked.{one, at_index, at_variable, last_of, first_of as first_flow, given, root_given, all_given}
-use Rattle.prl_behaviours.specs.Texts.{node_at, node_or, node_of, IsNodeCall, IsImportCall, HasVariables, IsText, IsPart, IsCore, AreParts}
+use Rattle.prl_causal.specs.Annotations.{Entered, entered, Part, part, Core, Parts}
+use Rattle.prl_causal.specs.Annotations as notes
+use Rattle.prl_causal.specs.Asked as asked
+use Rattle.prl_causal.specs.Asked.{one, at_index, at_variable, last_of, first_of as first_flow, given, root_given, all_given}
+use Rattle.prl_causal.specs.Texts.{node_at, node_or, node_of, IsNodeCall, IsImportCall, HasVariables, IsText, IsPart, IsCore, AreParts}
 use Rattle.prl_expand.specs.Flats.{arguments, copies, copy_of, flow_no, import_at, source_of, wcet_of}
 use Rattle.prl_expand.proofs.Lists.{some_inner, no_first, no_second, equal_unless, lengths_append}
 

@@ -13,7 +13,7 @@ use Rattle.prl_names.specs.Vocabulary.{param_at, param_of, param_names, params_o
 use Rattle.prl_names.specs.Vocabulary.{is_flow, lefts_of, definition_space, left_names}
 use Rattle.prl_names.proofs.Marking.{index_found}
 use Rattle.prl_types.specs.Vocabulary.{equations_faults, equation_faults, faults_in, unless_equal, flows_of}
-use Rattle.prl_behaviours.specs.Vocabulary.{Rights, done, next, one, at_index, at_variable, at_lefts, all_same, given, AreRights}
+use Rattle.prl_causal.specs.Vocabulary.{Rights, done, next, one, at_index, at_variable, at_lefts, all_same, given, AreRights}
 use Rattle.prl_expand.specs.Flats.{copies, equated, paired, source_of}
 use Rattle.prl_expand.proofs.Lists.{at_place, some_inner, all_both, all_first, all_second, no_first, no_second, equal_unless}
 use Rattle.prl_expand.proofs.Sound.{IsRightNode, given_length, param_known, variable_length}

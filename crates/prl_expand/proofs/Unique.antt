@@ -1,7 +1,7 @@
 -- A program has one expansion.
 use Rattle.prl_base.proofs.Standard.{◌≡◌, ℕ, List, length, sym, ap, ◌∙◌, range_with_len}
 use Rattle.prl_ast.specs.Trees.{ProgramTree}
-use Rattle.prl_behaviours.proofs.Shapes.{as_many, one_text}
+use Rattle.prl_causal.proofs.Shapes.{as_many, one_text}
 use Rattle.prl_expand.specs.Expansions.{Expansion, IsExpansion, AreCounted}
 
 same_counted : (xs ys : List ℕ) → AreCounted xs → AreCounted ys → length xs ≡ length ys → xs ≡ ys

@@ -27,10 +27,10 @@ use Rattle.prl_types.specs.Vocabulary.{equations_faults, faults_in, root_faults,
 use Rattle.prl_terms.specs.declared.terms.Term.{Term}
 use Rattle.prl_types.specs.Flows as flows
 use Rattle.prl_types.specs.Rules as typing
-use Rattle.prl_behaviours.specs.Annotations.{Entered, entered, Rights, done, next, Part, part, Core, Parts, imports_in, right_imports, part_imports, core_imports, parts_imports}
-use Rattle.prl_behaviours.specs.Annotations as notes
-use Rattle.prl_behaviours.specs.Asked.{inputs_of, last_of, given, root_given, all_given}
-use Rattle.prl_behaviours.specs.Texts.{node_at, node_of, IsNodeCall, IsImportCall, IsText, AreRights, IsPart, IsCore, AreParts}
+use Rattle.prl_causal.specs.Annotations.{Entered, entered, Rights, done, next, Part, part, Core, Parts, imports_in, right_imports, part_imports, core_imports, parts_imports}
+use Rattle.prl_causal.specs.Annotations as notes
+use Rattle.prl_causal.specs.Asked.{inputs_of, last_of, given, root_given, all_given}
+use Rattle.prl_causal.specs.Texts.{node_at, node_of, IsNodeCall, IsImportCall, IsText, AreRights, IsPart, IsCore, AreParts}
 use Rattle.prl_expand.specs.Flats.{Numbered, Types, type_at, resolved, flow_no, copy_of, variable_flows, paired, equated, copies, source_of, operator_flows, output_flows, import_at, ports_of, wcet_of, label_of_node, arguments, entered_flows, right_flows, part_flows, root_flows_of, all_flows, entered_apps, right_apps, part_apps, root_apps, all_apps}
 use Rattle.prl_expand.proofs.FlatRules.{all_tells, part_tells, arguments_are}
 use Rattle.prl_expand.proofs.FlowTypes.{HasFlow, AreTyped, IsEnvironment, HaveKind, all_reverse, last_kind, operand_kind, operators_typed, entered_environment, given_typed, root_typed, all_typed}

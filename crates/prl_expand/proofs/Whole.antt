@@ -12,7 +12,7 @@ use Rattle.prl_flow.specs.Programs as flat_programs
 use Rattle.prl_names.specs.Vocabulary.{IsNamed, applies}
 use Rattle.prl_names.proofs.Right.{named}
 use Rattle.prl_types.specs.Typing.{IsRight}
-use Rattle.prl_behaviours.specs.Vocabulary.{flows_in, outputs_of, node_at, node_or}
+use Rattle.prl_causal.specs.Vocabulary.{flows_in, outputs_of, node_at, node_or}
 use Rattle.prl_expand.specs.Vocabulary.{Expansion, IsExpansion, devices_of, entered_apps, entered_flows, flat_of, flow_no, sensors_from, ExpandFault, IsExpandFault, IsPast, a_node, flows_of, IsSound}
 use Rattle.prl_expand.specs.Vocabulary.{MayApply}
 use Rattle.prl_flow.specs.declared.programs.Def.TheVariants as definitions

@@ -10,7 +10,7 @@ use Rattle.prl_ast.specs.declared.expressions.Expr.{Expr}
 use Rattle.prl_names.specs.Vocabulary.{is_node, applied_in, applied_trees, applied_equations, applied_by, applies, reaches, all_trees, callee_of, index_of, param_at, param_names, params_of, IsNamed}
 use Rattle.prl_names.specs.declared.lookups.Callee.TheVariants as callees
 use Rattle.prl_names.proofs.Marking.{callee_below, index_below}
-use Rattle.prl_behaviours.specs.Texts.{node_at, node_or}
+use Rattle.prl_causal.specs.Texts.{node_at, node_or}
 use Rattle.prl_expand.proofs.Existence.{true_or, or_true, same_node, import_found}
 use Rattle.prl_expand.proofs.Ranks.{rank, rank_falls, passing, one_if}
 use Rattle.prl_expand.specs.Vocabulary.{Next, IsFew, IsFewBefore, CallFits, EquationsFit, IsSound, MayApply, MayEnter, RootFits, TreeFits, TreesFit}

@@ -6,7 +6,7 @@ use Rattle.prl_flow.specs.Programs.{FlatProgram}
 use Rattle.prl_flow.specs.Rows.{Rows}
 use Rattle.prl_flow.specs.Solutions.{AreClocks}
 use Rattle.prl_flow.specs.States.{IsSolution, State}
-use Rattle.prl_behaviours.specs.Conditions.{clocks_in}
+use Rattle.prl_causal.specs.Conditions.{clocks_in}
 
 -- these clocks meet the program's rules, and every solution has them, for all bodies, rows and dates
 pub record AreOnlyClocks (p : FlatProgram) (clocks : List Clock) : Type 0 where

@@ -3,7 +3,7 @@ use Rattle.std.specs.Prelude.{◌≡◌, ◌<◌, ◌≤◌, ◌+◌, ℕ, List,
 use Rattle.prl_ast.specs.Trees.{ProgramTree}
 use Rattle.prl_base.specs.declared.limits.What.TheVariants as what
 use Rattle.prl_base.specs.declared.values.Ty.{Ty}
-use Rattle.prl_behaviours.specs.Annotations.{flows_in}
+use Rattle.prl_causal.specs.Annotations.{flows_in}
 use Rattle.prl_expand.specs.Expansions.{Expansion, IsExpansion}
 use Rattle.prl_expand.specs.Flats.{flat_of}
 use Rattle.prl_flow.specs.Programs.{FlatProgram}

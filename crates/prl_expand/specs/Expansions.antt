@@ -3,8 +3,8 @@
 use Rattle.std.specs.Prelude.{◌≡◌, ℕ, List, length}
 use Rattle.std.specs.List.{range_with_len}
 use Rattle.prl_ast.specs.Trees.{ProgramTree}
-use Rattle.prl_behaviours.specs.Annotations.{Entered, flows_in, imports_in, nodes_in}
-use Rattle.prl_behaviours.specs.Texts.{IsText}
+use Rattle.prl_causal.specs.Annotations.{Entered, flows_in, imports_in, nodes_in}
+use Rattle.prl_causal.specs.Texts.{IsText}
 
 abbrev pub Expansion : Type 0
 Expansion = Entered ℕ ℕ ℕ

@@ -27,10 +27,10 @@ use Rattle.prl_terms.specs.declared.terms.Term.{Term}
 use Rattle.prl_terms.specs.declared.terms.Term.TheVariants as terms
 use Rattle.prl_types.specs.Flows.{operand, root_flows}
 use Rattle.prl_types.specs.Parameters.{first_of}
-use Rattle.prl_behaviours.specs.Annotations.{Entered, entered, Rights, done, next, Part, part, Core, Parts}
-use Rattle.prl_behaviours.specs.Annotations as notes
-use Rattle.prl_behaviours.specs.Asked.{inputs_of, outputs_of, last_of, root_args, root_name, given, root_given, all_given}
-use Rattle.prl_behaviours.specs.Texts.{node_at, node_of}
+use Rattle.prl_causal.specs.Annotations.{Entered, entered, Rights, done, next, Part, part, Core, Parts}
+use Rattle.prl_causal.specs.Annotations as notes
+use Rattle.prl_causal.specs.Asked.{inputs_of, outputs_of, last_of, root_args, root_name, given, root_given, all_given}
+use Rattle.prl_causal.specs.Texts.{node_at, node_of}
 use Rattle.prl_expand.specs.Expansions.{Expansion}
 
 -- a flow with its number

@@ -5,7 +5,7 @@ ghost use Rattle.std.specs.List.{range_with_len};
 ghost use Rattle.prl_ast.specs.Trees.{program_tree};
 ghost use Rattle.prl_body.specs.declared.bodies.CheckedBody.{CheckedBody};
 ghost use Rattle.prl_flow.specs.Vocabulary.{Rows, IsSolution};
-ghost use Rattle.prl_behaviours.specs.Behaviours.{Satisfies, state_in};
+ghost use Rattle.prl_causal.specs.Behaviours.{Satisfies, state_in};
 ghost use Rattle.prl_expand.specs.Correspondence.{IsOneToOne};
 ghost use Rattle.prl_expand.specs.Flats.{devices_of, flow_no, sensors_from, wcet_named};
 ghost use Rattle.prl_expand.specs.Expanding.{IsExpanded, IsExpandFault};

@@ -6,7 +6,7 @@ ghost use Rattle.prl_ast.specs.Vocabulary.{IsInRange, ProgramTree};
 ghost use Rattle.prl_base.specs.declared.numbers.FlowNo.{FlowNo};
 ghost use Rattle.prl_base.specs.declared.operators.Clock.{Clock};
 ghost use Rattle.prl_base.specs.declared.values.Ty.{Ty};
-ghost use Rattle.prl_behaviours.specs.Vocabulary.{flows_in, Satisfies, state_in};
+ghost use Rattle.prl_causal.specs.Vocabulary.{flows_in, Satisfies, state_in};
 ghost use Rattle.prl_body.specs.Used.{HaveBodiesOf};
 ghost use Rattle.prl_body.specs.declared.bodies.CheckedBody.{CheckedBody};
 ghost use Rattle.prl_expand.specs.Clocks.{AreOnlyClocks};
@@ -18,10 +18,10 @@ ghost use Rattle.prl_flow.specs.Vocabulary.{HaveBodies, IsFlat, FlatProgram, Row
 ghost use Rattle.prl_flow.specs.Vocabulary.{HasRows, IsSolution, IsCycleLabel, IsOrder, Leads};
 ghost use Rattle.prl_flow.specs.Vocabulary.{UsesInside, UsesNow, is_made};
 ghost use Rattle.prl_names.specs.Uses.{used_imports};
-ghost use Rattle.prl_behaviours.specs.Vocabulary.{HaveTypedBodies, ExactlyOne};
+ghost use Rattle.prl_causal.specs.Vocabulary.{HaveTypedBodies, ExactlyOne};
 ghost use Rattle.prl_types.specs.Typing.{IsTyped};
 
-use prl_behaviours::{programs_have_one_solution, solutions_are_of_their_clocks};
+use prl_causal::{programs_have_one_solution, solutions_are_of_their_clocks};
 
 /// The behaviours of a program are the solutions of the flat program of its expansion, for all bodies, sensor rows and dates.
 pub fn behaviours_are_solutions()

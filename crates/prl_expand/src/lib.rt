@@ -1,6 +1,6 @@
 //! The expansion of programs: from a program whose names and types are right to its flat program, which has the same
 //! behaviours, and the law that these are one. It stands on the typed programs of `prl_types`, the behaviours of
-//! `prl_behaviours`, the flat programs of `prl_flow` and their solutions, and on the check of causality, which it hands on.
+//! `prl_causal`, the flat programs of `prl_flow` and their solutions, and on the check of causality, which it hands on.
 #![tactic(auto)]
 
 mod counts;

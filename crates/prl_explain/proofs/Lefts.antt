@@ -2,8 +2,8 @@
 use Rattle.std.proofs.Common.{◌≡◌, ℕ, List, [], Some, Ok, Err, inl, inr}
 use Rattle.prl_base.specs.Decimals.{decimal_of}
 use Rattle.prl_base.specs.declared.numbers.TaskNo.{TaskNo}
-use Rattle.prl_broken.specs.Vocabulary.{left_text, IsLeft}
-use Rattle.prl_broken.specs.declared.lefts.Left.{Left}
+use Rattle.prl_schedules.specs.Vocabulary.{left_text, IsLeft}
+use Rattle.prl_schedules.specs.declared.lefts.Left.{Left}
 use Rattle.prl_cores.specs.declared.texts.CoresFault.TheVariants as cores_faults
 use Rattle.prl_cores.specs.Processors.{processors_of}
 use Rattle.prl_plan.specs.Plans.{PlanView}

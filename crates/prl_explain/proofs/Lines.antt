@@ -1,7 +1,7 @@
 -- What is told of the event of a line.
 use Rattle.std.proofs.Common.{◌≡◌, ◌≢◌, ◌-◌, ℕ, zero, suc, List, Option, Some, arith, refl, subst}
-use Rattle.prl_broken.specs.Causes.{IsFinding}
-use Rattle.prl_broken.specs.declared.causes.Finding.{Finding}
+use Rattle.prl_schedules.specs.Causes.{IsFinding}
+use Rattle.prl_schedules.specs.declared.causes.Finding.{Finding}
 use Rattle.prl_plan.specs.Plans.{PlanView}
 use Rattle.prl_plan.specs.declared.events.Event.{Event}
 use Rattle.prl_plan.specs.declared.events.Rule.{Rule}

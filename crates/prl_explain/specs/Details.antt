@@ -1,11 +1,11 @@
 -- What is told beside the place and the sentence, by the plan of the program.
 use Rattle.std.specs.Prelude.{◌≡◌, ◌⊎◌, ℕ, zero, suc, List, [], Option, Some, None, Result, Ok, Err}
 use Rattle.prl_base.specs.Decimals.{decimal_of}
-use Rattle.prl_broken.specs.declared.causes.Finding.{Finding}
-use Rattle.prl_broken.specs.declared.lefts.Left.{Left}
-use Rattle.prl_broken.specs.Causes.{IsFinding}
-use Rattle.prl_broken.specs.CauseTexts.{finding_text, left_text}
-use Rattle.prl_broken.specs.Lefts.{IsLeft}
+use Rattle.prl_schedules.specs.declared.causes.Finding.{Finding}
+use Rattle.prl_schedules.specs.declared.lefts.Left.{Left}
+use Rattle.prl_schedules.specs.Causes.{IsFinding}
+use Rattle.prl_schedules.specs.CauseTexts.{finding_text, left_text}
+use Rattle.prl_schedules.specs.Lefts.{IsLeft}
 use Rattle.prl_cores.specs.declared.texts.CoresFault.TheVariants as cores_faults
 use Rattle.prl_cores.specs.Processors.{processors_of}
 use Rattle.prl_plan.specs.declared.events.Event.{Event}
@@ -15,19 +15,14 @@ use Rattle.prl_plantext.specs.ReadTexts.{IsTextOf}
 use Rattle.prl_schedules.specs.declared.schedules.ScheduleFault.{ScheduleFault}
 use Rattle.prl_schedules.specs.Schedules.{schedule_of, task_of, without_return}
 use Rattle.prl_schedules.specs.ScheduleTexts.{task_names}
-use Rattle.prl_stages.specs.declared.faults.Fault.{Fault}
-use Rattle.prl_stages.specs.declared.stages.Stage.{Stage}
-use Rattle.prl_stages.specs.declared.stages.Stop.TheVariants as stops
-use Rattle.prl_stages.specs.Planned.{HasPlan}
-use Rattle.prl_stages.specs.PlansAlone.{IsNoPlan, program_alone}
+use Rattle.prl_stages.specs.PlansAlone.{IsPlanOrNone, program_alone}
 use Rattle.prl_explain.specs.Placings.{placing_text}
 use Rattle.prl_spots.specs.Places.{IsLineStart, line_rest}
 
 -- the plan of a program; none where a stage refuses it
 abbrev pub IsPlanOf : Option (List ℕ) → Option (List ℕ) → Option PlanView → Type 0
 IsPlanOf None asked found = found ≡ None
-IsPlanOf (Some program) asked (Some plan) = HasPlan (program_alone program asked) plan
-IsPlanOf (Some program) asked None = (stage : Stage) × (fault : Fault) × IsNoPlan (program_alone program asked) (stops.Refused stage fault)
+IsPlanOf (Some program) asked found = IsPlanOrNone (program_alone program asked) found
 
 -- the plan whose text is named, or that of the program where none is
 abbrev pub IsPlanFrom : Option (List ℕ) → Option (List ℕ) → Option (List ℕ) → Option PlanView → Type 0

@@ -11,14 +11,15 @@ ghost use Rattle.prl_explain.specs.Placings.{tasks_text};
 
 use crate::placings::{placing_told, push_tasks};
 use prl_base::{Label, decimal_of};
-use prl_broken::{finding_at, left_after, push_finding, push_left};
 use prl_calls::plan_of;
 use prl_cores::{CoresFault, read_cores};
 use prl_plan::{Event, Plan, Rule, plan_is_one};
 use prl_plantext::{PlanFault, read_plan};
-use prl_schedules::{ScheduleFault, TaskNames, read_schedule, without_return};
+use prl_schedules::{
+    ScheduleFault, TaskNames, finding_at, left_after, push_finding, push_left, read_schedule,
+    without_return,
+};
 use prl_spots::{line_rest, line_start};
-use prl_stages::Stop;
 use std::alloc::{AllocError, Global};
 
 /// The same name once more, where there is one.
@@ -32,7 +33,6 @@ fn copied(alloc: Global, node: Option<&Label>) -> Result<Option<Label>, AllocErr
 }
 
 /// The plan of a program; None where none is named, and where it has none.
-#[tactic(auto, using(crate::proofs::Plans::plan_is, crate::proofs::Plans::no_plan_is))]
 fn plan_in(
     alloc: Global,
     program: Option<&[u8]>,
@@ -46,12 +46,7 @@ fn plan_in(
     };
     let text = Vec::from_slice(alloc, program)?;
     let node = copied(alloc, node)?;
-    match plan_of(alloc, text, node) {
-        Ok(plan) => Ok(Some(plan)),
-        Err(Stop::Refused(_, _)) => Ok(None),
-        Err(Stop::Unread(_)) => Ok(None),
-        Err(Stop::Memory) => Err(AllocError),
-    }
+    plan_of(alloc, text, node)
 }
 
 /// The plan whose text is named, or that of the program where none is.

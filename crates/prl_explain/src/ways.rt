@@ -2,7 +2,7 @@
 
 ghost use Rattle.std.specs.Prelude.{◌≡◌, ◌<◌, ◌^◌, IfOk, IfSome, Some, length};
 ghost use Rattle.std.specs.Option.{option_copied, option_map};
-ghost use Rattle.prl_programs.specs.Programs.{IsFlatOf, IsGraphIn};
+ghost use Rattle.prl_calls.specs.ProgramTexts.{IsFlatOf, IsGraphIn};
 ghost use Rattle.prl_explain.specs.Ways.{IsChainTold, IsCircleTold, IsClashTold, IsCycleTold, IsDated, IsJobNamed};
 ghost use Rattle.prl_plan.specs.Jobs.{task_at};
 ghost use Rattle.prl_sentences.specs.Sentences.{word_at};
@@ -10,10 +10,10 @@ ghost use Rattle.prl_ways.specs.Chains.{job_of};
 ghost use Rattle.prl_base.specs.Decimals.{decimal_of};
 
 use prl_base::{Label, TaskNo, decimal_of};
+use prl_calls::{flat_of_text, graph_of_text};
 use prl_clashes::{clash_at, push_clash};
 use prl_flow::Flat;
 use prl_plan::TaskGraph;
-use prl_programs::{flat_of, graph_of};
 use prl_sentences::word_at;
 use prl_ways::{
     WayJob, chain_to, circle_before, flow_named, push_chain, push_circle, push_round, round_from,
@@ -59,7 +59,7 @@ pub(crate) fn cycle_told(
     let Some(program) = program else {
         return Ok(Vec::new(alloc));
     };
-    match flat_of(alloc, program, node)? {
+    match flat_of_text(alloc, program, node)? {
         None => Ok(Vec::new(alloc)),
         Some(flat) => cycle_in(alloc, program, node, &flat, label),
     }
@@ -104,7 +104,7 @@ pub(crate) fn clash_told(
     let Some(program) = program else {
         return Ok(Vec::new(alloc));
     };
-    match flat_of(alloc, program, node)? {
+    match flat_of_text(alloc, program, node)? {
         None => Ok(Vec::new(alloc)),
         Some(flat) => clash_in(alloc, program, node, &flat, number),
     }
@@ -200,7 +200,7 @@ pub(crate) fn chain_told(
     let Some(program) = program else {
         return Ok(Vec::new(alloc));
     };
-    match graph_of(alloc, program, node)? {
+    match graph_of_text(alloc, program, node)? {
         None => Ok(Vec::new(alloc)),
         Some(graph) => chain_in(alloc, program, node, &graph, rest),
     }
@@ -245,7 +245,7 @@ pub(crate) fn circle_told(
     let Some(program) = program else {
         return Ok(Vec::new(alloc));
     };
-    match graph_of(alloc, program, node)? {
+    match graph_of_text(alloc, program, node)? {
         None => Ok(Vec::new(alloc)),
         Some(graph) => circle_in(alloc, program, node, &graph, rest),
     }

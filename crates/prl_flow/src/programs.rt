@@ -24,7 +24,6 @@ pub enum Def {
 }
 
 /// A flow of a flat program.
-#[derive(Drop)]
 pub struct Flow {
     /// Its name in the program, or a made one.
     pub label: Label,
@@ -39,7 +38,6 @@ pub struct Flow {
 }
 
 /// An application of an imported node.
-#[derive(Drop)]
 pub struct App {
     /// The node's name.
     pub name: Name,
@@ -63,7 +61,6 @@ pub struct Arg {
 /// A flat program: its flows, its applications of imported nodes, and which flows are main's inputs and
 /// outputs, in order. A device of an input is a sensor and one of an output an actuator: a name and a WCET
 /// in ticks. Contracts see a `FlatProgram`.
-#[derive(Drop)]
 pub struct Flat {
     pub flows: Seq<Flow>,
     pub apps: Seq<App>,
@@ -209,22 +206,93 @@ pub fn has_argument(args: &[Arg], flow: u32) -> bool
 }
 
 /// The clocks of the flows of a flat program, in the order of the flows.
-#[derive(Drop)]
 pub struct Clocks {
     pub of: Seq<Clock>,
 }
 
 /// An order of the flows of a flat program, each once, after those that it uses undelayed.
-#[derive(Drop)]
 pub struct Order {
     pub flows: Seq<FlowNo>,
 }
 
 /// The values of an actuator's flow, one for each date of its clock, in order.
-#[derive(Drop)]
 pub struct OutFlow {
     /// The actuator.
     pub name: Name,
     pub clock: Clock,
     pub values: Seq<Value>,
+}
+
+impl Drop for Flow {
+    fn drop(self) {
+        let Flow {
+            label,
+            ty: _,
+            def: _,
+            rate: _,
+            due: _,
+            at: _,
+        } = self;
+        drop(label);
+    }
+}
+
+impl Drop for App {
+    fn drop(self) {
+        let App {
+            name,
+            wcet: _,
+            args,
+            outs,
+            at: _,
+        } = self;
+        drop(name);
+        drop(args);
+        drop(outs);
+    }
+}
+
+impl Drop for Flat {
+    fn drop(self) {
+        let Flat {
+            flows,
+            apps,
+            ins,
+            outs,
+            in_devices,
+            out_devices,
+        } = self;
+        drop(flows);
+        drop(apps);
+        drop(ins);
+        drop(outs);
+        drop(in_devices);
+        drop(out_devices);
+    }
+}
+
+impl Drop for Clocks {
+    fn drop(self) {
+        let Clocks { of } = self;
+        drop(of);
+    }
+}
+
+impl Drop for Order {
+    fn drop(self) {
+        let Order { flows } = self;
+        drop(flows);
+    }
+}
+
+impl Drop for OutFlow {
+    fn drop(self) {
+        let OutFlow {
+            name,
+            clock: _,
+            values,
+        } = self;
+        drop(name);
+        drop(values);
+    }
 }

@@ -8,7 +8,6 @@ use std::marker::Model;
 
 /// The rows of main's inputs: list `k` has the values of input `k` in order of their instance, from
 /// instance 0 on. Contracts see the list of these lists.
-#[derive(Drop)]
 pub struct Sensors {
     rows: Vec<Seq<Value>>,
 }
@@ -50,5 +49,12 @@ impl Sensors {
         ensures { slice_get (rows_of self.now sensor) m ≡ Some result }
     {
         self.rows[sensor as usize].as_slice()[m as usize]
+    }
+}
+
+impl Drop for Sensors {
+    fn drop(self) {
+        let Sensors { rows } = self;
+        drop(rows);
     }
 }

@@ -11,7 +11,7 @@ use Rattle.prl_graph.specs.Vocabulary.{IsMarked, IsProducer, HasProducer, StepsB
 use Rattle.prl_plan.specs.declared.graphs.Producer.{Producer}
 use Rattle.prl_graph.specs.code.Steps as steps
 use Rattle.prl_graph.specs.Edges as ways
-use Rattle.prl_graph.proofs.Lists.{clear_at, clear_count, clear_length, count_most, mark_cases, mark_counted, marked_count, push_cases}
+use Rattle.prl_graph.proofs.Lists.{clear_at, clear_count, clear_length, count_most, mark_cases, mark_counted, marked_count}
 
 -- one step more
 pub one_copy : (p : FlatProgram) (n i j : ℕ) (ops : List Op) (flow : Flow) (of : FlowNo) → StepsBack p n i ops j

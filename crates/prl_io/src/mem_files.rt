@@ -16,7 +16,6 @@ use std::marker::Model;
 /// Files in memory, whose contents are known. Of two entries with one name the first counts. The
 /// calls of `read` are numbered from 0; those whose number is listed fail. Contracts
 /// see a `MemFolder`.
-#[derive(Drop)]
 pub struct MemFiles {
     entries: Vec<(Label, Vec<u8>)>,
     calls: Calls,
@@ -88,4 +87,17 @@ fn find<'a>(entries: &'a [(Label, Vec<u8>)], name: &Label) -> Option<&'a [u8]>
         }
     }
     None
+}
+
+impl Drop for MemFiles {
+    fn drop(self) {
+        let MemFiles {
+            entries,
+            calls,
+            failed,
+        } = self;
+        drop(entries);
+        drop(calls);
+        drop(failed);
+    }
 }

@@ -11,7 +11,6 @@ use std::marker::Model;
 /// A sink in memory, whose bytes are known. It has room for a number of bytes, and each write takes
 /// at most `most` of them. The writes are numbered from 0; those whose number is listed fail, as does
 /// a write into a full room, and are counted. Contracts see a `MemStore`.
-#[derive(Drop)]
 pub struct MemSink {
     bytes: Vec<u8>,
     room: u64,
@@ -83,5 +82,20 @@ impl Sink for MemSink {
             Ok(()) => Ok(count),
             Err(_) => unreachable!(),
         }
+    }
+}
+
+impl Drop for MemSink {
+    fn drop(self) {
+        let MemSink {
+            bytes,
+            room: _,
+            most: _,
+            calls,
+            failed,
+        } = self;
+        drop(bytes);
+        drop(calls);
+        drop(failed);
     }
 }

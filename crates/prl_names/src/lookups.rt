@@ -17,7 +17,6 @@ pub enum Callee {
 }
 
 /// The names of a program, which it borrows. Contracts see that program.
-#[derive(Drop)]
 pub struct Names<'a> {
     program: &'a Program,
     nodes: Indices<'a>,
@@ -85,5 +84,19 @@ impl<'a> Names<'a> {
                 None => None,
             },
         }
+    }
+}
+
+impl<'a> Drop for Names<'a> {
+    fn drop(self) {
+        let Names {
+            program: _,
+            nodes,
+            imports,
+            params,
+        } = self;
+        drop(nodes);
+        drop(imports);
+        drop(params);
     }
 }

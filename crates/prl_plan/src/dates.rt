@@ -9,7 +9,6 @@ use prl_base::{Seq, TaskNo};
 use std::marker::Model;
 
 /// By task, the shortest list of windows that repeats from job 0 on. Contracts see the lists.
-#[derive(Drop)]
 pub struct Dates {
     windows: Seq<Seq<Window>>,
 }
@@ -51,5 +50,12 @@ impl Dates {
         ensures some { 0 < length result.now }
     {
         self.windows.as_slice()[i.0 as usize].as_slice()
+    }
+}
+
+impl Drop for Dates {
+    fn drop(self) {
+        let Dates { windows } = self;
+        drop(windows);
     }
 }

@@ -51,10 +51,21 @@ pub struct Edge {
 }
 
 /// Tasks and the edges among them.
-#[derive(Drop)]
 pub struct TaskGraph {
     pub tasks: Seq<Task>,
     pub edges: Seq<Edge>,
     /// The hyperperiod, in ticks.
     pub hyper: u64,
+}
+
+impl Drop for TaskGraph {
+    fn drop(self) {
+        let TaskGraph {
+            tasks,
+            edges,
+            hyper: _,
+        } = self;
+        drop(tasks);
+        drop(edges);
+    }
 }

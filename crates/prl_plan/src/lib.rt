@@ -14,7 +14,6 @@ mod laws;
 mod limits;
 mod placed;
 mod plans;
-mod repeats;
 mod tables;
 mod walks;
 mod words;
@@ -41,7 +40,6 @@ pub use limits::{
 };
 pub use placed::Placed;
 pub use plans::Plan;
-pub use repeats::shortest_repeat;
 pub use tables::{Used, Window};
 pub use walks::Operand;
 pub use words::{Word, Words};

@@ -21,7 +21,6 @@ use prl_base::{CellNo, Clock, EdgeNo, TaskNo, Value};
 use std::marker::Model;
 
 /// A plan of a well-formed task graph, with its words, its encoded dates and its buffer cells. Contracts see a `PlanView`.
-#[derive(Drop)]
 pub struct Plan {
     graph: TaskGraph,
     words: Words,
@@ -244,5 +243,20 @@ impl Plan {
         ensures { result ≡ sum self.now.counts }
     {
         self.cells.total()
+    }
+}
+
+impl Drop for Plan {
+    fn drop(self) {
+        let Plan {
+            graph,
+            words,
+            dates,
+            cells,
+        } = self;
+        drop(graph);
+        drop(words);
+        drop(dates);
+        drop(cells);
     }
 }

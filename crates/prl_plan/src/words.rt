@@ -22,7 +22,6 @@ pub struct Word {
 }
 
 /// The words of the edges of a graph, in the order of the edges.
-#[derive(Drop)]
 pub struct Words {
     pub of: Seq<Word>,
 }
@@ -52,5 +51,12 @@ impl Word {
     {
         let first = self.repeat.as_slice()[(i % self.step_in) as usize];
         first + i / self.step_in * self.step_out
+    }
+}
+
+impl Drop for Words {
+    fn drop(self) {
+        let Words { of } = self;
+        drop(of);
     }
 }

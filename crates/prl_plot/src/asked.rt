@@ -63,10 +63,9 @@ fn plan_asked<F: Files>(alloc: Global, words: &[String], files: &mut F) -> Resul
     };
     let node = main_named(alloc, words)?;
     let program = read_named(alloc, files, name, MAX_PROGRAM)?;
-    match plan_of(alloc, program, node) {
-        Ok(plan) => Ok(plan),
-        Err(prl_stages::Stop::Memory) => Err(Fault::Stop(Stop::Memory)),
-        Err(_) => Err(no_plan(alloc, name)),
+    match plan_of(alloc, program, node)? {
+        Some(plan) => Ok(plan),
+        None => Err(no_plan(alloc, name)),
     }
 }
 

@@ -4,7 +4,7 @@ use Rattle.prl_base.proofs.Standard.{AllByRecursion}
 use Rattle.prl_base.specs.Values.{FitsValue}
 use Rattle.prl_ast.specs.Vocabulary.{IsCount, IsShift, IsRate, IsDue, IfThere, IsInRange, IsParamInRange, IsPrefix, IsPostfix, IsRootInRange, IsEquationInRange, Tree, Root, group, Trees, ProgramTree}
 use Rattle.prl_ast.specs.declared.declarations.Placed.{Placed}
-use Rattle.prl_grammar.specs.Vocabulary.{Lexeme, lexemes_of, inner, within, nested}
+use Rattle.prl_lex.specs.Vocabulary.{Lexeme, lexemes_of, inner, within, nested}
 use Rattle.prl_syntax.specs.Vocabulary.{class_of, program_vocabulary, StemTree, joined, param_of, note_or, first_note, params_of, port_of, root_of_name, trees_from, Declared, with_declared}
 use Rattle.prl_syntax.specs.Vocabulary.{program_of, Grammar, Const, Ratio, Postfix, Expr, Exprs, Base, Prefix, AfterConst, Stem, programs, Name, Names, Left, Equation, TypeName, Rate, Due}
 use Rattle.prl_syntax.specs.Vocabulary.{Note as NoteText, Item as ItemText, Run, Params, EndedRun, Locals, PortGroup, NextGroup, Ports, Wcet, Import, Device, Node, Declaration, Program, IsProgramOf}

@@ -6,8 +6,8 @@ use Rattle.prl_base.specs.Names.{is_word}
 use Rattle.prl_base.specs.declared.decimals.TheConstants.{MAX_NEGATIVE}
 use Rattle.prl_lex.specs.Vocabulary.{is_blank, is_one_byte_symbol, is_two_byte_symbol, depth_after}
 use Rattle.prl_lex.specs.declared.tokens.Kind.{Kind}
-use Rattle.prl_grammar.specs.Vocabulary.{Lexeme, first_place, Text, word_lexeme, token, give, action, both, either, many, placed, inner, ◌⊳◌, ◌⊲◌, named, number}
-use Rattle.prl_grammar.proofs.Growing.{to_nested}
+use Rattle.prl_lex.specs.Vocabulary.{Lexeme, first_place, Text, word_lexeme, token, give, action, both, either, many, placed, inner, ◌⊳◌, ◌⊲◌, named, number}
+use Rattle.prl_lex.proofs.Growing.{to_nested}
 use Rattle.prl_syntax.specs.Vocabulary.{class_of, keyword_of, symbol_of, Grammar, the, programs, Stem, StemTree}
 use Rattle.prl_syntax.specs.declared.words.Fixed.{Fixed}
 use Rattle.prl_syntax.specs.declared.words.Fixed.TheVariants as fixed

@@ -20,7 +20,7 @@ use Rattle.prl_ast.specs.declared.declarations.Rate.{Rate}
 use Rattle.prl_ast.specs.declared.expressions.PlacedOp.{PlacedOp}
 use Rattle.prl_ast.specs.Trees.{tree}
 use Rattle.prl_lex.specs.Lexing.{tokens_from}
-use Rattle.prl_grammar.specs.Vocabulary.{◌⊳◌, ◌&◌, maybe, list_of, number, Text, positive, negative, many, out_of_range, IsTextOf}
+use Rattle.prl_lex.specs.Vocabulary.{◌⊳◌, ◌&◌, maybe, list_of, number, Text, positive, negative, many, out_of_range, IsTextOf}
 use Rattle.prl_syntax.specs.Vocabulary.{program_texts, in_range, program_ranges, small, ratio_with, ratio_of, joined, param_of, note_or, params_of, port_of, StemTree, prefixed, root_of_name}
 use Rattle.prl_syntax.specs.Vocabulary.{trees_from, Declared, imported, sensor, actuator, with_declared, program_of, Grammar, the, in_parens, maybe_in_parens, Const, Ratio, Name, Names, TypeName}
 use Rattle.prl_syntax.specs.Vocabulary.{Rate as RateText, Due, Note as NoteText, Item as ItemText, Run, Params, EndedRun, Locals, PortGroup, NextGroup, Ports, Wcet, Import as ImportText}

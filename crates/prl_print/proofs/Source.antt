@@ -12,8 +12,8 @@ use Rattle.prl_lex.specs.declared.tokens.Token.{Token}
 use Rattle.prl_lex.specs.declared.pieces.Piece.TheVariants as pieces
 use Rattle.prl_lex.proofs.Fits.{piece_of_fits}
 use Rattle.prl_ast.specs.InRange.{IfThere, IsCount}
-use Rattle.prl_grammar.specs.Vocabulary.{Lexeme, class_in, symbol_class, word_lexeme, kind_lexeme, lexeme_of, lexemes_of, inside_after, is_fault, out_of_range, ◌⊳◌, ◌⊲◌, maybe, list_of, place, named}
-use Rattle.prl_grammar.specs.Vocabulary.{number, token, give, action, both, either, many, placed, written}
+use Rattle.prl_lex.specs.Vocabulary.{Lexeme, class_in, symbol_class, word_lexeme, kind_lexeme, lexeme_of, lexemes_of, inside_after, is_fault, out_of_range, ◌⊳◌, ◌⊲◌, maybe, list_of, place, named}
+use Rattle.prl_lex.specs.Vocabulary.{number, token, give, action, both, either, many, placed, written}
 use Rattle.prl_syntax.specs.Vocabulary.{keyword_of, symbol_of, program_vocabulary, program_ranges, is_count, Grammar, in_parens, maybe_in_parens, StemTree, small}
 use Rattle.prl_syntax.specs.declared.words.TheConstants.{KEYWORDS, SYMBOLS}
 use Rattle.prl_print.proofs.Own.{IsOwnName}

@@ -13,7 +13,7 @@ use Rattle.prl_lex.specs.declared.pieces.Piece.TheVariants as pieces
 use Rattle.prl_lex.proofs.Fits.{piece_of_fits}
 use Rattle.prl_lex.proofs.Longest.{token_by_first_longest}
 use Rattle.prl_lex.proofs.Steps.{step}
-use Rattle.prl_grammar.specs.Vocabulary.{Lexeme, word_lexeme, symbol_class, kind_lexeme, lexemes_of, inside_after, is_fault, out_of_range}
+use Rattle.prl_lex.specs.Vocabulary.{Lexeme, word_lexeme, symbol_class, kind_lexeme, lexemes_of, inside_after, is_fault, out_of_range}
 use Rattle.prl_syntax.specs.Vocabulary.{in_range, program_ranges, keyword_of, symbol_of, program_vocabulary}
 
 -- the numbers that may come next: constants, parts of ratios and dues, or counts

@@ -26,7 +26,6 @@ use prl_schedules::read_schedule;
 use std::alloc::{AllocError, Global};
 
 /// What a whole run tells.
-#[derive(Drop)]
 pub struct Trace {
     /// What its jobs read, instances and constants, in the order of the events.
     pub reads: Seq<Seen>,
@@ -152,4 +151,12 @@ pub fn replay(
         horizon,
         &events,
     )
+}
+
+impl Drop for Trace {
+    fn drop(self) {
+        let Trace { reads, outputs } = self;
+        drop(reads);
+        drop(outputs);
+    }
 }

@@ -132,7 +132,6 @@ impl Join<View> for Merges {
 
 /// The board of a run: a plan with its bodies and the rows of its sensors, a horizon, a gate, and the
 /// words that all its seats share. Contracts see a `BoardView`.
-#[derive(Drop)]
 pub struct Board<'a> {
     plan: &'a Plan,
     bodies: &'a Bodies,
@@ -277,7 +276,16 @@ impl<'a> Board<'a> {
         ensures full { IsFull result.words × (slots_len result.words ≡ word_count (run_of self.entry.known)) × (slots_len result.slots ≡ 0) }
         ensures closing { IsClosing self.entry.known seat.me.0 (slots_items result.words) }
     {
-        let Board { table, .. } = self;
+        let Board {
+            plan: _,
+            bodies: _,
+            sensors: _,
+            horizon: _,
+            gate: _,
+            routes,
+            table,
+        } = self;
+        drop(routes);
         table.close_with(seat)
     }
 
@@ -617,3 +625,19 @@ fn boards_are_shared() {
 }
 
 fn is_shared<T: Sync>() {}
+
+impl<'a> Drop for Board<'a> {
+    fn drop(self) {
+        let Board {
+            plan: _,
+            bodies: _,
+            sensors: _,
+            horizon: _,
+            gate: _,
+            routes,
+            table,
+        } = self;
+        drop(routes);
+        drop(table);
+    }
+}

@@ -40,7 +40,6 @@ pub enum Stage {
 }
 
 /// A task's seat of the table, with where its job stands. Contracts see a `JobSeatView`.
-#[derive(Drop)]
 pub struct JobSeat {
     seat: Seat,
     task: TaskNo,
@@ -255,5 +254,18 @@ impl JobSeat {
     {
         let word = board.load_stop(&mut self.seat, self.task, self.place);
         board.task_named(word)
+    }
+}
+
+impl Drop for JobSeat {
+    fn drop(self) {
+        let JobSeat {
+            seat,
+            task: _,
+            job: _,
+            place: _,
+            stage: _,
+        } = self;
+        drop(seat);
     }
 }

@@ -5,7 +5,7 @@ use Rattle.prl_ast.specs.Trees.{ProgramTree}
 use Rattle.prl_base.specs.declared.limits.Limit.{Limit}
 use Rattle.prl_base.specs.declared.operators.Clock.{Clock}
 use Rattle.prl_base.specs.declared.values.Ty.{Ty}
-use Rattle.prl_behaviours.specs.Annotations.{flows_in}
+use Rattle.prl_causal.specs.Annotations.{flows_in}
 use Rattle.prl_clock.specs.Outcomes.{IsOutcome}
 use Rattle.prl_clock.specs.declared.calculus.ClockFault.{ClockFault}
 use Rattle.prl_clock.specs.declared.calculus.ClockFault.TheVariants as clock_faults

@@ -8,14 +8,14 @@ use Rattle.prl_base.specs.declared.operators.Clock.{Clock}
 use Rattle.prl_base.specs.declared.values.Ty.{Ty}
 use Rattle.prl_base.specs.declared.values.Ty.TheVariants as types
 use Rattle.prl_ast.specs.Trees.{ProgramTree}
-use Rattle.prl_behaviours.specs.Annotations.{Entered, entered, flows_in, right_flows}
-use Rattle.prl_behaviours.specs.Asked.{inputs_of as entered_inputs, outputs_of as entered_outputs}
+use Rattle.prl_causal.specs.Annotations.{Entered, entered, flows_in, right_flows}
+use Rattle.prl_causal.specs.Asked.{inputs_of as entered_inputs, outputs_of as entered_outputs}
 use Rattle.prl_expand.specs.Vocabulary.{flow_no, IsExpanded}
 use Rattle.prl_flow.specs.Vocabulary.{dates_before, Device, FlatProgram, IsFlat, Rows, AreClocks, HasRows, clock_of}
 use Rattle.prl_flow.proofs.ClockDates.{dates_before_number}
 use Rattle.prl_sensors.specs.Facts.{AreRowsFor}
 use Rattle.prl_sensors.specs.SensorRows.{Inputs, sensors_of}
-use Rattle.prl_behaviours.specs.Conditions.{AreTypedRows}
+use Rattle.prl_causal.specs.Conditions.{AreTypedRows}
 use Rattle.prl_stages.specs.Runs.{inputs_of, needs_of, type_of_flow}
 
 -- the variables of a node are no more than all flows

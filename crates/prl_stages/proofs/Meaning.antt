@@ -5,14 +5,14 @@ use Rattle.prl_base.specs.declared.operators.Clock.{Clock}
 use Rattle.prl_base.specs.declared.values.Ty.{Ty}
 use Rattle.prl_base.specs.declared.values.Value.{Value}
 use Rattle.prl_ast.specs.Trees.{ProgramTree}
-use Rattle.prl_behaviours.specs.Vocabulary.{Entered, flows_in, imports_in, outputs_of, Behaviour, Satisfies, behaviour_of, state_in, IsText, node_at}
+use Rattle.prl_causal.specs.Vocabulary.{Entered, flows_in, imports_in, outputs_of, Behaviour, Satisfies, behaviour_of, state_in, IsText, node_at}
 use Rattle.prl_body.specs.declared.bodies.CheckedBody.{CheckedBody}
 use Rattle.prl_clock.specs.Outcomes.{AreOnlyClocks}
 use Rattle.prl_evaluation.specs.Evaluations.{AreSolution}
 use Rattle.prl_expand.specs.Vocabulary.{IsOneToOne, AreCounted, Expansion, IsExpansion, flat_of, flow_no, IsExpanded}
 use Rattle.prl_flow.specs.Vocabulary.{AreUpTo, IsUpTo, FlatProgram, IsFlat, Rows, IsSolution, IsTimed, State, flow_at}
 use Rattle.prl_flow.specs.declared.programs.OutFlow.{OutFlow}
-use Rattle.prl_behaviours.specs.Vocabulary.{clocks_in, values_in, ExactlyOne}
+use Rattle.prl_causal.specs.Vocabulary.{clocks_in, values_in, ExactlyOne}
 use Rattle.prl_types.specs.Typing.{IsTyped}
 use Rattle.prl_stages.specs.Runs.{named_flows}
 use Rattle.prl_stages.specs.code.Runnings.{SolutionLaws}

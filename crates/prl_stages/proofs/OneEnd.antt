@@ -7,7 +7,7 @@ use Rattle.prl_body.specs.declared.faults.BodyFault.{BodyFault}
 use Rattle.prl_bodytext.specs.Parsing.{IsParsed}
 use Rattle.prl_names.specs.Uses.{used_imports}
 use Rattle.prl_base.specs.declared.operators.Clock.{Clock}
-use Rattle.prl_behaviours.specs.Annotations.{flows_in}
+use Rattle.prl_causal.specs.Annotations.{flows_in}
 use Rattle.prl_clock.specs.Outcomes.{IsOutcome as IsClockOutcome}
 use Rattle.prl_evaluation.specs.declared.evaluation.TheConstants.{MAX_VALUES}
 use Rattle.prl_expand.specs.Expansions.{Expansion}

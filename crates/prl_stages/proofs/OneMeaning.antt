@@ -3,7 +3,7 @@ use Rattle.std.proofs.Common.{◌≡◌, ℕ, List, Option, Result, Ok, map, sym
 use Rattle.prl_ast.specs.Trees.{ProgramTree}
 use Rattle.prl_base.specs.declared.operators.Clock.{Clock}
 use Rattle.prl_base.specs.declared.values.Ty.{Ty}
-use Rattle.prl_behaviours.specs.Vocabulary.{outputs_of, Behaviour, Satisfies, state_in, node_at}
+use Rattle.prl_causal.specs.Vocabulary.{outputs_of, Behaviour, Satisfies, state_in, node_at}
 use Rattle.prl_body.specs.Vocabulary.{BodyTree, body_tree, checked, TextTree}
 use Rattle.prl_body.specs.declared.bodies.CheckedBody.{CheckedBody}
 use Rattle.prl_body.specs.declared.faults.BodyFault.{BodyFault}
@@ -15,7 +15,7 @@ use Rattle.prl_names.specs.Uses.{used_imports}
 use Rattle.prl_plan.specs.Vocabulary.{Placement, alone, constants_on, PlanView, opening}
 use Rattle.prl_plan.specs.declared.graphs.TaskGraph.{TaskGraph}
 use Rattle.prl_plan.specs.declared.horizons.Horizon.{Horizon}
-use Rattle.prl_behaviours.specs.Conditions.{clocks_in}
+use Rattle.prl_causal.specs.Conditions.{clocks_in}
 use Rattle.prl_types.specs.Typing.{IsTyped}
 use Rattle.prl_values.specs.JobValues.{job_values}
 use Rattle.prl_stages.specs.declared.faults.InputFile.TheVariants as parts

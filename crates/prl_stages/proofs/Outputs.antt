@@ -5,14 +5,14 @@ use Rattle.prl_base.specs.Clocks.{IsClock}
 use Rattle.prl_ast.specs.Trees.{NodeTree, ProgramTree}
 use Rattle.prl_ast.specs.declared.declarations.Device.{Device}
 use Rattle.prl_ast.specs.declared.declarations.Param.{Param}
-use Rattle.prl_behaviours.specs.Vocabulary.{Entered, flows_in, right_flows, mark_entered, outputs_of, IsText, HasVariables, node_at, node_or}
-use Rattle.prl_behaviours.specs.Annotations.{entered}
-use Rattle.prl_behaviours.proofs.Lists.{all_first, all_second, head_same, tail_same}
+use Rattle.prl_causal.specs.Vocabulary.{Entered, flows_in, right_flows, mark_entered, outputs_of, IsText, HasVariables, node_at, node_or}
+use Rattle.prl_causal.specs.Annotations.{entered}
+use Rattle.prl_causal.proofs.Elements.{all_first, all_second, head_same, tail_same}
 use Rattle.prl_expand.specs.Flats.{devices_of, flow_no, wcet_named}
 use Rattle.prl_flow.specs.Vocabulary.{IsUpTo, name_of, clock_of, values_of, IsTimed, State, Timed, flow_at}
 use Rattle.prl_flow.specs.declared.programs.OutFlow.{OutFlow}
 use Rattle.prl_flow.specs.Programs as flats
-use Rattle.prl_behaviours.specs.Conditions.{clocks_in, values_in}
+use Rattle.prl_causal.specs.Conditions.{clocks_in, values_in}
 use Rattle.prl_stages.specs.Runs.{named_flows}
 use Rattle.prl_replay.specs.Outputs.{out_flows}
 

@@ -8,8 +8,8 @@ use Rattle.prl_body.specs.declared.bodies.CheckedBody.{CheckedBody}
 use Rattle.prl_track.specs.declared.seen.Seen.{Seen}
 use Rattle.prl_flow.specs.Vocabulary.{AreUpTo, actuator_text, FlatProgram, IsFlat, Rows, IsOrder, IsSolution}
 use Rattle.prl_flow.specs.declared.programs.OutFlow.{OutFlow}
-use Rattle.prl_behaviours.specs.Behaviours.{Satisfies, state_in}
-use Rattle.prl_behaviours.specs.Vocabulary.{ExactlyOne, clocks_in}
+use Rattle.prl_causal.specs.Behaviours.{Satisfies, state_in}
+use Rattle.prl_causal.specs.Vocabulary.{ExactlyOne, clocks_in}
 use Rattle.prl_graph.specs.TaskGraphs.{IsGraphOf}
 use Rattle.prl_core.specs.Cores.{opened, opened_on}
 use Rattle.prl_names.specs.Uses.{used_imports}

@@ -34,7 +34,7 @@ use Rattle.prl_rule.specs.declared.views.Gate.TheVariants as gates
 use Rattle.prl_schedules.specs.Vocabulary.{IsDispatched, text_of_reads, schedule_of, task_names}
 use Rattle.prl_sensors.specs.Facts.{AreRowsFor}
 use Rattle.prl_sensors.specs.SensorRows.{Inputs, sensors_of}
-use Rattle.prl_behaviours.specs.Vocabulary.{AreTypedRows, HaveTypedBodies, clocks_in, values_in, ExactlyOne}
+use Rattle.prl_causal.specs.Vocabulary.{AreTypedRows, HaveTypedBodies, clocks_in, values_in, ExactlyOne}
 use Rattle.prl_types.specs.Typing.{IsTyped}
 use Rattle.prl_values.specs.Vocabulary.{HaveTaskBodies, HaveTypedRows, AreJobValues, JobValues, job_values, value_on}
 use Rattle.prl_stages.specs.declared.faults.InputFile.TheVariants as parts
@@ -42,7 +42,7 @@ use Rattle.prl_stages.specs.Vocabulary.{Given, text_of, AreBodies, IsMain, HasPl
 use Rattle.prl_stages.specs.Vocabulary.{IsReplayText, ReadFlows, HasRows, meant_flows, rows_for, HasHorizon, HasTable}
 use Rattle.prl_stages.specs.declared.ran.Ran.{Ran}
 use Rattle.prl_stages.specs.declared.ran.Ran.TheVariants as runs
-use Rattle.prl_behaviours.specs.Behaviours.{Satisfies, state_in}
+use Rattle.prl_causal.specs.Behaviours.{Satisfies, state_in}
 use Rattle.prl_overlaps.specs.declared.entries.Entry.{Entry}
 use Rattle.prl_stages.specs.code.Runnings.{RunningLaws}
 use Rattle.prl_stages.proofs.Inputs.{enough_rows, typed_rows}

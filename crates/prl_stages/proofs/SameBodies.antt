@@ -5,7 +5,7 @@ use Rattle.prl_base.specs.Clocks.{date_at}
 use Rattle.prl_base.specs.declared.operators.Clock.{Clock}
 use Rattle.prl_base.specs.declared.values.Value.{Value}
 use Rattle.prl_ast.specs.Trees.{ProgramTree}
-use Rattle.prl_behaviours.specs.Vocabulary.{program_rules, Behaviour, Satisfies}
+use Rattle.prl_causal.specs.Vocabulary.{program_rules, Behaviour, Satisfies}
 use Rattle.prl_body.specs.Vocabulary.{Stepped, body_named, body_step, first_values, next_expressions, value_expressions, BodyTree, RegisterTree, body_tree, register_tree, Expression, value}
 use Rattle.prl_body.specs.declared.bodies.CheckedBody.{CheckedBody}
 use Rattle.prl_flow.specs.Vocabulary.{nth_step, registers_before, Rows, Rule, rated, constant, operator, applied, same, sensed, Holds, IsApplied, IsStep, Timed, all_at}

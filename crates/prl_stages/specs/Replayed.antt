@@ -1,7 +1,7 @@
 -- What it is to replay a schedule of a program: which schedules are refused, and the text of a replay.
 use Rattle.std.specs.Prelude.{◌≡◌, ◌++◌, ℕ, List, [], Option, Some, None, Ok, slice_get}
 use Rattle.prl_base.specs.Clocks.{date_at}
-use Rattle.prl_behaviours.specs.Behaviours.{state_in}
+use Rattle.prl_causal.specs.Behaviours.{state_in}
 use Rattle.prl_body.specs.declared.bodies.CheckedBody.{CheckedBody}
 use Rattle.prl_track.specs.declared.seen.Seen.{Seen}
 use Rattle.prl_flow.specs.declared.programs.OutFlow.{OutFlow}
@@ -21,7 +21,7 @@ use Rattle.prl_plan.specs.Plans.{PlanView, edge_at}
 use Rattle.prl_schedules.specs.ReadTexts.{text_of_reads}
 use Rattle.prl_schedules.specs.Schedules.{schedule_of}
 use Rattle.prl_schedules.specs.ScheduleTexts.{task_names}
-use Rattle.prl_behaviours.specs.Conditions.{clocks_in}
+use Rattle.prl_causal.specs.Conditions.{clocks_in}
 use Rattle.prl_replay.specs.declared.faults.ReplayFault.{ReplayFault}
 use Rattle.prl_replay.specs.declared.faults.ReplayFault.TheVariants as causes
 use Rattle.prl_replay.specs.Replays.{IsReplayFault, IsTrace}

@@ -17,11 +17,11 @@ use Rattle.prl_flow.specs.Programs.{Device, FlatProgram}
 use Rattle.prl_flow.specs.Rows.{Rows}
 use Rattle.prl_flow.specs.Solutions.{clock_of}
 use Rattle.prl_flow.specs.States.{Timed}
-use Rattle.prl_behaviours.specs.Asked.{outputs_of}
-use Rattle.prl_behaviours.specs.Behaviours.{Satisfies, state_in}
-use Rattle.prl_behaviours.specs.Texts.{node_at}
-use Rattle.prl_behaviours.specs.Conditions.{clocks_in}
-use Rattle.prl_behaviours.specs.Uniqueness.{ExactlyOne}
+use Rattle.prl_causal.specs.Asked.{outputs_of}
+use Rattle.prl_causal.specs.Behaviours.{Satisfies, state_in}
+use Rattle.prl_causal.specs.Texts.{node_at}
+use Rattle.prl_causal.specs.Conditions.{clocks_in}
+use Rattle.prl_causal.specs.Uniqueness.{ExactlyOne}
 use Rattle.prl_evaluation.specs.declared.evaluation.TheConstants.{MAX_VALUES}
 use Rattle.prl_sensors.specs.SensorRows.{Inputs, sensors_of}
 use Rattle.prl_sensors.specs.declared.faults.SensorFault.{SensorFault}

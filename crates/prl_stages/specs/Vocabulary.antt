@@ -11,7 +11,7 @@ pub use Rattle.prl_stages.specs.Placed.{RefusesPlaced, cores_refusal}
 pub use Rattle.prl_stages.specs.Planned.{HasDates, HasGraph, HasPlan, HasWords, RefusesCells}
 pub use Rattle.prl_stages.specs.Planned.{RefusesDates, RefusesGraph, RefusesWords, accepted_line}
 pub use Rattle.prl_stages.specs.Planned.{dates_refusal, graph_fault}
-pub use Rattle.prl_stages.specs.PlansAlone.{IsNoPlan, program_alone}
+pub use Rattle.prl_stages.specs.PlansAlone.{IsPlanOrNone, program_alone}
 pub use Rattle.prl_stages.specs.Ran.{HasOverrun, HasRun, IsCycleText, IsMeant, IsMeantIn, IsRunOf}
 pub use Rattle.prl_stages.specs.Ran.{IsRunText, IsSummary, list_of, sum_of, summary_line}
 pub use Rattle.prl_stages.specs.Replayed.{Execution, IsReplayText, IsWholeRun, ReadFlows}

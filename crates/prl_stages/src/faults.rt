@@ -177,7 +177,6 @@ pub enum CoresRefusal {
 }
 
 /// Why a stage refuses.
-#[derive(Drop)]
 pub enum Fault {
     /// There is no file of this name.
     Absent(InputFile),
@@ -209,4 +208,26 @@ pub enum Fault {
     Table(TableRefusal),
     /// The text of processors does not place the tasks.
     Cores(CoresRefusal),
+}
+
+impl Drop for Fault {
+    fn drop(self) {
+        match self {
+            Fault::Types(refusal) => drop(refusal),
+            Fault::Bodies(refusal) => drop(refusal),
+            Fault::Cycle(label) => drop(label),
+            Fault::Clocks(refusal) => drop(refusal),
+            Fault::Graph(refusal) => drop(refusal),
+            Fault::Dates(refusal) => drop(refusal),
+            Fault::Sensors(refusal) => drop(refusal),
+            Fault::Schedule(refusal) => drop(refusal),
+            Fault::Table(refusal) => drop(refusal),
+            Fault::Cores(refusal) => drop(refusal),
+            Fault::Absent(_)
+            | Fault::TooLong(_)
+            | Fault::Grammar(_)
+            | Fault::Limit(_)
+            | Fault::Made(_) => {}
+        }
+    }
 }

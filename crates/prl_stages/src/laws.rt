@@ -13,8 +13,8 @@ ghost use Rattle.prl_plan.specs.declared.horizons.Horizon.{Horizon};
 ghost use Rattle.prl_stages.specs.Flattened.{RefusesCausality};
 ghost use Rattle.prl_stages.specs.Given.{Folder, Given as AnyGiven, IsGivenTo};
 ghost use Rattle.prl_ast.specs.Trees.{ProgramTree};
-ghost use Rattle.prl_behaviours.specs.Behaviours.{Satisfies};
-ghost use Rattle.prl_behaviours.specs.Uniqueness.{ExactlyOne};
+ghost use Rattle.prl_causal.specs.Behaviours.{Satisfies};
+ghost use Rattle.prl_causal.specs.Uniqueness.{ExactlyOne};
 ghost use Rattle.prl_stages.specs.Parts.{AreBodies, IsMain};
 ghost use Rattle.prl_stages.specs.Runs.{HasRows};
 ghost use Rattle.prl_stages.specs.Scheduled.{HasHorizon, IsScheduleText};
@@ -33,13 +33,13 @@ ghost use Rattle.prl_stages.specs.declared.faults.InputFile.{InputFile as AnyPar
 use crate::faults::Fault;
 use crate::stages::Stage;
 use prl_arguments::Mode;
-use prl_behaviours::{
-    behaviours_are_of_their_states, programs_have_one_solution, solutions_are_of_their_clocks,
-};
 use prl_body::{each_list_of_bodies_has_an_outcome, used_imports_have_bodies};
 use prl_bodytext::each_text_has_one_outcome as bodies_outcome;
 use prl_buffers::cells_or_fault_exist;
-use prl_causal::{acyclic_programs_have_orders, causality_ends_one_way};
+use prl_causal::{
+    acyclic_programs_have_orders, behaviours_are_of_their_states, causality_ends_one_way,
+    programs_have_one_solution, solutions_are_of_their_clocks,
+};
 use prl_clock::{clocks_are_unique, outcomes_are_unique, programs_have_outcomes};
 use prl_cores::{
     placements_or_faults_exist, spread_list_is_gated, spread_plans_are_dispatched,

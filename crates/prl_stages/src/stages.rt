@@ -1,6 +1,7 @@
 //! The stages of the command in the order of refusals, and how a command stops at one.
 
-ghost use Rattle.std.specs.Prelude.{◌≡◌};
+ghost use Rattle.std.specs.Bool.{OnTrue, OnFalse};
+ghost use Rattle.std.specs.Prelude.{◌≡◌, ◌≢◌};
 ghost use Rattle.prl_stages.specs.declared.stages.Stop.TheVariants.{Memory};
 
 use crate::faults::{Fault, InputFile};
@@ -50,7 +51,6 @@ pub enum Stage {
 }
 
 /// Why a command gives no text.
-#[derive(Drop)]
 pub enum Stop {
     /// A reading of the file failed.
     Unread(InputFile),
@@ -60,10 +60,29 @@ pub enum Stop {
     Memory,
 }
 
+impl Stop {
+    /// Whether memory ran out.
+    pub fn is_memory(&self) -> bool
+        ensures yes { OnTrue result (self.now ≡ Memory) }
+        ensures no { OnFalse result (self.now ≢ Memory) }
+    {
+        matches!(self, Stop::Memory)
+    }
+}
+
 impl From<AllocError> for Stop {
     ghost from_gives = { λ _ e. e ≡ Memory };
 
     fn from(_error: AllocError) -> Stop {
         Stop::Memory
+    }
+}
+
+impl Drop for Stop {
+    fn drop(self) {
+        match self {
+            Stop::Refused(_, fault) => drop(fault),
+            Stop::Unread(_) | Stop::Memory => {}
+        }
     }
 }

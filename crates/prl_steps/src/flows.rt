@@ -9,7 +9,6 @@ use std::alloc::{AllocError, Global};
 use std::marker::Model;
 
 /// A flow with its values by date. Contracts see a `FlowView`.
-#[derive(Drop)]
 pub struct Flow {
     name: Name,
     ty: Ty,
@@ -61,5 +60,17 @@ impl Flow {
     {
         self.samples.push(sample)?;
         Ok(())
+    }
+}
+
+impl Drop for Flow {
+    fn drop(self) {
+        let Flow {
+            name,
+            ty: _,
+            samples,
+        } = self;
+        drop(name);
+        drop(samples);
     }
 }

@@ -7,10 +7,10 @@ use Rattle.prl_base.specs.declared.operators.Op.{Op}
 use Rattle.prl_base.specs.declared.places.Span.{Span}
 use Rattle.prl_base.specs.declared.values.Value.{Value}
 use Rattle.prl_base.specs.declared.operators.Op.TheVariants as ops
-use Rattle.prl_grammar.specs.Vocabulary.{stop_of, Lexeme, Read, next_in, ◌=>◌, shape, inner_of, read_at, read_nested}
-use Rattle.prl_grammar.specs.declared.reading.Stop.{Stop}
-use Rattle.prl_grammar.specs.declared.reading.Stop.TheVariants as stops
-use Rattle.prl_grammar.proofs.Nesting.{nested_step}
+use Rattle.prl_lex.specs.Vocabulary.{stop_of, Lexeme, Read, next_in, ◌=>◌, shape, inner_of, read_at, read_nested}
+use Rattle.prl_lex.specs.declared.reading.Stop.{Stop}
+use Rattle.prl_lex.specs.declared.reading.Stop.TheVariants as stops
+use Rattle.prl_lex.proofs.Nesting.{nested_step}
 use Rattle.prl_syntax.specs.Vocabulary.{Fixed, Grammar, the, Const, Base, Prefix, AfterConst, Stem, programs, Step, last, AfterLink, ConstantLink, NextLink, with_prefixes, after_step, StemTree}
 use Rattle.prl_syntax.specs.Vocabulary.{prefixed}
 use Rattle.prl_syntax.specs.code.Links.{prefix}

@@ -1,10 +1,10 @@
 -- A loop that reads one list after another gives what the reader of many gives.
 use Rattle.prl_base.proofs.Standard.{◌≡◌, ℕ, true, false, List, ◌∷◌, ◌++◌, Ok, Err, refl, sym, ap, ◌∙◌, append_assoc, cond-true, cond-false, append-nil}
 use Rattle.prl_base.specs.Reading.{◌>>=◌, FailsAs}
-use Rattle.prl_grammar.specs.Vocabulary.{Lexeme, Read, next_in, many_at, stop_of}
-use Rattle.prl_grammar.specs.declared.reading.Stop.{Stop}
-use Rattle.prl_grammar.specs.declared.reading.Stop.TheVariants as stops
-use Rattle.prl_grammar.proofs.Loops.{Steps, step_fewer}
+use Rattle.prl_lex.specs.Vocabulary.{Lexeme, Read, next_in, many_at, stop_of}
+use Rattle.prl_lex.specs.declared.reading.Stop.{Stop}
+use Rattle.prl_lex.specs.declared.reading.Stop.TheVariants as stops
+use Rattle.prl_lex.proofs.Loops.{Steps, step_fewer}
 use Rattle.prl_syntax.specs.Vocabulary.{joined, with_joined}
 
 regroup_joined : {A : Type 0} (front a : List A) (r : Read (List (List A))) → with_joined front (r >>= λ x. Ok (a ∷ x.0, x.1)) ≡ with_joined (front ++ a) r

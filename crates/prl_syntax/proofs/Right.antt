@@ -1,9 +1,9 @@
 -- One token of look-ahead decides in programs: the test computes.
 use Rattle.std.proofs.Common.{◌≡◌, ◌<◌, List, length, Ok, refl}
 use Rattle.prl_ast.specs.Trees.{Tree}
-use Rattle.prl_grammar.specs.Vocabulary.{Lexeme, ◌⊳◌, many, inner_of, read_at, IsApart, shape}
-use Rattle.prl_grammar.proofs.Loops.{Steps, steps as text_steps}
-use Rattle.prl_grammar.proofs.Nesting.{IsRight, text_fewer}
+use Rattle.prl_lex.specs.Vocabulary.{Lexeme, ◌⊳◌, many, inner_of, read_at, IsApart, shape}
+use Rattle.prl_lex.proofs.Loops.{Steps, steps as text_steps}
+use Rattle.prl_lex.proofs.Nesting.{IsRight, text_fewer}
 use Rattle.prl_syntax.specs.declared.words.Fixed.TheVariants as fixed
 use Rattle.prl_syntax.specs.code.Links.{Step, AfterLink, ConstantLink, NextLink}
 use Rattle.prl_syntax.specs.Grammar.{Grammar, the, Const, Ratio, Postfix, Expr, Exprs, Base, Prefix, AfterConst, Stem, programs, Name, Names, Left, Equation, TypeName, Rate, Due, Note, Item, Run, Params, EndedRun, Locals, PortGroup, NextGroup, Ports, Wcet, Import, Device, Node, Declaration, Program}

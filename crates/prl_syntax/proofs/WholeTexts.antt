@@ -5,10 +5,10 @@ use Rattle.prl_base.specs.Reading.{GivesBut}
 use Rattle.prl_ast.specs.Trees.{ProgramTree}
 use Rattle.prl_lex.specs.declared.tokens.LexFault.TheVariants as lexical
 use Rattle.prl_lex.proofs.Outcomes.{text_has_outcome}
-use Rattle.prl_grammar.specs.Vocabulary.{IsTextOf, IsRead, tree_of_text}
-use Rattle.prl_grammar.specs.declared.texts.TextFault.{TextFault}
-use Rattle.prl_grammar.specs.declared.texts.TextFault.TheVariants as texts
-use Rattle.prl_grammar.proofs.TextTrees.{read_is, is_read}
+use Rattle.prl_lex.specs.Vocabulary.{IsTextOf, IsRead, tree_of_text}
+use Rattle.prl_lex.specs.declared.texts.TextFault.{TextFault}
+use Rattle.prl_lex.specs.declared.texts.TextFault.TheVariants as texts
+use Rattle.prl_lex.proofs.TextTrees.{read_is, is_read}
 use Rattle.prl_syntax.specs.Vocabulary.{ParseFault, program_texts, Explains, IsParsed, of_text, limited, outcome_of}
 use Rattle.prl_syntax.specs.declared.parsing.ParseFault.TheVariants as faults
 use Rattle.prl_syntax.proofs.Right.{right, program_apart}

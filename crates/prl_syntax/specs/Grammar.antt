@@ -16,10 +16,10 @@ use Rattle.prl_ast.specs.declared.declarations.Port.{Port}
 use Rattle.prl_ast.specs.declared.declarations.Rate.{Rate as RateTree}
 use Rattle.prl_ast.specs.declared.expressions.PlacedOp.{PlacedOp}
 use Rattle.prl_ast.specs.Trees.{Tree, Root, const, group, Trees, none, EquationTree, NodeTree, ProgramTree}
-use Rattle.prl_grammar.specs.Numbers.{positive, negative}
-use Rattle.prl_grammar.specs.Productions.{Grammar as GrammarIn, give, many, placed, inner}
-use Rattle.prl_grammar.specs.Combinators.{◌=>◌, ◌means◌, ◌or◌, ◌&◌, ◌⊳◌, ◌⊲◌, maybe, list_of, place, named, number}
-use Rattle.prl_grammar.specs.Language.{Language}
+use Rattle.prl_lex.specs.Numbers.{positive, negative}
+use Rattle.prl_lex.specs.Productions.{Grammar as GrammarIn, give, many, placed, inner}
+use Rattle.prl_lex.specs.Combinators.{◌=>◌, ◌means◌, ◌or◌, ◌&◌, ◌⊳◌, ◌⊲◌, maybe, list_of, place, named, number}
+use Rattle.prl_lex.specs.Language.{Language}
 use Rattle.prl_syntax.specs.declared.words.Fixed.{Fixed}
 use Rattle.prl_syntax.specs.declared.words.Fixed.TheVariants as fixed
 use Rattle.prl_syntax.specs.declared.parameters.Note.{Note as NoteTree}

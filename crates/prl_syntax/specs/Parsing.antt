@@ -5,7 +5,7 @@ use Rattle.prl_base.specs.declared.limits.What.TheVariants as limits
 use Rattle.prl_ast.specs.Trees.{ProgramTree}
 use Rattle.prl_lex.specs.declared.tokens.LexFault.TheVariants as lexical
 use Rattle.prl_lex.specs.Lexing.{tokens_of}
-use Rattle.prl_grammar.specs.Texts.{Texts, IsTextOf, IsUnexpectedAt, IsOutOfRangeAt}
+use Rattle.prl_lex.specs.Texts.{Texts, IsTextOf, IsUnexpectedAt, IsOutOfRangeAt}
 use Rattle.prl_syntax.specs.declared.parsing.TheConstants.{MAX_NODES}
 use Rattle.prl_syntax.specs.declared.parsing.ParseFault.{ParseFault}
 use Rattle.prl_syntax.specs.declared.parsing.ParseFault.TheVariants as faults

@@ -2,7 +2,7 @@
 -- from `rate` to its `)`, and the token just before it.
 use Rattle.std.specs.Prelude.{ℕ, ◌==◌, ◌&&◌, ◌||◌, nat_le, Bool, if◌then◌else◌}
 use Rattle.prl_base.specs.declared.ratios.TheConstants.{MAX_PART}
-use Rattle.prl_grammar.specs.Ranges.{Ranges}
+use Rattle.prl_lex.specs.Ranges.{Ranges}
 use Rattle.prl_base.specs.declared.decimals.TheConstants.{MAX_NEGATIVE, MAX_POSITIVE}
 use Rattle.prl_syntax.specs.declared.words.Fixed.TheVariants as fixed
 use Rattle.prl_syntax.specs.Words.{class_of}

@@ -1,6 +1,6 @@
 -- The keywords and symbols of programs.
 use Rattle.std.specs.Prelude.{ℕ, List, Option}
-use Rattle.prl_grammar.specs.Lexing.{Vocabulary, class_in}
+use Rattle.prl_lex.specs.Classes.{Vocabulary, class_in}
 use Rattle.prl_syntax.specs.declared.words.Fixed.{Fixed}
 use Rattle.prl_syntax.specs.declared.words.Fixed.TheVariants as fixed
 use Rattle.prl_syntax.specs.declared.words.TheConstants.{KEYWORDS, SYMBOLS}

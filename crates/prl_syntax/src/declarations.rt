@@ -2,8 +2,8 @@
 
 ghost use Rattle.std.specs.Prelude.{◌≡◌, ◌∷◌, [], map, IfOk};
 ghost use Rattle.prl_base.specs.Reading.{Gives};
-ghost use Rattle.prl_grammar.specs.Vocabulary.{◌&◌, ◌⊳◌, stop_of, inner_of, read_at, either, many};
-ghost use Rattle.prl_grammar.specs.Vocabulary.{shape, next_in};
+ghost use Rattle.prl_lex.specs.Vocabulary.{◌&◌, ◌⊳◌, stop_of, inner_of, read_at, either, many};
+ghost use Rattle.prl_lex.specs.Vocabulary.{shape, next_in};
 ghost use Rattle.prl_syntax.specs.code.Loops.{with_joined};
 ghost use Rattle.prl_syntax.specs.Grammar as grammar;
 ghost use Rattle.prl_syntax.specs.code.Parses.{Parses};
@@ -15,7 +15,7 @@ use crate::values::small;
 use crate::words::Fixed;
 use prl_ast::{Device, Import, Placed, Port};
 use prl_base::{Seq, Span, Ty};
-use prl_grammar::Stop;
+use prl_lex::Stop;
 use std::alloc::{AllocError, Global};
 
 /// Ports of the names and the type.

@@ -3,9 +3,9 @@
 ghost use Rattle.std.specs.Prelude.{◌≡◌, ◌∷◌, ◌≤◌, [], length, map, IfOk};
 ghost use Rattle.prl_base.specs.Reading.{Gives};
 ghost use Rattle.prl_ast.specs.Trees.{none, root_of, tree_of};
-ghost use Rattle.prl_grammar.specs.Vocabulary.{first_place, stop_of, with_front, ◌&◌, ◌⊳◌, number};
-ghost use Rattle.prl_grammar.specs.Vocabulary.{inner_of, read_at, read_nested, many, shape};
-ghost use Rattle.prl_grammar.specs.Vocabulary.{next_in};
+ghost use Rattle.prl_lex.specs.Vocabulary.{first_place, stop_of, with_front, ◌&◌, ◌⊳◌, number};
+ghost use Rattle.prl_lex.specs.Vocabulary.{inner_of, read_at, read_nested, many, shape};
+ghost use Rattle.prl_lex.specs.Vocabulary.{next_in};
 ghost use Rattle.prl_syntax.specs.code.Links.{link_view, with_prefixes};
 ghost use Rattle.prl_syntax.specs.code.Links as links;
 ghost use Rattle.prl_syntax.specs.Grammar as grammar;
@@ -18,7 +18,7 @@ use crate::values::small;
 use crate::words::Fixed;
 use prl_ast::{Base, Expr, PlacedOp};
 use prl_base::{Op, Seq, Span};
-use prl_grammar::Stop;
+use prl_lex::Stop;
 
 impl<'a> Parser<'a> {
     /// Takes this token and a factor.
@@ -59,7 +59,7 @@ impl<'a> Parser<'a> {
     }
 
     /// Takes postfixes, as many as there are.
-    #[tactic(auto, using(prl_grammar::proofs::Loops::loops, crate::proofs::Right::postfix_steps))]
+    #[tactic(auto, using(prl_lex::proofs::Loops::loops, crate::proofs::Right::postfix_steps))]
     fn postfixes(&mut self) -> Result<Vec<PlacedOp>, Stop>
         ensures { Parses (λ x. x.items) (many grammar.Postfix) result self.entry.now self.exit.now }
     {
@@ -166,7 +166,7 @@ impl<'a> Parser<'a> {
 
     /// Takes expressions after the first ones, each with a comma before it.
     #[cycle(expression)]
-    #[tactic(auto, using(prl_grammar::proofs::Loops::loops, crate::proofs::Right::comma_expr_steps))]
+    #[tactic(auto, using(prl_lex::proofs::Loops::loops, crate::proofs::Right::comma_expr_steps))]
     fn more_exprs(&mut self, front: Vec<Expr>) -> Result<Vec<Expr>, Stop>
         ensures { Gives (λ x. (map tree_of x.items, self.exit.now)) stop_of result (with_front (map tree_of front.items) (read_at grammar.programs (many (grammar.the kinds.Comma ⊳ grammar.Expr)) self.entry.now)) }
     {

@@ -3,9 +3,9 @@
 ghost use Rattle.std.specs.Prelude.{◌≡◌, ◌∷◌, [], map, reverse, IfOk, OnOk};
 ghost use Rattle.prl_base.specs.Reading.{Gives};
 ghost use Rattle.prl_ast.specs.Trees.{equation_tree, node_tree, program_tree};
-ghost use Rattle.prl_grammar.specs.Vocabulary.{stop_of, all_at, inner_of, read_at, many, shape};
-ghost use Rattle.prl_grammar.specs.Vocabulary.{next_in};
-ghost use Rattle.prl_grammar.specs.Combinators as combinators;
+ghost use Rattle.prl_lex.specs.Vocabulary.{stop_of, all_at, inner_of, read_at, many, shape};
+ghost use Rattle.prl_lex.specs.Vocabulary.{next_in};
+ghost use Rattle.prl_lex.specs.Combinators as combinators;
 ghost use Rattle.prl_syntax.specs.code.Nodes.{declared_view, declarations_view, with_last, ClosedEquations, NodeBody, OutsAndBody};
 ghost use Rattle.prl_syntax.specs.Grammar as grammar;
 ghost use Rattle.prl_syntax.specs.code.Parses.{Parses};
@@ -16,7 +16,7 @@ use crate::parser::Parser;
 use crate::words::Fixed;
 use prl_ast::{Device, Equation, Import, Node, Param, Placed, Program};
 use prl_base::{Seq, Span};
-use prl_grammar::{Stop, Terminal};
+use prl_lex::{Stop, Terminal};
 use std::alloc::{AllocError, Global};
 
 impl<'a> Parser<'a> {
@@ -62,7 +62,7 @@ impl<'a> Parser<'a> {
     }
 
     /// Takes equations, as many as there are.
-    #[tactic(auto, using(prl_grammar::proofs::Loops::loops, crate::proofs::Right::equation_steps))]
+    #[tactic(auto, using(prl_lex::proofs::Loops::loops, crate::proofs::Right::equation_steps))]
     fn equations(&mut self) -> Result<Vec<Equation>, Stop>
         ensures { Parses (λ x. map equation_tree x.items) (many grammar.Equation) result self.entry.now self.exit.now }
     {
@@ -170,7 +170,7 @@ impl<'a> Parser<'a> {
     }
 
     /// Takes declarations, as many as there are.
-    #[tactic(auto, using(prl_grammar::proofs::Loops::loops, crate::proofs::Right::declaration_steps))]
+    #[tactic(auto, using(prl_lex::proofs::Loops::loops, crate::proofs::Right::declaration_steps))]
     fn declarations(&mut self) -> Result<Vec<Declaration>, Stop>
         ensures { Parses (λ x. map declared_view x.items) (many grammar.Declaration) result self.entry.now self.exit.now }
     {

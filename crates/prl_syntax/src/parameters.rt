@@ -3,8 +3,8 @@
 
 ghost use Rattle.std.specs.Prelude.{◌≡◌, ◌∷◌, [], ◌++◌, reverse, None, IfOk};
 ghost use Rattle.prl_base.specs.Reading.{Gives};
-ghost use Rattle.prl_grammar.specs.Vocabulary.{stop_of, with_front, ◌⊳◌, read_at, many};
-ghost use Rattle.prl_grammar.specs.Combinators as combinators;
+ghost use Rattle.prl_lex.specs.Vocabulary.{stop_of, with_front, ◌⊳◌, read_at, many};
+ghost use Rattle.prl_lex.specs.Combinators as combinators;
 ghost use Rattle.prl_syntax.specs.code.Loops.{with_joined};
 ghost use Rattle.prl_syntax.specs.Grammar as grammar;
 ghost use Rattle.prl_syntax.specs.code.Parses.{Parses};
@@ -16,7 +16,7 @@ use crate::values::small;
 use crate::words::Fixed;
 use prl_ast::{Param, Placed, Rate};
 use prl_base::Ty;
-use prl_grammar::Stop;
+use prl_lex::Stop;
 use std::alloc::{AllocError, Global};
 
 /// What a note says of a name.
@@ -46,7 +46,7 @@ impl<'a> Parser<'a> {
     }
 
     /// Takes names after the first ones, each with a comma before it.
-    #[tactic(auto, using(prl_grammar::proofs::Loops::loops, crate::proofs::Right::comma_name_steps))]
+    #[tactic(auto, using(prl_lex::proofs::Loops::loops, crate::proofs::Right::comma_name_steps))]
     fn more_names(&mut self, front: Vec<Placed>) -> Result<Vec<Placed>, Stop>
         ensures { Gives (λ x. (x.items, self.exit.now)) stop_of result (with_front front.items (read_at grammar.programs (many (grammar.the kinds.Comma ⊳ grammar.Name)) self.entry.now)) }
     {
@@ -185,7 +185,7 @@ impl<'a> Parser<'a> {
     }
 
     /// Takes items after the first ones, each with a comma before it.
-    #[tactic(auto, using(prl_grammar::proofs::Loops::loops, crate::proofs::Right::comma_item_steps))]
+    #[tactic(auto, using(prl_lex::proofs::Loops::loops, crate::proofs::Right::comma_item_steps))]
     fn more_items(&mut self, front: Vec<Item>) -> Result<Vec<Item>, Stop>
         ensures { Gives (λ x. (x.items, self.exit.now)) stop_of result (with_front front.items (read_at grammar.programs (many (grammar.the kinds.Comma ⊳ grammar.Item)) self.entry.now)) }
     {

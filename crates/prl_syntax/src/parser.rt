@@ -1,14 +1,14 @@
 //! The parser: what is left of the tokens, and what is taken of them.
 
 ghost use Rattle.std.specs.Prelude.{◌≡◌, ◌∷◌, []};
-ghost use Rattle.prl_grammar.specs.Vocabulary.{first_place, next_in, ◌⊳◌, named, number};
+ghost use Rattle.prl_lex.specs.Vocabulary.{first_place, next_in, ◌⊳◌, named, number};
 ghost use Rattle.prl_syntax.specs.Grammar.{the};
 ghost use Rattle.prl_syntax.specs.code.Parses.{Parses};
 ghost use Rattle.prl_syntax.specs.Words.{class_of};
 
 use crate::words::Fixed;
 use prl_base::{Name, Span};
-use prl_grammar::{Stop, Terminal};
+use prl_lex::{Stop, Terminal};
 use std::alloc::Global;
 use std::marker::Model;
 
@@ -21,7 +21,7 @@ pub struct Parser<'a> {
 
 impl<'a> Model for Parser<'a> {
     ghost use Rattle.std.specs.Prelude.{List};
-    ghost use Rattle.prl_grammar.specs.Lexemes.{Lexeme};
+    ghost use Rattle.prl_lex.specs.Lexemes.{Lexeme};
 
     ghost Value = { List Lexeme };
 
@@ -33,21 +33,21 @@ impl<'a> Parser<'a> {
     pub fn next_is(&self, fixed: Fixed) -> bool
         ensures { result ≡ next_in (class_of fixed ∷ []) self.now }
     {
-        prl_grammar::next_is(self.rest, fixed as u8)
+        prl_lex::next_is(self.rest, fixed as u8)
     }
 
     /// Whether a name is next.
     pub fn next_is_name(&self) -> bool
         ensures { result ≡ next_in (0 ∷ []) self.now }
     {
-        prl_grammar::next_is(self.rest, 0)
+        prl_lex::next_is(self.rest, 0)
     }
 
     /// Whether a number is next.
     pub fn next_is_number(&self) -> bool
         ensures { result ≡ next_in (1 ∷ []) self.now }
     {
-        prl_grammar::next_is(self.rest, 1)
+        prl_lex::next_is(self.rest, 1)
     }
 
     /// The place of the next token.
@@ -64,7 +64,7 @@ impl<'a> Parser<'a> {
     pub fn expect(&mut self, fixed: Fixed) -> Result<Span, Stop>
         ensures { Parses (λ x. x) (the fixed) result self.entry.now self.exit.now }
     {
-        let (at, rest) = prl_grammar::expect(self.rest, fixed as u8)?;
+        let (at, rest) = prl_lex::expect(self.rest, fixed as u8)?;
         self.rest = rest;
         Ok(at)
     }
@@ -73,7 +73,7 @@ impl<'a> Parser<'a> {
     pub fn name(&mut self) -> Result<(Name, Span), Stop>
         ensures { Parses (λ x. (x.0, x.1)) named result self.entry.now self.exit.now }
     {
-        let (name, at, rest) = prl_grammar::name(self.alloc, self.rest)?;
+        let (name, at, rest) = prl_lex::name(self.alloc, self.rest)?;
         self.rest = rest;
         Ok((name, at))
     }
@@ -82,7 +82,7 @@ impl<'a> Parser<'a> {
     pub fn number(&mut self) -> Result<u64, Stop>
         ensures { Parses (λ x. x) number result self.entry.now self.exit.now }
     {
-        let (number, _, rest) = prl_grammar::number(self.rest)?;
+        let (number, _, rest) = prl_lex::number(self.rest)?;
         self.rest = rest;
         Ok(number)
     }

@@ -11,8 +11,7 @@ use crate::ranges::is_in_range;
 use crate::words::{Fixed, KEYWORDS, SYMBOLS, class_of};
 use prl_ast::Program;
 use prl_base::{Limit, What};
-use prl_grammar::{Stop, Syntax, Terminal, TextFault, class_in, read_text};
-use prl_lex::LexFault;
+use prl_lex::{LexFault, Stop, Syntax, Terminal, TextFault, class_in, read_text};
 use std::alloc::Global;
 
 /// The most nodes of a program.

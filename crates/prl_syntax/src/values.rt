@@ -3,8 +3,8 @@
 ghost use Rattle.std.specs.Prelude.{◌≡◌, ◌<◌, ◌≤◌};
 ghost use Rattle.prl_base.specs.Reading.{Gives};
 ghost use Rattle.prl_base.specs.declared.ratios.TheConstants.{MAX_PART};
-ghost use Rattle.prl_grammar.specs.Vocabulary.{stop_of, ◌⊳◌};
-ghost use Rattle.prl_grammar.specs.Combinators as combinators;
+ghost use Rattle.prl_lex.specs.Vocabulary.{stop_of, ◌⊳◌};
+ghost use Rattle.prl_lex.specs.Combinators as combinators;
 ghost use Rattle.prl_syntax.specs.Values.{small, reduced, ratio_of};
 ghost use Rattle.prl_syntax.specs.Grammar as grammar;
 ghost use Rattle.prl_syntax.specs.code.Parses.{Parses};
@@ -13,7 +13,7 @@ ghost use Rattle.prl_syntax.specs.declared.words.Fixed.TheVariants as kinds;
 use crate::parser::Parser;
 use crate::words::Fixed;
 use prl_base::{MAX_PART, Ratio, Value, gcd};
-use prl_grammar::{Stop, negative, positive};
+use prl_lex::{Stop, negative, positive};
 
 /// The number, or the greatest one that is in a range.
 pub fn small(number: u64) -> u32

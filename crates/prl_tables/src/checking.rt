@@ -19,7 +19,6 @@ use std::alloc::Global;
 use std::marker::Model;
 
 /// A good table of a plan. Contracts see the plan and the entries.
-#[derive(Drop)]
 pub struct Checked<'a> {
     plan: &'a Plan,
     table: &'a Table,
@@ -111,4 +110,15 @@ pub fn check_table<'a>(
 {
     let sums = checked_sums(alloc, plan, table.entries.as_slice())?;
     Ok(Checked { plan, table, sums })
+}
+
+impl<'a> Drop for Checked<'a> {
+    fn drop(self) {
+        let Checked {
+            plan: _,
+            table: _,
+            sums,
+        } = self;
+        drop(sums);
+    }
 }

@@ -156,7 +156,6 @@ fn stop_at(
 }
 
 /// The edges that the jobs of each task go through. Contracts see a list of them for each task.
-#[derive(Drop)]
 pub struct Routes {
     of: Vec<Seq<Access>>,
 }
@@ -206,5 +205,12 @@ impl Routes {
             rest: place,
         };
         self.stop(plan, i, n, place, start).action
+    }
+}
+
+impl Drop for Routes {
+    fn drop(self) {
+        let Routes { of } = self;
+        drop(of);
     }
 }

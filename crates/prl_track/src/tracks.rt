@@ -27,7 +27,6 @@ use std::marker::Model;
 
 /// The state of an executive of a plan in a horizon: the tick, how far each task is, and which instance stands in each half of
 /// a cell. It tests an event, does it, and tells the next one; values are no part of it. Contracts see a `TrackView`.
-#[derive(Drop)]
 pub struct Track<'a> {
     plan: &'a Plan,
     /// Where the tasks run, and by which windows their jobs are released.
@@ -487,5 +486,29 @@ impl<'a> Track<'a> {
                 self.proceed(task, job);
             }
         }
+    }
+}
+
+impl<'a> Drop for Track<'a> {
+    fn drop(self) {
+        let Track {
+            plan: _,
+            placed,
+            horizon: _,
+            now: _,
+            ended,
+            places,
+            tags,
+            firsts,
+            cursors,
+            routes,
+        } = self;
+        drop(placed);
+        drop(ended);
+        drop(places);
+        drop(tags);
+        drop(firsts);
+        drop(cursors);
+        drop(routes);
     }
 }

@@ -25,7 +25,6 @@ use std::marker::Model;
 
 /// A program within the ranges and limits of the language whose names, arity and types are right. It borrows the program. Contracts see the program, the index of its
 /// main node, and the types of the parameters of all nodes in the order of their declaration.
-#[derive(Drop)]
 pub struct Typed<'a> {
     program: &'a Program,
     main: u32,
@@ -194,4 +193,17 @@ pub fn check_names_types<'a>(
 {
     let names = Names::new(alloc, program)?;
     check(alloc, program, &names, main)
+}
+
+impl<'a> Drop for Typed<'a> {
+    fn drop(self) {
+        let Typed {
+            program: _,
+            main: _,
+            types,
+            firsts,
+        } = self;
+        drop(types);
+        drop(firsts);
+    }
 }

@@ -11,7 +11,6 @@ use prl_body::{Bodies, Machine};
 use prl_flow::Sensors;
 
 /// How the jobs of a task come to what they give.
-#[derive(Drop)]
 pub enum Work {
     /// They give the rows of main's input of this number.
     Sensor(u32),
@@ -22,7 +21,6 @@ pub enum Work {
 }
 
 /// What a task works with.
-#[derive(Drop)]
 pub struct Worker {
     /// By port, what the open job has read so far.
     pub operands: Vec<Value>,
@@ -119,5 +117,32 @@ impl Worker {
             Work::Sensor(_) => None,
             Work::Actuator(_) => None,
         }
+    }
+}
+
+impl Drop for Work {
+    fn drop(self) {
+        match self {
+            Work::Node { word, machine } => {
+                drop(word);
+                drop(machine);
+            }
+            Work::Actuator(part) => drop(part),
+            Work::Sensor(_) => {}
+        }
+    }
+}
+
+impl Drop for Worker {
+    fn drop(self) {
+        let Worker {
+            operands,
+            outputs,
+            ran: _,
+            work,
+        } = self;
+        drop(operands);
+        drop(outputs);
+        drop(work);
     }
 }

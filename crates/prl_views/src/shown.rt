@@ -27,7 +27,6 @@ const LEGEND: &str = "<rect class=\"s t7\" x=\"1600\" y=\"590\" width=\"300\" he
     <text x=\"1960\" y=\"670\">processor's time, earliest deadline first</text>\n";
 
 /// What is drawn beside the windows.
-#[derive(Drop)]
 pub enum Shown {
     /// What a schedule does; nothing where it has no event.
     Events(Vec<Event>),
@@ -164,6 +163,20 @@ pub(crate) fn push_shown(
                 row,
                 load_of(table.entries.as_slice(), plan.graph().hyper),
             )
+        }
+    }
+}
+
+impl Drop for Shown {
+    fn drop(self) {
+        match self {
+            Shown::Events(part) => drop(part),
+            Shown::Verdict(_, part1) => drop(part1),
+            Shown::Cores(part0, part1) => {
+                drop(part0);
+                drop(part1);
+            }
+            Shown::Table(part) => drop(part),
         }
     }
 }

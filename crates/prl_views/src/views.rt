@@ -8,7 +8,6 @@ use prl_base::{Seq, TaskNo};
 use prl_drawing::Scale;
 
 /// What of a plan is drawn.
-#[derive(Drop)]
 pub struct View {
     pub scale: Scale,
     /// The tasks of the rows, from the top.
@@ -45,5 +44,12 @@ impl View {
         ensures { result.0 ≡ slice_index self.now.rows row }
     {
         TaskNo(self.rows.as_slice()[row as usize])
+    }
+}
+
+impl Drop for View {
+    fn drop(self) {
+        let View { scale: _, rows } = self;
+        drop(rows);
     }
 }

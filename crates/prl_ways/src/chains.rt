@@ -12,7 +12,6 @@ use prl_plan::TaskGraph;
 use std::alloc::{AllocError, Global};
 
 /// Jobs of which each precedes the next: a first one, and those after it; with dates in ticks.
-#[derive(Drop)]
 pub struct Chain {
     pub first: WayJob,
     pub rest: Seq<WayJob>,
@@ -103,5 +102,18 @@ pub fn circle_before(
     match chained(graph, first, rest) {
         Some(chain) if is_circle(graph, &chain) => Ok(Some(chain)),
         _ => Ok(None),
+    }
+}
+
+impl Drop for Chain {
+    fn drop(self) {
+        let Chain {
+            first: _,
+            rest,
+            begins: _,
+            released: _,
+            needs: _,
+        } = self;
+        drop(rest);
     }
 }

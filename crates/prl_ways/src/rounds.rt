@@ -10,7 +10,6 @@ use prl_flow::{Arg, Flat};
 use std::alloc::{AllocError, Global};
 
 /// A cycle: a flow, and those after it round the cycle, each used by the one before it and the last using the first.
-#[derive(Drop)]
 pub struct Round {
     pub along: Along,
     pub first: u32,
@@ -130,5 +129,16 @@ pub fn round_from(alloc: Global, flat: &Flat, first: u32) -> Result<Option<Round
     match round_along(alloc, flat, Along::Undelayed, first)? {
         Some(round) => Ok(Some(round)),
         None => round_along(alloc, flat, Along::Inside, first),
+    }
+}
+
+impl Drop for Round {
+    fn drop(self) {
+        let Round {
+            along: _,
+            first: _,
+            rest,
+        } = self;
+        drop(rest);
     }
 }

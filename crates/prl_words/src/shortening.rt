@@ -4,7 +4,8 @@ ghost use Rattle.std.specs.Prelude.{IfOk};
 ghost use Rattle.prl_words.specs.code.Shortest.{AreGaps, IsSteady, IsShortened};
 
 use prl_base::Seq;
-use prl_plan::{Word, shortest_repeat};
+use prl_numbers::shortest_repeat;
+use prl_plan::Word;
 use std::alloc::{AllocError, Global};
 
 /// How much higher each number of the first turn is than the one before it.

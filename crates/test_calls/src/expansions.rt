@@ -199,20 +199,15 @@ const BEGINS: &str = "((((((((((((((((((((((((((((((((((((((((((((((((((((((((((
 
 const ENDS: &str = "))))))))))))))))))))))))))))))))))))))))))))))))))))))))))))))";
 
-/// Adds node `k`, which applies the one before it in 62 parentheses.
-fn push_node(text: &mut String, k: u64) -> Result<(), AllocError> {
-    let before = k.saturating_sub(1);
-    write!(
-        text,
-        "node n{k} (x) returns (y) let y = {BEGINS}n{before}(x){ENDS}; tel "
-    )
-}
-
 /// Adds 255 nodes, each of which applies the one before it in 62 parentheses; main applies the last.
 fn push_deepest(text: &mut String) -> Result<(), AllocError> {
     text.push_str("sensor i wcet 1; actuator o wcet 1; node n0 (x) returns (y) let y = x; tel ")?;
-    for k in 1..255 {
-        push_node(text, k)?;
+    for before in 0u64..254 {
+        let k = before + 1;
+        write!(
+            text,
+            "node n{k} (x) returns (y) let y = {BEGINS}n{before}(x){ENDS}; tel "
+        )?;
     }
     text.push_str("node main (i: int rate (10, 0)) returns (o) let o = n254(i); tel")
 }

@@ -25,23 +25,13 @@ fn other_halves() -> Option<usize> {
     None
 }
 
-/// Whether integers are made of their halves.
-fn are_whole_integers() -> bool {
+/// Whether integers and truth values are made of their halves.
+fn are_whole() -> bool {
     whole(4294967295, 4294967295, Ty::Int) == Value::Int(-1)
         && whole(7, 1, Ty::Int) == Value::Int(4294967303)
         && whole(0, 2147483648, Ty::Int) == Value::Int(i64::MIN)
-}
-
-/// Whether truth values are made of their halves.
-fn are_whole_truth_values() -> bool {
-    whole(0, 0, Ty::Bool) == Value::Bool(false) && whole(1, 0, Ty::Bool) == Value::Bool(true)
-}
-
-#[test]
-fn of_integers_and_truth_values(rt: HostRuntime) -> Result<(), Fail> {
-    assert!(rt; other_halves() == None);
-    assert!(rt; are_whole_integers() && are_whole_truth_values());
-    Ok(())
+        && whole(0, 0, Ty::Bool) == Value::Bool(false)
+        && whole(1, 0, Ty::Bool) == Value::Bool(true)
 }
 
 /// Tags and halves, and the words of both.
@@ -64,7 +54,9 @@ fn other_word() -> Option<usize> {
 }
 
 #[test]
-fn tagged(rt: HostRuntime) -> Result<(), Fail> {
+fn of_values_and_tagged(rt: HostRuntime) -> Result<(), Fail> {
+    assert!(rt; other_halves() == None);
+    assert!(rt; are_whole());
     assert!(rt; other_word() == None);
     assert!(rt; pack(1, 4294967295) == 0x0000_0001_ffff_ffff);
     Ok(())

@@ -1,5 +1,5 @@
 //! Tests of public calls that no command line reaches; and what tests of plans share: the plan of a text, its horizon and rows
-//! of integers for its sensors, where these serve them.
+//! of integers for its sensors, where these serve them, and files in memory.
 #![tactic(auto)]
 
 mod devices;
@@ -24,4 +24,4 @@ mod texts;
 mod units;
 
 pub use devices::are_served;
-pub use texts::{COPIED_PLAN, SAMPLING_PLAN, horizon_of, plan_of, plan_served};
+pub use texts::{COPIED_PLAN, SAMPLING_PLAN, folder, horizon_of, plan_of, plan_served};

@@ -132,7 +132,7 @@ fn outcome_on(core: &mut Core<'_>, events: &[u8], output: &[Value]) -> Outcome
     }
 }
 
-/// Plays a list on a plan with these rows, up to a horizon. No task runs a body.
+/// Plays a list on a plan with its rows, up to a horizon. No task runs a body.
 fn played(
     alloc: Global,
     plan: &Plan,
@@ -141,11 +141,13 @@ fn played(
     events: &[u8],
     output: &[Value],
 ) -> Result<Outcome, Fail>
-    requires drives { Drives plan.now 1 0 }
     requires horizon { IsHorizon plan.now horizon }
     requires bodies { HaveTaskBodies plan.now.graph [] }
     requires rows { HaveTypedRows plan.now.graph horizon.until sensors.now }
 {
+    if !drives(plan) {
+        return Err("another plan".into());
+    }
     let bodies = Bodies::none(alloc);
     match Core::new(alloc, plan, &bodies, sensors, horizon) {
         Ok(mut core) => Ok(outcome_on(&mut core, events, output)),
@@ -153,33 +155,25 @@ fn played(
     }
 }
 
-/// Plays a list on the plan of a sensor with these rows and its actuator, up to a date.
+const ONE_AND_TWO: [Value; 2] = [Value::Int(1), Value::Int(2)];
+
+/// Plays a list on the plan of a sensor with the rows 1 and 2 and its actuator, up to 20.
 fn outcome_of(
     alloc: Global,
     plan: &[u8],
-    rows: &[Value],
-    until: u32,
     events: &[u8],
     output: &[Value],
 ) -> Result<Outcome, Fail> {
-    match plan_served(alloc, plan, 1, rows, until) {
-        Ok(made) => {
-            if drives(&made.0) {
-                return played(alloc, &made.0, &made.1, made.2, events, output);
-            }
-            Err("another plan".into())
-        }
+    match plan_served(alloc, plan, 1, ONE_AND_TWO.as_slice(), 20) {
+        Ok(made) => played(alloc, &made.0, &made.1, made.2, events, output),
         Err(fail) => Err(fail),
     }
 }
 
-const ONE_AND_TWO: [Value; 2] = [Value::Int(1), Value::Int(2)];
-
-/// The number of the first of these lists, up to 20 with the rows 1 and 2, after which another thing is told.
+/// The number of the first of these lists after which another thing is told.
 fn other_told(alloc: Global, plan: &[u8], lists: &[(&[u8], Told)]) -> Result<Option<usize>, Fail> {
     for (k, (events, told)) in lists.iter().enumerate() {
-        let outcome = outcome_of(alloc, plan, ONE_AND_TWO.as_slice(), 20, events, &[])?;
-        if outcome.told != *told {
+        if outcome_of(alloc, plan, events, &[])?.told != *told {
             return Ok(Some(k));
         }
     }
@@ -200,12 +194,6 @@ const COPIES: [(&[u8], Told); 6] = [
     (b"000t11", Ok(Some((b'r', [1, 0, 0, 0, 0, 0], ONE)))),
 ];
 
-#[test]
-fn writes_and_reads_are_told_by_halves(rt: HostRuntime) -> Result<(), Fail> {
-    assert!(rt; other_told(rt.alloc(), COPIED_PLAN, COPIES.as_slice())? == None);
-    Ok(())
-}
-
 /// What is told of values that come one period late: the constant, then the first instance, while the second is written.
 const LATE: [(&[u8], Told); 3] = [
     (b"0001", Ok(Some((b'c', [1, 0, 0, 0, 0, 0], NINE)))),
@@ -220,7 +208,8 @@ const LATE: [(&[u8], Told); 3] = [
 ];
 
 #[test]
-fn a_constant_is_read_before_instances(rt: HostRuntime) -> Result<(), Fail> {
+fn writes_and_reads_are_told(rt: HostRuntime) -> Result<(), Fail> {
+    assert!(rt; other_told(rt.alloc(), COPIED_PLAN, COPIES.as_slice())? == None);
     assert!(rt; other_told(rt.alloc(), LATE_PLAN, LATE.as_slice())? == None);
     Ok(())
 }
@@ -230,7 +219,7 @@ type Left = (Result<(), Unfinished>, Option<Event>);
 
 const NOTHING: Left = (Ok(()), None);
 
-/// Whether a list up to 20 with the rows 1 and 2 leaves this, and the actuator, whose task runs no machine, got just this.
+/// Whether a list leaves this, and the actuator, whose task runs no machine, got just this.
 fn leaves(
     alloc: Global,
     plan: &[u8],
@@ -238,7 +227,7 @@ fn leaves(
     got: &[Value],
     left: Left,
 ) -> Result<bool, Fail> {
-    let made = outcome_of(alloc, plan, ONE_AND_TWO.as_slice(), 20, events, got)?;
+    let made = outcome_of(alloc, plan, events, got)?;
     Ok(made.is_output && made.finished == left.0 && made.next == left.1 && !made.has_machine)
 }
 

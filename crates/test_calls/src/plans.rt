@@ -112,11 +112,6 @@ const LIMIT: Limit = Limit {
     found: 200_004,
 };
 
-/// Whether the plan has the one horizon, and not the other.
-fn are_horizons(plan: &Plan) -> bool {
-    Horizon::new(plan, 60) == Ok(HORIZON) && Horizon::new(plan, 600_010) == Err(LIMIT)
-}
-
 /// Fails with the name of the first look-up that gives something else.
 fn look_up(plan: &Plan) -> Result<(), Fail> {
     if other_dates(plan).is_some() {
@@ -128,7 +123,7 @@ fn look_up(plan: &Plan) -> Result<(), Fail> {
     if (other_count(plan), other_cell(plan), plan.total()) != (None, None, 5) {
         return Err("other cells".into());
     }
-    if !are_horizons(plan) {
+    if Horizon::new(plan, 60) != Ok(HORIZON) || Horizon::new(plan, 600_010) != Err(LIMIT) {
         return Err("other horizons".into());
     }
     Ok(())

@@ -53,9 +53,7 @@ fn plan_with(alloc: Global, slow: &str) -> Result<Plan, Fail> {
     let Some((before, after)) = SAMPLING_PLAN.split_once("wcet 10") else {
         return Err("no slow task".into());
     };
-    let mut text = String::from_str(alloc, before)?;
-    text.push_str(slow)?;
-    text.push_str(after)?;
+    let text = format!(in alloc; "{before}{slow}{after}")?;
     plan_of(alloc, text.as_bytes())
 }
 

@@ -5,7 +5,7 @@ ghost use Rattle.prl_plan.specs.Horizons.{IsHorizon};
 ghost use Rattle.prl_values.specs.Fitting.{HaveTaskBodies, HaveTypedRows};
 
 use crate::devices::are_served;
-use prl_base::{Seq, Value};
+use prl_base::{Label, Seq, Value};
 use prl_flow::Sensors;
 use prl_plan::{Horizon, Plan};
 use prl_plantext::read_plan;
@@ -48,6 +48,21 @@ edge 0 from 0.0 to 1.0 type int period 10 ops none
 word 0 prefix 0 repeat 0 step 1 1
 cells 0 base 0 count 1
 ";
+
+/// A file of this name.
+fn file(alloc: Global, name: &str, bytes: &[u8]) -> Result<(Label, Vec<u8>), AllocError> {
+    let label = Label::new(alloc, name.as_bytes())?;
+    Ok((label, Vec::from_slice(alloc, bytes)?))
+}
+
+/// Files by their names and bytes.
+pub fn folder(alloc: Global, files: &[(&str, &[u8])]) -> Result<Vec<(Label, Vec<u8>)>, AllocError> {
+    let mut all = Vec::new(alloc);
+    for (name, bytes) in files {
+        all.push(file(alloc, name, bytes)?)?;
+    }
+    Ok(all)
+}
 
 /// The plan of a text.
 pub fn plan_of(alloc: Global, text: &[u8]) -> Result<Plan, Fail> {

@@ -5,8 +5,8 @@ ghost use Rattle.prl_plan.specs.Horizons.{IsHorizon};
 ghost use Rattle.prl_values.specs.Fitting.{HaveTaskBodies, HaveTypedRows};
 ghost use Rattle.test_threads.specs.Pairs.{IsPair};
 
-use crate::cases::CASES;
-use crate::pairs::pair;
+use crate::cases::{CASES, case_of};
+use crate::pairs::{ROWS, pair};
 use crate::{lone_runs, seats};
 use prl_flow::Sensors;
 use prl_plan::{Horizon, Plan};
@@ -20,11 +20,11 @@ fn each_holds(alloc: Global, plan: &Plan, sensors: &Sensors, horizon: Horizon) -
     requires bodies { HaveTaskBodies plan.now.graph [] }
     requires rows { HaveTypedRows plan.now.graph horizon.until sensors.now }
 {
-    for case in CASES.iter() {
-        if !lone_runs::holds(alloc, plan, sensors, horizon, case)? {
-            return Err(case.name.into());
-        }
-        if !seats::holds(alloc, plan, sensors, horizon, case)? {
+    for line in CASES.lines() {
+        let case = case_of(line);
+        let alone = lone_runs::holds(alloc, plan, sensors, horizon, &case)?;
+        let apart = seats::holds(alloc, plan, sensors, horizon, &case)?;
+        if !alone || !apart {
             return Err(case.name.into());
         }
     }
@@ -33,6 +33,6 @@ fn each_holds(alloc: Global, plan: &Plan, sensors: &Sensors, horizon: Horizon) -
 
 #[test]
 fn each_case_holds(rt: HostRuntime) -> Result<(), Fail> {
-    let made = pair(rt.alloc())?;
+    let made = pair(rt.alloc(), ROWS.as_slice(), 20)?;
     each_holds(rt.alloc(), &made.0, &made.1, made.2)
 }

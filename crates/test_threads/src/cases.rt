@@ -1,6 +1,6 @@
 //! What lists of moves come to on a new board of the pair, worked out by hand.
 
-use prl_base::{CellNo, EdgeNo, TaskNo, Value};
+use prl_base::{TaskNo, Value};
 use prl_board::{Gate, Got, Half, Release, Ticked, Wrote};
 
 /// What a task or the clock did.
@@ -13,18 +13,10 @@ pub(crate) enum Did {
     Ticked(Ticked),
 }
 
-/// What a closed board shows.
-#[derive(Clone, Copy, PartialEq, Eq)]
-pub(crate) struct Shown {
-    pub(crate) now: u64,
-    /// By task, how many jobs have ended.
-    pub(crate) done: (u64, u64),
-    /// The words of the low and the high half of the one cell.
-    pub(crate) words: (u64, u64),
-    pub(crate) ended: bool,
-    /// Of how many of the sensor's rows, from the first one on, the actuator has got the values.
-    pub(crate) values: usize,
-}
+/// What a closed board shows: the clock's `now`; how many jobs of the sensor's and of the actuator's task have ended; the words
+/// of the low and the high half of the one cell; 1 where all is done; and of how many of the sensor's rows, from the first one
+/// on, the actuator has got the values.
+pub(crate) type Shown = [u64; 7];
 
 /// Moves on a new board, and what they come to.
 #[derive(Clone, Copy)]
@@ -35,11 +27,11 @@ pub(crate) struct Case {
     pub(crate) moves: &'static [u8],
     /// A letter for what each did.
     pub(crate) letters: &'static [u8],
-    /// What the last one did.
-    pub(crate) last: Did,
+    /// The numbers that tell more of what the last one did.
+    pub(crate) last: [u64; 3],
+    pub(crate) shown: Shown,
     /// The task whose stop is then raised.
     pub(crate) stop: Option<TaskNo>,
-    pub(crate) shown: Shown,
 }
 
 /// What was done: a letter for it, and the numbers that tell more.
@@ -78,158 +70,92 @@ pub(crate) fn told(did: Did) -> (u8, [u64; 3]) {
     }
 }
 
-/// Whether this is what the last move of the case did.
+/// Whether what the last move of the case did has its numbers.
 pub(crate) fn is_last(did: Option<Did>, case: &Case) -> bool {
     match did {
-        Some(did) => told(did) == told(case.last),
+        Some(did) => told(did).1 == case.last,
         None => false,
     }
 }
 
-/// Nothing was done.
-const NOTHING: Shown = Shown {
-    now: 0,
-    done: (0, 0),
-    words: (0, 0),
-    ended: false,
-    values: 0,
-};
+/// A line a case: its name; `gated` or `free`; its moves; the letters of what each did; the numbers of the last one, then what
+/// the closed board shows; and the task of a stop.
+pub(crate) const CASES: &str = "\
+nothing has happened at the opening|gated|||\
+    last 0 0 0 now 0 done 0 0 words 0 0 ended 0 values 0
+a job is released too early|gated|o|e|\
+    last 0 1 0 now 0 done 0 0 words 0 0 ended 0 values 0
+a reader finds nothing yet|gated|otoo|etrn|\
+    last 0 1 0 now 1 done 0 0 words 0 0 ended 0 values 0
+a write tells its half|gated|iii|rww|\
+    last 0 0 1 now 0 done 0 0 words 4294967297 4294967296 ended 0 values 0
+a gated clock waits for what is due|gated|iiiitttttttttt|rww.tttttttttb|\
+    last 1 0 0 now 9 done 1 0 words 4294967297 4294967296 ended 0 values 0
+all jobs end|gated|iiiitooootttttttttiiiitoooo|rww.trhg.tttttttttrww.trhg.|\
+    last 0 0 0 now 11 done 2 2 words 8589934594 8589934592 ended 1 values 2
+a low half is overrun by a free clock|free|iiiittttttttttiiioo|rww.ttttttttttrwwrx|\
+    last 0 1 2 now 10 done 1 0 words 8589934594 8589934592 ended 0 values 0|1
+a high half is overrun|free|iiiitootttttttttiiio|rww.trhtttttttttrwwx|\
+    last 0 1 2 now 10 done 1 0 words 8589934594 8589934592 ended 0 values 0|1
+a value is read beside the next low half|free|iiiitootttttttttiio|rww.trhtttttttttrwg|\
+    last 0 1 0 now 10 done 1 0 words 8589934594 4294967296 ended 0 values 0
+no job is left after the last one|free|iiiittttttttttiiiii|rww.ttttttttttrww.v|\
+    last 0 0 0 now 10 done 2 0 words 8589934594 8589934592 ended 0 values 0";
 
-/// The sensor's first value stands in the cell.
-pub(crate) const WRITTEN: Shown = Shown {
-    words: (4294967297, 4294967296),
-    ..NOTHING
-};
+/// The part of a line behind so many bars.
+fn part(line: &'static str, bars: usize) -> &'static str {
+    for (k, part) in line.split('|').enumerate() {
+        if k == bars {
+            return part;
+        }
+    }
+    ""
+}
 
-/// Its second value does, and nothing was read.
-const OVERRUN: Shown = Shown {
-    now: 10,
-    done: (1, 0),
-    words: (8589934594, 8589934592),
-    ..NOTHING
-};
+/// The ten numbers of a text; the greatest of all where one is missing.
+fn numbers_of(text: &str) -> [u64; 10] {
+    let mut numbers = [u64::MAX; 10];
+    let mut count = 0usize;
+    for word in text.split_ascii_whitespace() {
+        if let Ok(number) = word.parse::<u64>() {
+            if count < 10 {
+                numbers[count] = number;
+                count += 1;
+            }
+        }
+    }
+    numbers
+}
 
-/// A later instance than the first one.
-const LATER: Did = Did::Read(Got::Overrun {
-    cell: CellNo(0),
-    wanted: 1,
-    found: 2,
-});
+/// The gate of a name.
+fn gate_of(name: &str) -> Gate {
+    if name == "free" {
+        Gate::Free
+    } else {
+        Gate::Gated
+    }
+}
 
-/// Nothing, on a gated board.
-const OPENED: Case = Case {
-    name: "nothing has happened at the opening",
-    gate: Gate::Gated,
-    moves: b"",
-    letters: b"",
-    last: Did::Ended,
-    stop: None,
-    shown: NOTHING,
-};
+/// The task of a number, where there is one.
+fn task_of(digits: &str) -> Option<TaskNo> {
+    match digits.parse::<u32>() {
+        Ok(task) => Some(TaskNo(task)),
+        Err(_) => None,
+    }
+}
 
-pub(crate) const CASES: [Case; 10] = [
-    OPENED,
+/// The case of a line.
+pub(crate) fn case_of(line: &'static str) -> Case {
+    let numbers = numbers_of(part(line, 4));
     Case {
-        name: "a job is released too early",
-        moves: b"o",
-        letters: b"e",
-        last: Did::Released(Release::Early { now: 0, at: 1 }),
-        ..OPENED
-    },
-    Case {
-        name: "a reader finds nothing yet",
-        moves: b"otoo",
-        letters: b"etrn",
-        last: Did::Read(Got::NotYet {
-            cell: CellNo(0),
-            wanted: 1,
-            found: 0,
-        }),
-        shown: Shown { now: 1, ..NOTHING },
-        ..OPENED
-    },
-    Case {
-        name: "a write tells its half",
-        moves: b"iii",
-        letters: b"rww",
-        last: Did::Wrote(Wrote {
-            edge: EdgeNo(0),
-            cell: CellNo(0),
-            half: Half::High,
-        }),
-        shown: WRITTEN,
-        ..OPENED
-    },
-    Case {
-        name: "a gated clock waits for what is due",
-        moves: b"iiiitttttttttt",
-        letters: b"rww.tttttttttb",
-        last: Did::Ticked(Ticked::Behind {
-            task: TaskNo(1),
-            job: 0,
-        }),
-        shown: Shown {
-            now: 9,
-            done: (1, 0),
-            ..WRITTEN
-        },
-        ..OPENED
-    },
-    Case {
-        name: "all jobs end",
-        moves: b"iiiitooootttttttttiiiitoooo",
-        letters: b"rww.trhg.tttttttttrww.trhg.",
-        shown: Shown {
-            now: 11,
-            done: (2, 2),
-            ended: true,
-            values: 2,
-            ..OVERRUN
-        },
-        ..OPENED
-    },
-    Case {
-        name: "a low half is overrun by a free clock",
-        gate: Gate::Free,
-        moves: b"iiiittttttttttiiioo",
-        letters: b"rww.ttttttttttrwwrx",
-        last: LATER,
-        stop: Some(TaskNo(1)),
-        shown: OVERRUN,
-        ..OPENED
-    },
-    Case {
-        name: "a high half is overrun",
-        gate: Gate::Free,
-        moves: b"iiiitootttttttttiiio",
-        letters: b"rww.trhtttttttttrwwx",
-        last: LATER,
-        stop: Some(TaskNo(1)),
-        shown: OVERRUN,
-        ..OPENED
-    },
-    Case {
-        name: "a value is read beside the next low half",
-        gate: Gate::Free,
-        moves: b"iiiitootttttttttiio",
-        letters: b"rww.trhtttttttttrwg",
-        last: Did::Read(Got::Value(Value::Int(1))),
-        shown: Shown {
-            words: (8589934594, 4294967296),
-            ..OVERRUN
-        },
-        ..OPENED
-    },
-    Case {
-        name: "no job is left after the last one",
-        gate: Gate::Free,
-        moves: b"iiiittttttttttiiiii",
-        letters: b"rww.ttttttttttrww.v",
-        last: Did::Released(Release::Over),
-        shown: Shown {
-            done: (2, 0),
-            ..OVERRUN
-        },
-        ..OPENED
-    },
-];
+        name: part(line, 0),
+        gate: gate_of(part(line, 1)),
+        moves: part(line, 2).as_bytes(),
+        letters: part(line, 3).as_bytes(),
+        last: [numbers[0], numbers[1], numbers[2]],
+        shown: [
+            numbers[3], numbers[4], numbers[5], numbers[6], numbers[7], numbers[8], numbers[9],
+        ],
+        stop: task_of(part(line, 5)),
+    }
+}

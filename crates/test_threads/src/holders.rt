@@ -27,58 +27,56 @@ pub struct Holder {
     in_vain: AtomicBool,
 }
 
-/// A hold of a job that no program of the tests has.
-const NO_HOLD: Hold = Hold {
-    task: 9,
-    job: 0,
-    other: 9,
-    begun: 0,
-};
+/// The second job of each of two tasks is held until that of the other one has begun.
+pub const TWO_LANES: [Hold; 2] = [
+    Hold {
+        task: 0,
+        job: 1,
+        other: 1,
+        begun: 1,
+    },
+    Hold {
+        task: 1,
+        job: 1,
+        other: 0,
+        begun: 1,
+    },
+];
+
+/// The first job of task 1, which reads those of task 0, is held until the third of these has begun.
+pub const A_READER: [Hold; 2] = [
+    Hold {
+        task: 1,
+        job: 0,
+        other: 0,
+        begun: 2,
+    },
+    // no program of the tests has such a job
+    Hold {
+        task: 9,
+        job: 0,
+        other: 9,
+        begun: 0,
+    },
+];
+
+/// The second and the third job of task 1 are held until those of task 3 have begun.
+pub const A_FAR_READER: [Hold; 2] = [
+    Hold {
+        task: 1,
+        job: 1,
+        other: 3,
+        begun: 1,
+    },
+    Hold {
+        task: 1,
+        job: 2,
+        other: 3,
+        begun: 2,
+    },
+];
 
 impl Holder {
-    /// Holds the second job of each of two tasks until that of the other one has begun.
-    pub fn of_two_lanes() -> Holder {
-        let first = Hold {
-            task: 0,
-            job: 1,
-            other: 1,
-            begun: 1,
-        };
-        let second = Hold {
-            task: 1,
-            other: 0,
-            ..first
-        };
-        Holder::new([first, second])
-    }
-
-    /// Holds the first job of task 1, which reads those of task 0, until the third of these has begun.
-    pub fn of_a_reader() -> Holder {
-        let hold = Hold {
-            task: 1,
-            job: 0,
-            other: 0,
-            begun: 2,
-        };
-        Holder::new([hold, NO_HOLD])
-    }
-
-    /// Holds the second and the third job of task 1 until those of task 3 have begun.
-    pub fn of_a_far_reader() -> Holder {
-        let second = Hold {
-            task: 1,
-            job: 1,
-            other: 3,
-            begun: 1,
-        };
-        let third = Hold {
-            job: 2,
-            begun: 2,
-            ..second
-        };
-        Holder::new([second, third])
-    }
-
     /// A probe with these holds.
     pub fn new(holds: [Hold; 2]) -> Holder {
         Holder {

@@ -15,8 +15,6 @@ mod lone_runs;
 #[cfg(test)]
 mod pairs;
 #[cfg(test)]
-mod plans;
-#[cfg(test)]
 mod runs;
 #[cfg(test)]
 mod seats;

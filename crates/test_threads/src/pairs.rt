@@ -1,4 +1,4 @@
-//! A sensor with two rows and an actuator that takes each of its values, both of period 10 and of WCET 1, until 20.
+//! A sensor with rows and an actuator that takes each of its values, both of period 10 and of WCET 1.
 
 ghost use Rattle.std.specs.Prelude.{◌≡◌, [], true, IfOk};
 ghost use Rattle.prl_plan.specs.Horizons.{IsHorizon};
@@ -23,15 +23,18 @@ fn is_pair(plan: &Plan) -> bool
     tasks.len() >= 2 && tasks[1].kind == Kind::Actuator(0) && plan.total() > 0
 }
 
-/// The plan of the pair with its rows, and the horizon up to 20.
-pub(crate) fn pair(alloc: Global) -> Result<(Plan, Sensors, Horizon), Fail>
+/// The plan of the pair with these rows, and the horizon up to a date.
+pub(crate) fn pair(
+    alloc: Global,
+    rows: &[Value],
+    until: u32,
+) -> Result<(Plan, Sensors, Horizon), Fail>
     ensures pair { IfOk result (λ r. IsPair r.0) }
     ensures horizon { IfOk result (λ r. IsHorizon r.0 r.2) }
     ensures bodies { IfOk result (λ r. HaveTaskBodies r.0.graph []) }
     ensures rows { IfOk result (λ r. HaveTypedRows r.0.graph r.2.until r.1) }
 {
-    let rows = [Value::Int(1), Value::Int(2)];
-    let made = plan_served(alloc, COPIED_PLAN, 1, rows.as_slice(), 20)?;
+    let made = plan_served(alloc, COPIED_PLAN, 1, rows, until)?;
     if is_pair(&made.0) {
         Ok(made)
     } else {
@@ -39,31 +42,32 @@ pub(crate) fn pair(alloc: Global) -> Result<(Plan, Sensors, Horizon), Fail>
     }
 }
 
-/// Of how many of the sensor's rows, from the first one on, these are the values.
-fn count_of(values: &[Value]) -> usize {
-    if values.is_empty() {
-        0
-    } else if values == [Value::Int(1)].as_slice() {
-        1
-    } else if values == [Value::Int(1), Value::Int(2)].as_slice() {
-        2
-    } else {
-        3
+/// The rows of a pair up to 20.
+pub(crate) const ROWS: [Value; 2] = [Value::Int(1), Value::Int(2)];
+
+/// Of how many of the rows 1, 2, 3 .. these are the values; no count that there is where they are others.
+pub(crate) fn count_of(values: &[Value]) -> usize {
+    let mut next: i64 = 1;
+    for value in values {
+        if *value != Value::Int(next) {
+            return usize::MAX;
+        }
+        next = next.saturating_add(1);
     }
+    values.len()
 }
 
 /// What a closed board of the pair shows.
 pub(crate) fn shown(closed: &Closed) -> Shown
     requires { IsClosedPair closed.now }
 {
-    Shown {
-        now: closed.now(),
-        done: (closed.done(TaskNo(0)), closed.done(TaskNo(1))),
-        words: (
-            closed.word(CellNo(0), Half::Low),
-            closed.word(CellNo(0), Half::High),
-        ),
-        ended: closed.ended(),
-        values: count_of(closed.output(0)),
-    }
+    [
+        closed.now(),
+        closed.done(TaskNo(0)),
+        closed.done(TaskNo(1)),
+        closed.word(CellNo(0), Half::Low),
+        closed.word(CellNo(0), Half::High),
+        closed.ended() as u64,
+        count_of(closed.output(0)) as u64,
+    ]
 }

@@ -1,60 +1,44 @@
 //! Runs by one thread and by several: what an actuator gets, and where a run stops.
 
-ghost use Rattle.std.specs.Prelude.{◌≡◌, ◌<◌, ◌≤◌, ℕ, [], IfOk, length, Some, true};
-ghost use Rattle.prl_plan.specs.declared.graphs.Kind.TheVariants as kinds;
-ghost use Rattle.prl_plan.specs.Vocabulary.{IsHorizon, task_at};
+ghost use Rattle.std.specs.Prelude.{◌≡◌, ◌<◌, ◌≤◌, ℕ, [], IfOk, Some};
+ghost use Rattle.prl_plan.specs.Vocabulary.{IsHorizon};
 ghost use Rattle.prl_rule.specs.Known.{known};
 ghost use Rattle.prl_rule.specs.declared.views.Constants.{Constants};
 ghost use Rattle.prl_board.specs.Closings.{Drives};
 ghost use Rattle.prl_values.specs.Fitting.{HaveTaskBodies, HaveTypedRows};
 
-use crate::holders::Holder;
-use crate::plans::{FAR, LANES};
-use prl_base::{CellNo, TaskNo, Value};
+use crate::holders::{A_READER, Holder};
+use crate::pairs::{count_of, pair};
+use prl_base::Value;
 use prl_board::{Closed, Gate, Steps};
 use prl_body::Bodies;
-use prl_exec::{RunFault, run_alone, run_threads};
+use prl_exec::{RunFault, Stopped, run_alone, run_threads};
 use prl_flow::Sensors;
 use prl_io::{NoProbe, Probe};
-use prl_plan::{Horizon, Kind, Plan, plan_is_one};
+use prl_plan::{Horizon, Plan};
 use std::alloc::{AllocError, Global};
 use std::marker::Brand;
 use std::sync::Wait;
 use std::sync::ledger::{Blank, Ledger};
 use std::test::Fail;
 use std::thread::Threads;
-use test_calls::{COPIED_PLAN, plan_served};
 
-/// A run: the text of a plan, how many sensors it has with the rows 1, 2, 3, which actuator is looked
-/// at, with its task, and how the run goes. With no worker one thread runs alone.
+/// A run of the pair with the rows 1, 2, 3: up to when, how its clock goes, and how many workers it has. With no worker one
+/// thread runs alone.
 #[derive(Clone, Copy)]
 struct Run {
-    plan: &'static [u8],
-    sensors: u32,
-    actuator: u32,
-    task: u32,
     until: u32,
     gate: Gate,
     workers: u32,
 }
 
-/// What came of a run: of how many of its sensor's rows, from the first one on, the actuator has got
-/// the values, if they are those; or where it stopped: task, job, port, cell, and the tags wanted and
-/// found.
+/// What came of a run: of how many of the sensor's rows, from the first one on, the actuator has got the values; or where it
+/// stopped: task, job, port, cell, and the tags wanted and found.
 #[derive(Clone, Copy, PartialEq, Eq)]
 enum Outcome {
-    Got(Option<usize>),
-    Stopped(TaskNo, u64, u32, CellNo, u32, u32),
+    Got(usize),
+    Stopped([u64; 6]),
     NoMemory,
-}
-
-/// Whether the task drives the actuator.
-fn drives(plan: &Plan, task: u32, actuator: u32) -> bool
-    ensures { result ≡ true → (task < length plan.now.graph.tasks) × ((task_at plan.now.graph task).kind ≡ kinds.Actuator actuator) }
-{
-    plan_is_one(plan);
-    let tasks = plan.graph().tasks.as_slice();
-    (task as usize) < tasks.len() && tasks[task as usize].kind == Kind::Actuator(actuator)
 }
 
 /// One thread runs the plan.
@@ -136,48 +120,25 @@ fn ran<R: Threads + Wait + Sync, P: Probe>(
     }
 }
 
-/// The plan of a run with the rows of its sensors, and its horizon.
-fn prepared(alloc: Global, run: Run) -> Result<(Plan, Sensors, Horizon), Fail>
-    ensures horizon { IfOk result (λ r. IsHorizon r.0 r.2) }
-    ensures bodies { IfOk result (λ r. HaveTaskBodies r.0.graph []) }
-    ensures rows { IfOk result (λ r. HaveTypedRows r.0.graph r.2.until r.1) }
-    ensures drives { IfOk result (λ r. (run.task < length r.0.graph.tasks) × ((task_at r.0.graph run.task).kind ≡ kinds.Actuator run.actuator)) }
-{
-    let rows = [Value::Int(1), Value::Int(2), Value::Int(3)];
-    let made = plan_served(alloc, run.plan, run.sensors, rows.as_slice(), run.until)?;
-    if drives(&made.0, run.task, run.actuator) {
-        Ok(made)
-    } else {
-        Err("another plan".into())
-    }
-}
-
-/// Of how many rows, from the first one on, these are the values, if they are.
-fn count_of(values: &[Value]) -> Option<usize> {
-    let mut next: i64 = 1;
-    for value in values {
-        if *value != Value::Int(next) {
-            return None;
-        }
-        next = next.saturating_add(1);
-    }
-    Some(values.len())
+/// Where a run stopped.
+fn place_of(stopped: &Stopped) -> [u64; 6] {
+    [
+        stopped.task.0 as u64,
+        stopped.job,
+        stopped.port as u64,
+        stopped.cell.0 as u64,
+        stopped.wanted as u64,
+        stopped.found as u64,
+    ]
 }
 
 /// What came of a run that ended so.
-fn came_of(ended: Result<Closed, RunFault>, actuator: u32) -> Outcome
-    requires { IfOk ended (λ closed. (k : Constants) × (i : ℕ) × (closed.constants ≡ Some k) × Drives k i actuator) }
+fn came_of(ended: Result<Closed, RunFault>) -> Outcome
+    requires { IfOk ended (λ closed. (k : Constants) × (i : ℕ) × (closed.constants ≡ Some k) × Drives k i 0) }
 {
     match ended {
-        Ok(closed) => Outcome::Got(count_of(closed.output(actuator))),
-        Err(RunFault::Overrun(stopped)) => Outcome::Stopped(
-            stopped.task,
-            stopped.job,
-            stopped.port,
-            stopped.cell,
-            stopped.wanted,
-            stopped.found,
-        ),
+        Ok(closed) => Outcome::Got(count_of(closed.output(0))),
+        Err(RunFault::Overrun(stopped)) => Outcome::Stopped(place_of(&stopped)),
         Err(RunFault::Memory) => Outcome::NoMemory,
     }
 }
@@ -191,54 +152,37 @@ fn outcome_of<R: Threads + Wait + Sync, P: Probe>(
 ) -> Result<Outcome, Fail>
     requires { run.workers ≤ 16 }
 {
-    let made = prepared(alloc, run)?;
+    let rows = [Value::Int(1), Value::Int(2), Value::Int(3)];
+    let made = pair(alloc, rows.as_slice(), run.until)?;
     let ended = ran(rt, alloc, &made.0, &made.1, made.2, run, probe);
-    Ok(came_of(ended, run.actuator))
+    Ok(came_of(ended))
 }
 
-const COPY: Run = Run {
-    plan: COPIED_PLAN,
-    sensors: 1,
-    actuator: 0,
-    task: 1,
-    until: 20,
-    gate: Gate::Gated,
-    workers: 0,
-};
-
-#[test]
-fn one_thread_runs_to_the_end(rt: HostRuntime) -> Result<(), Fail> {
-    let free = Run {
+/// One thread under either clock, and so many workers that most have no task.
+const ENDING: [Run; 3] = [
+    Run {
+        until: 20,
+        gate: Gate::Gated,
+        workers: 0,
+    },
+    Run {
+        until: 20,
         gate: Gate::Free,
-        ..COPY
-    };
-    assert!(rt; outcome_of(&rt, rt.alloc(), COPY, &NoProbe)? == Outcome::Got(Some(2)));
-    assert!(rt; outcome_of(&rt, rt.alloc(), free, &NoProbe)? == Outcome::Got(Some(2)));
-    Ok(())
-}
-
-#[test]
-fn workers_without_tasks_return(rt: HostRuntime) -> Result<(), Fail> {
-    let many = Run {
+        workers: 0,
+    },
+    Run {
+        until: 20,
+        gate: Gate::Gated,
         workers: 16,
-        ..COPY
-    };
-    assert!(rt; outcome_of(&rt, rt.alloc(), many, &NoProbe)? == Outcome::Got(Some(2)));
-    Ok(())
-}
+    },
+];
 
 #[test]
-fn two_workers_run_at_once(rt: HostRuntime) -> Result<(), Fail> {
-    let lanes = Run {
-        plan: LANES,
-        sensors: 2,
-        task: 2,
-        workers: 2,
-        ..COPY
-    };
-    let holder = Holder::of_two_lanes();
-    let outcome = outcome_of(&rt, rt.alloc(), lanes, &holder)?;
-    assert!(rt; outcome == Outcome::Got(Some(2)) && holder.calls() == 8 && !holder.in_vain());
+fn one_thread_and_workers_without_tasks_end(rt: HostRuntime) -> Result<(), Fail> {
+    let alloc = rt.alloc();
+    assert!(rt; outcome_of(&rt, alloc, ENDING[0], &NoProbe)? == Outcome::Got(2));
+    assert!(rt; outcome_of(&rt, alloc, ENDING[1], &NoProbe)? == Outcome::Got(2));
+    assert!(rt; outcome_of(&rt, alloc, ENDING[2], &NoProbe)? == Outcome::Got(2));
     Ok(())
 }
 
@@ -248,29 +192,11 @@ fn a_reader_that_is_held_is_overrun(rt: HostRuntime) -> Result<(), Fail> {
         until: 30,
         gate: Gate::Free,
         workers: 2,
-        ..COPY
     };
-    let holder = Holder::of_a_reader();
+    let holder = Holder::new(A_READER);
     let outcome = outcome_of(&rt, rt.alloc(), free, &holder)?;
-    let second = Outcome::Stopped(TaskNo(1), 0, 0, CellNo(0), 1, 2);
-    let third = Outcome::Stopped(TaskNo(1), 0, 0, CellNo(0), 1, 3);
+    let second = Outcome::Stopped([1, 0, 0, 0, 1, 2]);
+    let third = Outcome::Stopped([1, 0, 0, 0, 1, 3]);
     assert!(rt; (outcome == second || outcome == third) && !holder.in_vain());
-    Ok(())
-}
-
-#[test]
-fn four_workers_of_a_free_board_end(rt: HostRuntime) -> Result<(), Fail> {
-    let far = Run {
-        plan: FAR,
-        sensors: 2,
-        actuator: 1,
-        task: 3,
-        until: 30,
-        gate: Gate::Free,
-        workers: 4,
-    };
-    let holder = Holder::of_a_far_reader();
-    let outcome = outcome_of(&rt, rt.alloc(), far, &holder)?;
-    assert!(rt; outcome == Outcome::Got(Some(3)) && !holder.in_vain());
     Ok(())
 }

@@ -10,8 +10,8 @@ ghost use Rattle.prl_board.specs.Vocabulary.{IsClockOf, AreSeatsOf};
 ghost use Rattle.prl_seats.specs.JobSeats.{IsSeatOf, JobSeatView};
 ghost use Rattle.test_threads.specs.Pairs.{IsPair};
 
-use crate::cases::{Shown, WRITTEN};
-use crate::pairs::{pair, shown};
+use crate::cases::Shown;
+use crate::pairs::{ROWS, pair, shown};
 use crate::seats::{act, closed_pair, tick};
 use prl_board::{Board, ClockSeat, Gate, TaskSeat, open_board};
 use prl_body::Bodies;
@@ -67,19 +67,10 @@ fn shown_after<R: Threads + Sync>(
     shown(&closed_pair(board, seats, clock))
 }
 
-/// What is shown where the actuator's task had no turn behind the sensor's.
-const WITHOUT_THE_READER: Shown = Shown {
-    now: 1,
-    done: (1, 0),
-    ..WRITTEN
-};
+/// What is shown where the actuator's task had no turn behind the sensor's, and where both tasks have ended their first jobs.
+const WITHOUT_THE_READER: Shown = [1, 1, 0, 4294967297, 4294967296, 0, 0];
 
-/// What is shown where both tasks have ended their first jobs.
-const WITH_THE_READER: Shown = Shown {
-    done: (1, 1),
-    values: 1,
-    ..WITHOUT_THE_READER
-};
+const WITH_THE_READER: Shown = [1, 1, 1, 4294967297, 4294967296, 0, 1];
 
 /// Fails where a new board of the pair shows something else after so many turns.
 fn run<R: Threads + Sync>(
@@ -107,6 +98,6 @@ fn run<R: Threads + Sync>(
 
 #[test]
 fn two_threads_run_what_is_released(rt: HostRuntime) -> Result<(), Fail> {
-    let made = pair(rt.alloc())?;
+    let made = pair(rt.alloc(), ROWS.as_slice(), 20)?;
     run(&rt, rt.alloc(), &made.0, &made.1, made.2, 64)
 }

@@ -2,8 +2,8 @@
 use Rattle.prl_body.specs.declared.faults.BodyFault.{BodyFault}
 use Rattle.prl_body.specs.declared.faults.BodyFault.TheVariants as faults
 use Rattle.prl_lex.specs.declared.tokens.LexFault.TheVariants as lexical
-use Rattle.prl_grammar.specs.declared.texts.TextFault.{TextFault}
-use Rattle.prl_grammar.specs.declared.texts.TextFault.TheVariants as texts
+use Rattle.prl_lex.specs.declared.texts.TextFault.{TextFault}
+use Rattle.prl_lex.specs.declared.texts.TextFault.TheVariants as texts
 
 abbrev pub of_text : TextFault → BodyFault
 of_text (texts.Lexical (lexical.BadToken at)) = faults.Syntax at

@@ -17,8 +17,8 @@ use Rattle.prl_flow.specs.declared.programs.App.{App}
 use Rattle.prl_flow.specs.declared.programs.Def.{Def}
 use Rattle.prl_flow.specs.declared.programs.Def.TheVariants as definitions
 use Rattle.prl_flow.specs.declared.programs.Flow.{Flow}
-use Rattle.prl_behaviours.specs.Conditions.{AreTypedRows}
-use Rattle.prl_behaviours.specs.Tables.{IsFixed, Reads, Table, table_of}
+use Rattle.prl_causal.specs.Conditions.{AreTypedRows}
+use Rattle.prl_causal.specs.Tables.{IsFixed, Reads, Table, table_of}
 use Rattle.prl_evaluation.specs.code.Runs.{IsRun}
 use Rattle.prl_evaluation.specs.declared.runs.Run.{Run}
 use Rattle.prl_evaluation.specs.declared.settings.Setting.{Setting}

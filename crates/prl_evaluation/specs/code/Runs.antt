@@ -8,7 +8,7 @@ use Rattle.prl_flow.specs.Applications.{nth_step, registers_before}
 use Rattle.prl_flow.specs.declared.programs.App.{App}
 use Rattle.prl_flow.specs.declared.programs.Arg.{Arg}
 use Rattle.prl_flow.specs.Solutions.{values_of}
-use Rattle.prl_behaviours.specs.Tables.{Table, argument_values}
+use Rattle.prl_causal.specs.Tables.{Table, argument_values}
 use Rattle.prl_evaluation.specs.declared.runs.Run.{Run}
 
 -- instance `n` of each argument is there

@@ -2,9 +2,9 @@
 use Rattle.std.specs.Prelude.{◌≡◌, ◌≤◌, ◌++◌, ℕ, List, [], length}
 use Rattle.std.specs.List.{range_with_len}
 use Rattle.prl_ast.specs.Trees.{ProgramTree}
-use Rattle.prl_behaviours.specs.Annotations.{flows_in}
-use Rattle.prl_behaviours.specs.Asked.{outputs_of}
-use Rattle.prl_behaviours.specs.Texts.{node_at}
+use Rattle.prl_causal.specs.Annotations.{flows_in}
+use Rattle.prl_causal.specs.Asked.{outputs_of}
+use Rattle.prl_causal.specs.Texts.{node_at}
 use Rattle.prl_flow.specs.declared.programs.App.{App}
 use Rattle.prl_expand.specs.Expansions.{Expansion}
 use Rattle.prl_expand.specs.Flats.{Numbered, Types, entered_apps, entered_flows, sensors_from}

@@ -15,10 +15,10 @@ use Rattle.prl_terms.specs.declared.terms.Term.{Term}
 use Rattle.prl_types.specs.Parameters.{first_of}
 use Rattle.prl_types.specs.Flows as types
 use Rattle.prl_types.specs.Flows.{parameters_from}
-use Rattle.prl_behaviours.specs.Annotations.{Entered, Rights, Part, Core, Parts}
-use Rattle.prl_behaviours.specs.Annotations as notes
-use Rattle.prl_behaviours.specs.Asked.{first_of as first_given, last_of, outputs_of}
-use Rattle.prl_behaviours.specs.Texts.{node_at, node_of}
+use Rattle.prl_causal.specs.Annotations.{Entered, Rights, Part, Core, Parts}
+use Rattle.prl_causal.specs.Annotations as notes
+use Rattle.prl_causal.specs.Asked.{first_of as first_given, last_of, outputs_of}
+use Rattle.prl_causal.specs.Texts.{node_at, node_of}
 use Rattle.prl_expand.specs.Flats.{Numbered, Types, copy_of, entered_apps, entered_flows, flow_no, import_at, label_of_node, operator_flows, output_flows, ports_of, resolved, wcet_of}
 use Rattle.prl_expand.specs.declared.counts.Next.{Next}
 use Rattle.prl_expand.specs.declared.terms.Term as given

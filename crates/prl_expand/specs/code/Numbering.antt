@@ -6,9 +6,9 @@ use Rattle.prl_ast.specs.Trees.{Tree, tree, Root, const, var, apply, group, Tree
 use Rattle.prl_names.specs.declared.lookups.Callee.{Callee}
 use Rattle.prl_names.specs.declared.lookups.Callee.TheVariants as callees
 use Rattle.prl_names.specs.Lookups.{callee_of}
-use Rattle.prl_behaviours.specs.Annotations.{Entered, entered, Rights, done, next, Part, part, Core, Parts, part_flows, part_imports, part_nodes, core_flows, core_imports, core_nodes, parts_flows, parts_imports, parts_nodes, right_flows, right_imports, right_nodes, flows_in, imports_in, nodes_in}
-use Rattle.prl_behaviours.specs.Annotations as notes
-use Rattle.prl_behaviours.specs.Texts.{node_at}
+use Rattle.prl_causal.specs.Annotations.{Entered, entered, Rights, done, next, Part, part, Core, Parts, part_flows, part_imports, part_nodes, core_flows, core_imports, core_nodes, parts_flows, parts_imports, parts_nodes, right_flows, right_imports, right_nodes, flows_in, imports_in, nodes_in}
+use Rattle.prl_causal.specs.Annotations as notes
+use Rattle.prl_causal.specs.Texts.{node_at}
 use Rattle.prl_expand.specs.Flats.{ports_of}
 use Rattle.prl_expand.specs.declared.counts.Next.{Next}
 

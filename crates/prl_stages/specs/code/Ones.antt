@@ -13,7 +13,7 @@ use Rattle.prl_types.specs.Typing.{IsTyped, IsOutcome}
 use Rattle.prl_body.specs.declared.faults.BodyFault.{BodyFault}
 use Rattle.prl_body.specs.Texts.{TextTree}
 use Rattle.prl_bodytext.specs.Parsing.{IsParsed}
-use Rattle.prl_behaviours.specs.Annotations.{flows_in}
+use Rattle.prl_causal.specs.Annotations.{flows_in}
 use Rattle.prl_expand.specs.Expansions.{Expansion, IsExpansion}
 use Rattle.prl_expand.specs.Flats.{flat_of}
 use Rattle.prl_flow.specs.Programs.{FlatProgram, IsFlat}

@@ -7,7 +7,7 @@ use Rattle.prl_base.specs.declared.operators.Clock.{Clock}
 use Rattle.prl_base.specs.declared.values.Ty.{Ty}
 use Rattle.prl_base.specs.declared.values.Value.{Value}
 use Rattle.prl_ast.specs.Vocabulary.{IsInRange, ProgramTree}
-use Rattle.prl_behaviours.specs.Vocabulary.{Behaviour, Entered, IsText, Satisfies, behaviour_of, flows_in, imports_in, state_in}
+use Rattle.prl_causal.specs.Vocabulary.{Behaviour, Entered, IsText, Satisfies, behaviour_of, flows_in, imports_in, state_in}
 use Rattle.prl_body.specs.Vocabulary.{HaveBodiesOf, IsWellTyped}
 use Rattle.prl_body.specs.declared.bodies.CheckedBody.{CheckedBody}
 use Rattle.prl_clock.specs.Outcomes.{AreOnlyClocks}
@@ -23,7 +23,7 @@ use Rattle.prl_plan.specs.declared.graphs.TaskGraph.{TaskGraph}
 use Rattle.prl_replay.specs.Vocabulary.{AreFlowsBelow, out_flows}
 use Rattle.prl_sensors.specs.Facts.{AreRowsFor}
 use Rattle.prl_sensors.specs.SensorRows.{Inputs, sensors_of}
-use Rattle.prl_behaviours.specs.Vocabulary.{ExactlyOne, HaveTypedBodies, clocks_in}
+use Rattle.prl_causal.specs.Vocabulary.{ExactlyOne, HaveTypedBodies, clocks_in}
 use Rattle.prl_types.specs.Typing.{IsTyped}
 use Rattle.prl_values.specs.Vocabulary.{AreJobValues, HaveTaskBodies, HaveTypedRows, JobValues, job_values, value_on}
 

@@ -5,11 +5,11 @@ use Rattle.prl_base.specs.declared.values.Value.{Value}
 use Rattle.prl_base.specs.declared.operators.Op.TheVariants as ops
 use Rattle.prl_ast.specs.declared.expressions.PlacedOp.{PlacedOp}
 use Rattle.prl_ast.specs.Trees.{Root, const, root_of}
-use Rattle.prl_grammar.specs.Lexemes.{Lexeme}
-use Rattle.prl_grammar.specs.code.Readers.{Read}
-use Rattle.prl_grammar.specs.Productions.{give}
-use Rattle.prl_grammar.specs.Combinators.{◌=>◌, ◌or◌, ◌&◌}
-use Rattle.prl_grammar.specs.code.Languages.{read_nested}
+use Rattle.prl_lex.specs.Lexemes.{Lexeme}
+use Rattle.prl_lex.specs.code.Readers.{Read}
+use Rattle.prl_lex.specs.Productions.{give}
+use Rattle.prl_lex.specs.Combinators.{◌=>◌, ◌or◌, ◌&◌}
+use Rattle.prl_lex.specs.code.Languages.{read_nested}
 use Rattle.prl_syntax.specs.declared.words.Fixed.TheVariants as fixed
 use Rattle.prl_syntax.specs.declared.expressions.Link.{Link}
 use Rattle.prl_syntax.specs.declared.expressions.Link.TheVariants as links

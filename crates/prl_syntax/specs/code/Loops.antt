@@ -1,7 +1,7 @@
 -- Loops that read one text after another, each of which is a list.
 use Rattle.std.specs.Prelude.{List, ◌++◌, Ok}
 use Rattle.prl_base.specs.Reading.{◌>>=◌}
-use Rattle.prl_grammar.specs.code.Readers.{Read}
+use Rattle.prl_lex.specs.code.Readers.{Read}
 use Rattle.prl_syntax.specs.Trees.{joined}
 
 -- what was read before, and then what is still to be read

@@ -5,8 +5,8 @@ use Rattle.prl_syntax.specs.declared.nodes.Declaration.{Declaration}
 use Rattle.prl_syntax.specs.declared.nodes.Declaration.TheVariants as kinds
 use Rattle.prl_syntax.specs.declared.nodes.Declarations.{Declarations}
 use Rattle.prl_ast.specs.declared.declarations.Param.{Param}
-use Rattle.prl_grammar.specs.Productions.{many}
-use Rattle.prl_grammar.specs.Combinators.{◌&◌, ◌⊳◌, ◌⊲◌, maybe}
+use Rattle.prl_lex.specs.Productions.{many}
+use Rattle.prl_lex.specs.Combinators.{◌&◌, ◌⊳◌, ◌⊲◌, maybe}
 use Rattle.prl_syntax.specs.declared.words.Fixed.TheVariants as fixed
 use Rattle.prl_syntax.specs.Grammar.{Grammar, the, in_parens, Equation, Locals, Params}
 use Rattle.prl_syntax.specs.Trees.{Declared, imported, sensor, actuator, node}

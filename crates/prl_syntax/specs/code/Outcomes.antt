@@ -3,8 +3,8 @@ use Rattle.std.specs.Prelude.{◌+◌, nat_le, length, Result, Ok, Err, if◌the
 use Rattle.prl_base.specs.declared.limits.What.TheVariants as limits
 use Rattle.prl_ast.specs.Trees.{ProgramTree}
 use Rattle.prl_lex.specs.declared.tokens.LexFault.TheVariants as lexical
-use Rattle.prl_grammar.specs.declared.texts.TextFault.{TextFault}
-use Rattle.prl_grammar.specs.declared.texts.TextFault.TheVariants as texts
+use Rattle.prl_lex.specs.declared.texts.TextFault.{TextFault}
+use Rattle.prl_lex.specs.declared.texts.TextFault.TheVariants as texts
 use Rattle.prl_syntax.specs.declared.parsing.TheConstants.{MAX_NODES}
 use Rattle.prl_syntax.specs.declared.parsing.ParseFault.{ParseFault}
 use Rattle.prl_syntax.specs.declared.parsing.ParseFault.TheVariants as faults

@@ -1,10 +1,10 @@
 -- What a call of the parser answers.
 use Rattle.std.specs.Prelude.{List, Result}
 use Rattle.prl_base.specs.Reading.{Gives}
-use Rattle.prl_grammar.specs.code.Languages.{read_at}
-use Rattle.prl_grammar.specs.Lexemes.{Lexeme}
-use Rattle.prl_grammar.specs.code.Stops.{stop_of}
-use Rattle.prl_grammar.specs.declared.reading.Stop.{Stop}
+use Rattle.prl_lex.specs.code.Languages.{read_at}
+use Rattle.prl_lex.specs.Lexemes.{Lexeme}
+use Rattle.prl_lex.specs.code.Stops.{stop_of}
+use Rattle.prl_lex.specs.declared.reading.Stop.{Stop}
 use Rattle.prl_syntax.specs.Grammar.{Grammar, programs}
 
 -- what the grammar reads, seen by `view`, and the tokens after it

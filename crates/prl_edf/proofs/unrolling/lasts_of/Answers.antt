@@ -1,7 +1,8 @@
-use Rattle.prl_base.proofs.Standard.{◌≡◌, ◌+◌, ◌-◌, ◌<◌, ℕ, List, [], ◌∷◌, ◌++◌, Bool, Option, Some, None, reverse, length, get_or, drop, sym, ap, ◌∙◌, arith, slice_get-get_or}
+use Rattle.prl_base.proofs.Standard.{◌≡◌, ◌+◌, ◌-◌, ◌<◌, ℕ, List, [], ◌∷◌, ◌++◌, Bool, Option, Some, None, reverse, length, get_or, drop}
+use Rattle.prl_base.proofs.Standard.{sym, ap, ◌∙◌, arith, slice_get-get_or, replicate, length-replicate, get_or-replicate, rules}
 use Rattle.std.proofs.lemmas.List.{length-set}
 use Rattle.prl_edf.specs.Vocabulary.{Piece, next_job, is_other, lasts_in}
-use Rattle.prl_edf.proofs.Skips.{any_default, piece_at, one_piece_back, seen_with}
+use Rattle.prl_edf.proofs.Skips.{any_default, none_left, piece_at, one_piece_back, seen_with}
 use Rattle.prl_edf.proofs.unrolling.lasts_of.Goals as goal
 
 pub loop-back-preserved : goal.loop-back-preserved
@@ -30,3 +31,44 @@ loop-back-preserved c =
       long = length-set c.loop-back.seen.items p.task.0 (Some p.job) ∙ long;
       seen = λ i below. seen_with p rest c.loop-back.seen.items in_seen i (c.loop-back.invariant.seen i below) ∙ ap (λ (l : List Piece). next_job l i) whole;
     }
+
+pub loop-back-init : goal.loop-back-init
+loop-back-init c =
+    let ps : List Piece = c.args.pieces.now in
+    let none : drop (length ps - 0) ps ≡ [] = none_left ps (length ps - 0) (omega arith) in
+    let seen : c.in_ok-seen.seen.items ≡ replicate c.args.tasks None = c.in_ok-seen.ensures.items_if_clones_equal (λ y h. search (rules, h)) in
+    record {
+      lasts = c.new-lasts.ensures.items ∙ sym (ap (λ (l : List Piece). reverse (lasts_in l)) none);
+      long = ap length seen ∙ length-replicate c.args.tasks None;
+      seen = λ i below. ap (λ (l : List (Option ℕ)). get_or l i None) seen ∙ get_or-replicate c.args.tasks i None None below ∙ sym (ap (λ (l : List Piece). next_job l i) none);
+    }
+
+pub index-requires : goal.index-requires
+index-requires c =
+    let ps : List Piece = c.args.pieces.now in
+    let k : ℕ = length ps - 1 - c.loop-back.back in
+    let zero_piece : Piece = record { task = record { 0 = 0 }; job = 0; from = 0; to = 0 } in
+    let task = c.requires k (get_or ps k zero_piece) (slice_get-get_or ps k zero_piece (omega (arith, c.loop-back-test.true))) in
+    omega (arith, task, c.loop-back.invariant.long, c.loop-back.seen.ok)
+
+pub index_mut-requires : goal.index_mut-requires
+index_mut-requires c =
+    let ps : List Piece = c.args.pieces.now in
+    let k : ℕ = length ps - 1 - c.loop-back.back in
+    let zero_piece : Piece = record { task = record { 0 = 0 }; job = 0; from = 0; to = 0 } in
+    let task = c.requires k (get_or ps k zero_piece) (slice_get-get_or ps k zero_piece (omega (arith, c.loop-back-test.true))) in
+    omega (arith, task, c.loop-back.invariant.long, c.loop-back.seen.ok)
+
+pub overflow_cast-task : goal.overflow_cast-task
+overflow_cast-task c =
+    let ps : List Piece = c.args.pieces.now in
+    let k : ℕ = length ps - 1 - c.loop-back.back in
+    let zero_piece : Piece = record { task = record { 0 = 0 }; job = 0; from = 0; to = 0 } in
+    let task = c.requires k (get_or ps k zero_piece) (slice_get-get_or ps k zero_piece (omega (arith, c.loop-back-test.true))) in
+    omega (arith, task, c.ranges.tasks)
+
+pub returns : goal.returns
+returns c =
+    let ps : List Piece = c.args.pieces.now in
+    let none : length ps - c.loop-back.back ≡ 0 = omega (arith, c.loop-back-test.false) in
+    c.loop-back.invariant.lasts ∙ ap (λ (n : ℕ). reverse (lasts_in (drop n ps))) none

@@ -2,7 +2,7 @@ use Rattle.prl_base.proofs.Standard.{◌≡◌, List, Some, arith, sym, length_p
 use Rattle.prl_base.specs.Operators.{Origin, constant, instance, origin_of}
 use Rattle.prl_base.specs.declared.values.Value.{Value}
 use Rattle.prl_flow.specs.Instances.{value_from}
-use Rattle.prl_behaviours.specs.Tables.{nothing, taken}
+use Rattle.prl_causal.specs.Tables.{nothing, taken}
 use Rattle.prl_evaluation.proofs.Begun.{one_more}
 use Rattle.prl_evaluation.proofs.columns.operator_values.Goals as goal
 

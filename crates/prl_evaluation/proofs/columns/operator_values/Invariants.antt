@@ -1,6 +1,6 @@
 use Rattle.std.proofs.Common.{◌≡◌, ◌<◌, ℕ, length, slice_index_or}
 use Rattle.prl_base.specs.Operators.{origin_of}
-use Rattle.prl_behaviours.specs.Tables.{nothing, taken}
+use Rattle.prl_causal.specs.Tables.{nothing, taken}
 use Rattle.prl_evaluation.proofs.columns.operator_values.Given as goal
 
 abbrev pub invariant-loop-n : goal.invariant-loop-n

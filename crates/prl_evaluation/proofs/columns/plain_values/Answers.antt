@@ -4,7 +4,7 @@ use Rattle.prl_base.specs.declared.values.Value.{Value}
 use Rattle.prl_body.specs.declared.bodies.CheckedBody.{CheckedBody}
 use Rattle.prl_flow.specs.Vocabulary.{FlatProgram, HasInstance}
 use Rattle.prl_flow.specs.declared.programs.Def.{Def}
-use Rattle.prl_behaviours.specs.Tables.{nothing, table_of, taken, value_of}
+use Rattle.prl_causal.specs.Tables.{nothing, table_of, taken, value_of}
 use Rattle.prl_evaluation.specs.code.Fronts.{IsThere}
 use Rattle.prl_evaluation.proofs.AllAtOnce.{listed, ok_more}
 use Rattle.prl_evaluation.proofs.columns.plain_values.Goals as goal

@@ -1,6 +1,6 @@
 use Rattle.prl_base.proofs.Standard.{add-one, refl, slice_index_or, ◌∙◌, slice_get-get_or}
 use Rattle.prl_flow.specs.declared.programs.Arg.{Arg}
-use Rattle.prl_behaviours.specs.Tables.{table_of}
+use Rattle.prl_causal.specs.Tables.{table_of}
 use Rattle.prl_evaluation.proofs.Filled.{take_set_one}
 use Rattle.prl_evaluation.proofs.runs.read_arguments.Goals as goal
 

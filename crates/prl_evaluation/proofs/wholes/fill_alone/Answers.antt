@@ -1,6 +1,6 @@
 use Rattle.prl_base.proofs.Standard.{◌∙◌, ap, subst, sym, arith, slice_get_within}
 use Rattle.prl_flow.specs.declared.programs.Def.{Def}
-use Rattle.prl_behaviours.specs.Tables.{table_of, value_of}
+use Rattle.prl_causal.specs.Tables.{table_of, value_of}
 use Rattle.prl_evaluation.specs.code.Fronts.{IsPlain, IsThere}
 use Rattle.prl_evaluation.proofs.AllAtOnce.{all_there, set_both}
 use Rattle.prl_evaluation.proofs.wholes.fill_alone.Goals as goal

@@ -1,10 +1,10 @@
 use Rattle.prl_base.proofs.Standard.{◌≡◌, ◌∙◌, ℕ, List, Ok, ap, sym, subst, arith, length, length-map}
 use Rattle.prl_ast.specs.Trees.{program_tree}
 use Rattle.prl_base.specs.declared.operators.Clock.{Clock}
-use Rattle.prl_behaviours.specs.Behaviours.{state_in}
+use Rattle.prl_causal.specs.Behaviours.{state_in}
 use Rattle.prl_evaluation.specs.Evaluations.{AreSolution}
 use Rattle.prl_flow.specs.Vocabulary.{AreUpTo, actuator_text, HaveBodies, FlatProgram, Timed}
-use Rattle.prl_behaviours.specs.Conditions.{clocks_in}
+use Rattle.prl_causal.specs.Conditions.{clocks_in}
 use Rattle.prl_stages.specs.Runs.{IsFlowsText, rows_for}
 use Rattle.prl_stages.specs.Vocabulary.{SolutionLaws}
 use Rattle.prl_stages.proofs.Inputs.{few_outputs}

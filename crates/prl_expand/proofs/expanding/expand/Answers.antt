@@ -2,7 +2,7 @@ use Rattle.prl_base.proofs.Standard.{ℕ, ◌≡◌, ◌<◌, ◌≤◌, ◌∙�
 use Rattle.prl_ast.specs.Trees.{NodeTree, node_tree, program_tree}
 use Rattle.prl_ast.specs.declared.declarations.Program.{Program}
 use Rattle.prl_flow.specs.Vocabulary.{IsFlat, IsSolution}
-use Rattle.prl_behaviours.specs.Vocabulary.{node_at, Satisfies, state_in}
+use Rattle.prl_causal.specs.Vocabulary.{node_at, Satisfies, state_in}
 use Rattle.prl_expand.specs.Vocabulary.{IsOneToOne, devices_of, flat_of, flow_no, number_of}
 use Rattle.prl_expand.proofs.Adding.{numbers_are}
 use Rattle.prl_expand.proofs.Whole.{a_flat, expansion_is, flat_is, main_node, there_in, whole}

@@ -1,7 +1,7 @@
 use Rattle.prl_base.proofs.Standard.{ℕ, ◌≡◌, ◌<◌, ◌≤◌, ◌+◌, ◌++◌, [], ◌∙◌, ap, arith, length, map, subst, sym, range_with_len, length-map}
 use Rattle.prl_ast.specs.Trees.{NodeTree, node_tree, program_tree}
 use Rattle.prl_ast.specs.declared.declarations.Program.{Program}
-use Rattle.prl_behaviours.specs.Vocabulary.{flows_in, outputs_of}
+use Rattle.prl_causal.specs.Vocabulary.{flows_in, outputs_of}
 use Rattle.prl_expand.specs.Vocabulary.{entered_apps, entered_flows, sensors_from, Next, IsExpandFault, IsPast, a_node, flows_of, def_of, IsSound}
 use Rattle.prl_expand.specs.Vocabulary.{MayApply}
 use Rattle.prl_names.specs.Applications.{applies}

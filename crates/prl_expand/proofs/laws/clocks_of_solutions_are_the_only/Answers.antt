@@ -1,4 +1,4 @@
-use Rattle.prl_behaviours.specs.Conditions.{clocks_in}
+use Rattle.prl_causal.specs.Conditions.{clocks_in}
 use Rattle.prl_expand.proofs.laws.clocks_of_solutions_are_the_only.Goals as goal
 
 pub returns : goal.returns

@@ -1,9 +1,9 @@
 use Rattle.std.proofs.Common.{◌≡◌}
-use Rattle.prl_behaviours.specs.Behaviours.{Satisfies, state_in}
+use Rattle.prl_causal.specs.Behaviours.{Satisfies, state_in}
 use Rattle.prl_expand.specs.Flats.{flat_of}
 use Rattle.prl_flow.specs.States.{IsSolution, State}
 use Rattle.prl_expand.proofs.Ones.{one_along, one_of_all}
-use Rattle.prl_behaviours.specs.Conditions.{clocks_in}
+use Rattle.prl_causal.specs.Conditions.{clocks_in}
 use Rattle.prl_expand.proofs.laws.programs_have_one_behaviour.Goals as goal
 
 pub returns : goal.returns

@@ -7,8 +7,8 @@ use Rattle.prl_names.specs.declared.lookups.Callee.TheVariants as callees
 use Rattle.prl_names.proofs.Marking.{callee_below}
 use Rattle.prl_names.proofs.Rows.{root_of_Apply, root_of_Group}
 use Rattle.prl_types.proofs.Counting.{drop_trees}
-use Rattle.prl_behaviours.specs.Annotations as notes
-use Rattle.prl_behaviours.specs.Vocabulary.{outputs_of, root_given, node_at, node_or}
+use Rattle.prl_causal.specs.Annotations as notes
+use Rattle.prl_causal.specs.Vocabulary.{outputs_of, root_given, node_at, node_or}
 use Rattle.prl_types.specs.Flows.{all_flows, root_flows}
 use Rattle.prl_expand.specs.Flats as flats
 use Rattle.prl_expand.specs.Vocabulary.{arguments, copies, copy_of, equated, paired, Next, IsPast, a_core, a_node, all_parts, all_resolved, have_types, the_rights, types_of, Adds, past_entered}

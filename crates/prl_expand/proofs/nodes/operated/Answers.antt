@@ -1,5 +1,5 @@
 use Rattle.prl_base.proofs.Standard.{◌≤◌, ◌+◌, ◌-◌, ◌++◌, ◌∷◌, [], ◌∙◌, ℕ, arith, ap, length, map, refl, sym, reverse, range_with_len}
-use Rattle.prl_behaviours.specs.Asked.{last_of}
+use Rattle.prl_causal.specs.Asked.{last_of}
 use Rattle.prl_expand.specs.Vocabulary.{flow_no, Next, first_type, head_of, types_of, arg_of, flow_of, flows_of, operators_over, placed_at}
 use Rattle.prl_expand.proofs.Adding.{given_last, no_given, no_types, operators_add, placed_given, placed_types}
 use Rattle.prl_expand.proofs.Expressions.{next_of}

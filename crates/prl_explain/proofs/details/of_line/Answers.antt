@@ -1,7 +1,7 @@
 use Rattle.std.proofs.Common.{◌++◌, ◌∙◌, ◌-◌, ℕ, List, Option, Some, ap, subst, sym}
 use Rattle.prl_base.specs.Decimals.{decimal_of}
-use Rattle.prl_broken.specs.Vocabulary.{IsFinding, finding_text}
-use Rattle.prl_broken.specs.declared.causes.Finding.{Finding}
+use Rattle.prl_schedules.specs.Vocabulary.{IsFinding, finding_text}
+use Rattle.prl_schedules.specs.declared.causes.Finding.{Finding}
 use Rattle.prl_schedules.specs.ScheduleTexts.{task_names}
 use Rattle.prl_explain.proofs.Lines.{line_is}
 use Rattle.prl_explain.proofs.details.of_line.Goals as goal

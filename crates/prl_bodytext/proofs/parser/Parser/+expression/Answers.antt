@@ -1,6 +1,6 @@
 use Rattle.prl_base.proofs.Standard.{map, sym, ap, ◌∙◌, arith, map_push}
-use Rattle.prl_grammar.proofs.Loops.{step_goes_on}
-use Rattle.prl_grammar.proofs.Nesting.{nested_step}
+use Rattle.prl_lex.proofs.Loops.{step_goes_on}
+use Rattle.prl_lex.proofs.Nesting.{nested_step}
 use Rattle.prl_bodytext.specs.declared.levels.Level.TheVariants as levels
 use Rattle.prl_bodytext.specs.declared.words.Fixed.TheVariants as fixed
 use Rattle.prl_bodytext.specs.Grammar.{Operand, Expression, bodies}

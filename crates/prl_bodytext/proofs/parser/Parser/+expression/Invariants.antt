@@ -1,5 +1,5 @@
 use Rattle.std.proofs.Common.{◌≤◌, ◌+◌, ◌*◌, length, map}
-use Rattle.prl_grammar.specs.code.Loops.{GoesOn}
+use Rattle.prl_lex.specs.code.Loops.{GoesOn}
 use Rattle.prl_bodytext.specs.Grammar.{RightOf, Operand, bodies}
 use Rattle.prl_bodytext.specs.Trees.{pair_view}
 use Rattle.prl_bodytext.proofs.Calls.{calls_of}

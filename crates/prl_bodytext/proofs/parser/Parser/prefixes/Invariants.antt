@@ -1,5 +1,5 @@
 use Rattle.std.proofs.Common.{length}
-use Rattle.prl_grammar.specs.code.Loops.{GoesOn}
+use Rattle.prl_lex.specs.code.Loops.{GoesOn}
 use Rattle.prl_bodytext.specs.Grammar.{the, bodies}
 use Rattle.prl_bodytext.proofs.parser.Parser.prefixes.Given as goal
 

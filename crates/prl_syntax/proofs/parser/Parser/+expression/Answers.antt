@@ -1,9 +1,9 @@
 use Rattle.prl_base.proofs.Standard.{◌≡◌, List, map, Ok, refl, sym, ap, ◌∙◌, subst, arith, map_push, err_from_is_err_and}
 use Rattle.prl_ast.specs.Trees.{tree_of}
 use Rattle.prl_ast.specs.declared.expressions.PlacedOp.{PlacedOp}
-use Rattle.prl_grammar.specs.Vocabulary.{read_nested, Lexeme, Read}
+use Rattle.prl_lex.specs.Vocabulary.{read_nested, Lexeme, Read}
 use Rattle.prl_syntax.specs.Vocabulary.{Link, programs, Step, link_view, with_prefixes}
-use Rattle.prl_grammar.proofs.Loops.{step_goes_on}
+use Rattle.prl_lex.proofs.Loops.{step_goes_on}
 use Rattle.prl_syntax.proofs.Links.{stem_goes_on, stem_ends, stem_fails}
 use Rattle.prl_syntax.proofs.Right.{link_fewer, comma_expr_steps, expr_fewer}
 use Rattle.prl_syntax.proofs.parser.Parser.+expression.Goals as goal

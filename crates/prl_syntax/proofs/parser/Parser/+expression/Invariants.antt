@@ -1,6 +1,6 @@
 use Rattle.std.proofs.Common.{◌≡◌, ◌≤◌, ◌+◌, ◌*◌, length, map}
 use Rattle.prl_ast.specs.Trees.{tree_of}
-use Rattle.prl_grammar.specs.Vocabulary.{read_at, read_nested, many, ◌⊳◌, with_front}
+use Rattle.prl_lex.specs.Vocabulary.{read_at, read_nested, many, ◌⊳◌, with_front}
 use Rattle.prl_syntax.specs.declared.words.Fixed.TheVariants as fixed
 use Rattle.prl_syntax.specs.Vocabulary.{with_prefixes, the, Expr, programs}
 use Rattle.prl_syntax.proofs.parser.Parser.+expression.Given as goal

@@ -1,6 +1,6 @@
 use Rattle.std.proofs.Common.{length, map}
 use Rattle.prl_syntax.specs.Vocabulary.{declared_view, Declaration, programs}
-use Rattle.prl_grammar.specs.code.Loops.{GoesOn}
+use Rattle.prl_lex.specs.code.Loops.{GoesOn}
 use Rattle.prl_syntax.proofs.parser.Parser.declarations.Given as goal
 
 abbrev pub invariant-more : goal.invariant-more

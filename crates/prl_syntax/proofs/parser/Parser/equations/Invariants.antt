@@ -1,6 +1,6 @@
 use Rattle.std.proofs.Common.{length, map}
 use Rattle.prl_ast.specs.Trees.{equation_tree}
-use Rattle.prl_grammar.specs.code.Loops.{GoesOn}
+use Rattle.prl_lex.specs.code.Loops.{GoesOn}
 use Rattle.prl_syntax.specs.Grammar.{Equation, programs}
 use Rattle.prl_syntax.proofs.parser.Parser.equations.Given as goal
 

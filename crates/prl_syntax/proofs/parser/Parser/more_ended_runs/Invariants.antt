@@ -1,5 +1,5 @@
 use Rattle.std.proofs.Common.{◌≡◌, length}
-use Rattle.prl_grammar.specs.Vocabulary.{read_at, many}
+use Rattle.prl_lex.specs.Vocabulary.{read_at, many}
 use Rattle.prl_syntax.specs.Vocabulary.{EndedRun, programs, with_joined}
 use Rattle.prl_syntax.proofs.parser.Parser.more_ended_runs.Given as goal
 

@@ -1,5 +1,5 @@
 use Rattle.std.proofs.Common.{◌≡◌, length}
-use Rattle.prl_grammar.specs.Vocabulary.{read_at, many, ◌⊳◌, with_front}
+use Rattle.prl_lex.specs.Vocabulary.{read_at, many, ◌⊳◌, with_front}
 use Rattle.prl_syntax.specs.declared.words.Fixed.TheVariants as fixed
 use Rattle.prl_syntax.specs.Grammar.{the, Item, programs}
 use Rattle.prl_syntax.proofs.parser.Parser.more_items.Given as goal

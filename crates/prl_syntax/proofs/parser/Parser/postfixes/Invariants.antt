@@ -1,5 +1,5 @@
 use Rattle.std.proofs.Common.{length}
-use Rattle.prl_grammar.specs.code.Loops.{GoesOn}
+use Rattle.prl_lex.specs.code.Loops.{GoesOn}
 use Rattle.prl_syntax.specs.Grammar.{Postfix, programs}
 use Rattle.prl_syntax.proofs.parser.Parser.postfixes.Given as goal
 

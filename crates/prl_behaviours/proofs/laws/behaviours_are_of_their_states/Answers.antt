@@ -1,5 +1,0 @@
-use Rattle.prl_behaviours.proofs.States.{own}
-use Rattle.prl_behaviours.proofs.laws.behaviours_are_of_their_states.Goals as goal
-
-pub returns : goal.returns
-returns c = λ p k e b text_e text_b flows imports. own p k e b text_e text_b flows imports

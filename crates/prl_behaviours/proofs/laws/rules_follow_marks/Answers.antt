@@ -1,6 +1,0 @@
-use Rattle.prl_flow.specs.States.{flow_at, registers_at}
-use Rattle.prl_behaviours.proofs.Marks.{program-map}
-use Rattle.prl_behaviours.proofs.laws.rules_follow_marks.Goals as goal
-
-pub returns : goal.returns
-returns c = λ s p main e. program-map (flow_at s) (registers_at s) (λ k. tt {0}) p main e

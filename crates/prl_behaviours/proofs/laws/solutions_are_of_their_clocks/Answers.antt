@@ -1,5 +1,0 @@
-use Rattle.prl_behaviours.proofs.Wholes.{clocks_agree, values_solve}
-use Rattle.prl_behaviours.proofs.laws.solutions_are_of_their_clocks.Goals as goal
-
-pub returns : goal.returns
-returns c = λ p bodies rows until s flat h. (clocks_agree p flat bodies rows until s h, values_solve p flat bodies rows until s h)

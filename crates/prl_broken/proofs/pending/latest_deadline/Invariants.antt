@@ -1,6 +1,0 @@
-use Rattle.prl_broken.specs.code.Dates.{IsLatest}
-use Rattle.prl_broken.proofs.pending.latest_deadline.Given as goal
-
--- the latest among the tasks so far
-abbrev pub invariant-loop-j : goal.invariant-loop-j
-invariant-loop-j l = IsLatest l.plan l.walk.ended.items l.j l.latest

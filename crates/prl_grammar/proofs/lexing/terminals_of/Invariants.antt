@@ -1,6 +1,0 @@
-use Rattle.std.proofs.Common.{◌≡◌, take}
-use Rattle.prl_grammar.specs.Lexing.{lexemes_of}
-use Rattle.prl_grammar.proofs.lexing.terminals_of.Given as goal
-
-abbrev pub invariant-each : goal.invariant-each
-invariant-each g l = l.terminals.items ≡ lexemes_of g.S.Syntax.texts.vocabulary l.text (take l.token-index l.tokens)

@@ -1,6 +1,0 @@
-use Rattle.std.proofs.Common.{◌≡◌, drop, false}
-use Rattle.prl_grammar.specs.Ranges.{out_of_range}
-use Rattle.prl_grammar.proofs.numbers.out_of_range.Given as goal
-
-abbrev pub invariant-each : goal.invariant-each
-invariant-each g l = out_of_range g.S.Syntax.texts.ranges l.inside l.last (drop l.terminal-index l.terminals) ≡ out_of_range g.S.Syntax.texts.ranges false 0 l.terminals

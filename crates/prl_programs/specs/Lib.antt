@@ -1,2 +1,0 @@
--- what comes of the text of a program
-pub mod Programs
