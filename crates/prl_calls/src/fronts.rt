@@ -24,21 +24,6 @@ use prl_stages::{MAX_BODIES, MAX_PROGRAM, Stage, Stop};
 use prl_types::Typed;
 use std::alloc::Global;
 
-/// An order of the flat program's flows, and their clocks.
-fn order_and_clocks(alloc: Global, request: &Request, flat: &Flat) -> Result<(Order, Clocks), Stop>
-    requires { IsFlattened (given_of request.now) flat.now }
-    ensures { Passes (given_of request.now) (Stage.Causality ∷ Stage.Clocks ∷ []) (λ f. IsOrder flat.now f.0.flows × HasClocks (given_of request.now) flat.now f.1.of) result }
-{
-    let order = ordered(alloc, request, flat)?;
-    match clocked(alloc, request, flat) {
-        Ok(clocks) => Ok((order, clocks)),
-        Err(stop) => {
-            drop(order);
-            Err(stop)
-        }
-    }
-}
-
 /// The flat program with an order of its flows and their clocks.
 pub fn flat_of(
     alloc: Global,
@@ -51,60 +36,34 @@ pub fn flat_of(
         (λ f. IsExpanded (program_tree typed.now.program) typed.now.main typed.now.types f.0 × IsOrder f.0 f.1.flows × HasClocks (given_of request.now) f.0 f.2.of) result }
 {
     let flat = flattened(alloc, request, typed)?;
-    match order_and_clocks(alloc, request, &flat) {
-        Ok((order, clocks)) => Ok((flat, order, clocks)),
-        Err(stop) => {
-            drop(flat);
-            Err(stop)
-        }
-    }
+    let order = ordered(alloc, request, &flat)?;
+    let clocks = clocked(alloc, request, &flat)?;
+    Ok((flat, order, clocks))
 }
 
-/// A program with its main node, its flat program and the clocks of its flows.
+/// A program with its main node, and its flat program with an order of its flows and their clocks.
 #[derive(Drop)]
 struct Front {
     program: Program,
     main: u32,
-    flat: Flat,
-    clocks: Clocks,
-}
-
-/// The main node, the flat program and the clocks of its flows.
-fn clocks_of(
-    alloc: Global,
-    request: &Request,
-    program: &Program,
-) -> Result<(u32, Flat, Clocks), Stop>
-    requires { IsProgram (given_of request.now) (program_tree program.now) }
-    ensures { Passes (given_of request.now) front (λ f. IsMain (given_of request.now) (program_tree program.now) f.0 × HasClocks (given_of request.now) f.1 f.2.of) result }
-{
-    let typed = check_types(alloc, request, program)?;
-    let main = typed.main();
-    let made = flat_of(alloc, request, &typed);
-    drop(typed);
-    let (flat, order, clocks) = made?;
-    drop(order);
-    Ok((main, flat, clocks))
+    made: (Flat, Order, Clocks),
 }
 
 /// What the modes that plan a program have in common first.
 fn read_front(alloc: Global, request: &Request) -> Result<Front, Stop>
     requires program { length request.now.texts.program.items ≤ MAX_PROGRAM }
-    ensures { Passes (given_of request.now) front (λ f. IsMain (given_of request.now) (program_tree f.program) f.main × HasClocks (given_of request.now) f.flat f.clocks.of) result }
+    ensures { Passes (given_of request.now) front (λ f. IsMain (given_of request.now) (program_tree f.program) f.main × HasClocks (given_of request.now) f.made.0 f.made.2.of) result }
 {
     let program = read_program(alloc, request)?;
-    match clocks_of(alloc, request, &program) {
-        Ok((main, flat, clocks)) => Ok(Front {
-            program,
-            main,
-            flat,
-            clocks,
-        }),
-        Err(stop) => {
-            drop(program);
-            Err(stop)
-        }
-    }
+    let typed = check_types(alloc, request, &program)?;
+    let main = typed.main();
+    let made = flat_of(alloc, request, &typed);
+    drop(typed);
+    Ok(Front {
+        program,
+        main,
+        made: made?,
+    })
 }
 
 /// The task graph with its words.
@@ -118,24 +77,8 @@ pub fn make_graphed(
     ensures { Passes (given_of request.now) graphed (λ made. IsGraphOf flat.now clocks.now.of made.0 × HasWords (given_of request.now) made.0 made.1.of) result }
 {
     let graph = make_graph(alloc, request, flat, clocks)?;
-    match make_words(alloc, request, &graph) {
-        Ok(words) => Ok((graph, words)),
-        Err(stop) => {
-            drop(graph);
-            Err(stop)
-        }
-    }
-}
-
-/// The task graph of the program with its words.
-fn read_graphed(alloc: Global, request: &Request) -> Result<(TaskGraph, Words), Stop>
-    requires program { length request.now.texts.program.items ≤ MAX_PROGRAM }
-    ensures { Passes (given_of request.now) (front ++ graphed) (λ made. HasWords (given_of request.now) made.0 made.1.of) result }
-{
-    let front = read_front(alloc, request)?;
-    let made = make_graphed(alloc, request, &front.flat, &front.clocks);
-    drop(front);
-    made
+    let words = make_words(alloc, request, &graph)?;
+    Ok((graph, words))
 }
 
 /// The plan of the task graph with its words.
@@ -147,13 +90,8 @@ pub fn make_planned(
     requires { HasWords (given_of request.now) made.0 made.1.of }
     ensures { Passes (given_of request.now) planned (λ plan. (plan.graph ≡ made.0) × HasPlan (given_of request.now) plan) result }
 {
-    match make_dates(alloc, request, &made.0) {
-        Ok(dates) => make_plan(alloc, request, made, dates),
-        Err(stop) => {
-            drop(made);
-            Err(stop)
-        }
-    }
+    let dates = make_dates(alloc, request, &made.0)?;
+    make_plan(alloc, request, made, dates)
 }
 
 /// The plan of the program.
@@ -161,8 +99,10 @@ pub fn planned_program(alloc: Global, request: &Request) -> Result<Plan, Stop>
     requires program { length request.now.texts.program.items ≤ MAX_PROGRAM }
     ensures { Passes (given_of request.now) (front ++ graphed ++ planned) (HasPlan (given_of request.now)) result }
 {
-    let made = read_graphed(alloc, request)?;
-    make_planned(alloc, request, made)
+    let front = read_front(alloc, request)?;
+    let made = make_graphed(alloc, request, &front.made.0, &front.made.2);
+    drop(front);
+    make_planned(alloc, request, made?)
 }
 
 /// Looks at the bodies, where their file is named.
@@ -184,30 +124,13 @@ fn checked_graphed(
     front: &Front,
 ) -> Result<(TaskGraph, Words), Stop>
     requires main { IsMain (given_of request.now) (program_tree front.now.program) front.now.main }
-    requires clocks { HasClocks (given_of request.now) front.now.flat front.now.clocks.of }
+    requires clocks { HasClocks (given_of request.now) front.now.made.0 front.now.made.2.of }
     requires bodies { length request.now.texts.bodies.items ≤ MAX_BODIES }
     ensures { Passes (given_of request.now) (graphed ++ named_bodies request.now.named) (λ made. HasWords (given_of request.now) made.0 made.1.of) result }
 {
-    let made = make_graphed(alloc, request, &front.flat, &front.clocks)?;
-    match check_named_bodies(alloc, request, front) {
-        Ok(()) => Ok(made),
-        Err(stop) => {
-            drop(made);
-            Err(stop)
-        }
-    }
-}
-
-/// The task graph of the program with its words, where bodies whose file is named are right.
-fn read_checked(alloc: Global, request: &Request) -> Result<(TaskGraph, Words), Stop>
-    requires program { length request.now.texts.program.items ≤ MAX_PROGRAM }
-    requires bodies { length request.now.texts.bodies.items ≤ MAX_BODIES }
-    ensures { Passes (given_of request.now) (front ++ graphed ++ named_bodies request.now.named) (λ made. HasWords (given_of request.now) made.0 made.1.of) result }
-{
-    let front = read_front(alloc, request)?;
-    let made = checked_graphed(alloc, request, &front);
-    drop(front);
-    made
+    let made = make_graphed(alloc, request, &front.made.0, &front.made.2)?;
+    check_named_bodies(alloc, request, front)?;
+    Ok(made)
 }
 
 /// The plan of the program, whose bodies are looked at where their file is named.
@@ -216,6 +139,8 @@ pub fn checked_plan(alloc: Global, request: &Request) -> Result<Plan, Stop>
     requires bodies { length request.now.texts.bodies.items ≤ MAX_BODIES }
     ensures { Passes (given_of request.now) (stages_after Mode.Check request.now.named) (HasPlan (given_of request.now)) result }
 {
-    let made = read_checked(alloc, request)?;
-    make_planned(alloc, request, made)
+    let front = read_front(alloc, request)?;
+    let made = checked_graphed(alloc, request, &front);
+    drop(front);
+    make_planned(alloc, request, made?)
 }

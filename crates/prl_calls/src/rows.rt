@@ -57,17 +57,18 @@ fn input_names(alloc: Global, flat: &Flat) -> Result<Vec<Name>, AllocError>
 
 /// The type of a flow.
 fn type_of(flat: &Flat, flow: FlowNo) -> Ty
-    requires { flow.0 < length flat.now.flows }
     ensures { result ≡ type_of_flow (slice_get flat.now.flows flow.0) }
 {
-    flat.flows()[flow.0 as usize].ty
+    match flat.flows().get(flow.0 as usize) {
+        Some(flow) => flow.ty,
+        None => Ty::Int,
+    }
 }
 
 /// The types of main's inputs.
 fn input_types(alloc: Global, flat: &Flat) -> Result<Vec<Ty>, AllocError>
     ensures { IfOk result (λ types. types.items ≡ (inputs_of flat.now).types) }
 {
-    let _flows = flat.flows();
     let mut types = Vec::with_capacity(alloc, flat.ins().len())?;
     for flow in flat.ins() {
         types.push(type_of(flat, *flow))?;

@@ -15,43 +15,6 @@ use prl_executions::{Ready, generated_request, make_ready, summary_of};
 use prl_stages::{MAX_BODIES, MAX_PROGRAM, Ran, Stop};
 use std::alloc::Global;
 
-/// The line that sums up what runs.
-fn summed(
-    alloc: Global,
-    command: &Command,
-    request: &Request,
-    ready: &Ready,
-) -> Result<(Vec<u8>, Ran), Stop>
-    requires mode { command.now.mode ≡ Mode.Generate }
-    requires given { given_of request.now ≡ generated command.now.seed command.now.size }
-    requires ready { IsReady (given_of request.now) ready.now }
-    requires holds { AllHold (given_of request.now) (front ++ ran) }
-    ensures text { IfOk result (λ made. (told : Option Folder) → IsAnswer told command.now made.0.items made.1) }
-    ensures stop { IfErr result (λ stop. (old : FolderView) → IsAnswerStop old old command.now stop) }
-{
-    let made = summary_of(alloc, request, ready, command.seed, command.size)?;
-    Ok(made)
-}
-
-/// The line that sums up what runs on the texts of a request that were generated.
-fn summed_request(
-    alloc: Global,
-    command: &Command,
-    request: &Request,
-) -> Result<(Vec<u8>, Ran), Stop>
-    requires mode { command.now.mode ≡ Mode.Generate }
-    requires given { given_of request.now ≡ generated command.now.seed command.now.size }
-    requires program { length request.now.texts.program.items ≤ MAX_PROGRAM }
-    requires bodies { length request.now.texts.bodies.items ≤ MAX_BODIES }
-    ensures text { IfOk result (λ made. (told : Option Folder) → IsAnswer told command.now made.0.items made.1) }
-    ensures stop { IfErr result (λ stop. (old : FolderView) → IsAnswerStop old old command.now stop) }
-{
-    let ready = make_ready(alloc, request)?;
-    let made = summed(alloc, command, request, &ready);
-    drop(ready);
-    made
-}
-
 /// Mode `generate`. No file is read.
 pub(crate) fn generated_text(alloc: Global, command: &Command) -> Result<(Vec<u8>, Ran), Stop>
     requires mode { command.now.mode ≡ Mode.Generate }
@@ -60,7 +23,6 @@ pub(crate) fn generated_text(alloc: Global, command: &Command) -> Result<(Vec<u8
     ensures stop { IfErr result (λ stop. (old : FolderView) → IsAnswerStop old old command.now stop) }
 {
     let request = generated_request(alloc, command.seed, command.size)?;
-    let made = summed_request(alloc, command, &request);
-    drop(request);
-    made
+    let ready = make_ready(alloc, &request)?;
+    Ok(summary_of(alloc, &request, &ready, command.seed, command.size)?)
 }

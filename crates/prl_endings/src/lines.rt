@@ -1,17 +1,18 @@
 //! The line on `err` that tells how a call ended.
 
-ghost use Rattle.std.specs.Prelude.{◌≡◌, ◌<◌, ◌≤◌, [], unwrap_or, OnErr};
-ghost use Rattle.prl_io.specs.Growth.{IsWritten};
-ghost use Rattle.prl_endings.specs.ErrorLines.{file_name, named_line, placed_line, grammar_line, types_line, limit_line, bodies_line, sensors_line, clocks_line, graph_line, dates_line, schedule_line, make_line, table_line, cores_line, line_of_fault, line_of_stop, line_of, overrun_line};
+ghost use Rattle.std.specs.Prelude.{◌≡◌, [], unwrap_or};
+ghost use Rattle.std.specs.Option.{option_map};
+ghost use Rattle.prl_endings.specs.ErrorLines.{file_name, grammar_line, types_line, limit_line, bodies_line, sensors_line, clocks_line, graph_line, dates_line, schedule_line, make_line, table_line, cores_line, line_of_fault, line_of_stop, line_of, overrun_line};
 ghost use Rattle.prl_plan.specs.Jobs.{task_at};
+ghost use Rattle.prl_endings.specs.code.Pieces.{line_text};
 ghost use Rattle.prl_endings.specs.Statuses.{IsTold};
 
 use crate::endings::Ending;
-use crate::pieces::{Piece, write_line};
+use crate::pieces::{Line, Piece, denominator, write_line};
 use prl_arguments::Command;
 use prl_base::{Label, Limit, TaskNo};
 use prl_exec::Stopped;
-use prl_io::{Failed, Sink, write_all};
+use prl_io::Sink;
 use prl_plan::Plan;
 use prl_stages::{
     BodiesRefusal, ClocksRefusal, CoresRefusal, DatesRefusal, Fault, GrammarRefusal, GraphRefusal,
@@ -44,158 +45,92 @@ fn file_name(command: &Option<Command>, part: InputFile) -> &[u8]
     }
 }
 
-/// Writes a line of two parts.
-fn write_two<'a, E: Sink>(err: &mut E, front: &'a [u8], name: &'a [u8]) -> Result<(), Failed>
-    ensures grown { IsWritten (E.seen err.old).written (E.seen err.new).written (named_line front.now name.now) result }
-    ensures counted { (E.seen err.old).faults ≤ (E.seen err.new).faults }
-    ensures failed { OnErr result ((E.seen err.old).faults < (E.seen err.new).faults) }
+/// The line of a limit that is passed.
+fn limit_line<'a>(limit: Limit) -> Line<'a>
+    ensures { line_text result ≡ limit_line limit }
 {
-    write_line(
-        err,
-        &[Piece::Text(front), Piece::Text(name), Piece::Text(b"\n")],
+    Line::two(
+        Piece::Text(b"4 limit ", limit.what.text().as_bytes()),
+        Piece::Number(b" found ", limit.found),
     )
 }
 
-/// Writes a line that ends in a place of the text, or in the number of a line or a record.
-fn write_placed<E: Sink>(err: &mut E, front: &[u8], at: u64) -> Result<(), Failed>
-    ensures grown { IsWritten (E.seen err.old).written (E.seen err.new).written (placed_line front.now at) result }
-    ensures counted { (E.seen err.old).faults ≤ (E.seen err.new).faults }
-    ensures failed { OnErr result ((E.seen err.old).faults < (E.seen err.new).faults) }
-{
-    write_line(
-        err,
-        &[Piece::Text(front), Piece::Number(at), Piece::Text(b"\n")],
-    )
-}
-
-/// Writes the line of a limit that is passed.
-fn write_limit<E: Sink>(err: &mut E, limit: Limit) -> Result<(), Failed>
-    ensures grown { IsWritten (E.seen err.old).written (E.seen err.new).written (limit_line limit) result }
-    ensures counted { (E.seen err.old).faults ≤ (E.seen err.new).faults }
-    ensures failed { OnErr result ((E.seen err.old).faults < (E.seen err.new).faults) }
-{
-    write_line(
-        err,
-        &[
-            Piece::Text(b"4 limit "),
-            Piece::Text(limit.what.text().as_bytes()),
-            Piece::Text(b" found "),
-            Piece::Number(limit.found),
-            Piece::Text(b"\n"),
-        ],
-    )
-}
-
-/// Writes the line of a fault of the grammar.
-fn write_grammar<E: Sink>(err: &mut E, fault: GrammarRefusal) -> Result<(), Failed>
-    ensures grown { IsWritten (E.seen err.old).written (E.seen err.new).written (grammar_line fault) result }
-    ensures counted { (E.seen err.old).faults ≤ (E.seen err.new).faults }
-    ensures failed { OnErr result ((E.seen err.old).faults < (E.seen err.new).faults) }
+/// The line of a fault of the grammar.
+fn grammar_line<'a>(fault: GrammarRefusal) -> Line<'a>
+    ensures { line_text result ≡ grammar_line fault }
 {
     match fault {
-        GrammarRefusal::BadToken(at) => write_placed(err, b"1 bad token at ", at as u64),
-        GrammarRefusal::Unexpected(at) => write_placed(err, b"2 unexpected at ", at as u64),
-        GrammarRefusal::NumberRange(at) => write_placed(err, b"3 number range at ", at as u64),
-        GrammarRefusal::Limit(limit) => write_limit(err, limit),
+        GrammarRefusal::BadToken(at) => Line::numbered(b"1 bad token at ", at as u64),
+        GrammarRefusal::Unexpected(at) => Line::numbered(b"2 unexpected at ", at as u64),
+        GrammarRefusal::NumberRange(at) => Line::numbered(b"3 number range at ", at as u64),
+        GrammarRefusal::Limit(limit) => limit_line(limit),
     }
 }
 
-/// Writes the line of a fault of names or types.
-fn write_types<E: Sink>(err: &mut E, fault: &TypesRefusal) -> Result<(), Failed>
-    ensures grown { IsWritten (E.seen err.old).written (E.seen err.new).written (types_line fault.now) result }
-    ensures counted { (E.seen err.old).faults ≤ (E.seen err.new).faults }
-    ensures failed { OnErr result ((E.seen err.old).faults < (E.seen err.new).faults) }
+/// The line of a fault of names or types.
+fn types_line<'a>(fault: &'a TypesRefusal) -> Line<'a>
+    ensures { line_text result ≡ types_line fault.now }
 {
     match fault {
-        TypesRefusal::Twice(name) => write_two(err, b"11 twice ", name.bytes()),
-        TypesRefusal::Unknown(name) => write_two(err, b"10 unknown ", name.bytes()),
-        TypesRefusal::Undefined(name) => write_two(err, b"15 undefined ", name.bytes()),
-        TypesRefusal::Recursive(name) => write_two(err, b"16 recursive ", name.bytes()),
-        TypesRefusal::NoMain => write_all(err, b"14 no main\n"),
-        TypesRefusal::Arity(at) => write_placed(err, b"12 arity at ", *at as u64),
-        TypesRefusal::Mismatch { at, wanted, found } => write_line(
-            err,
-            &[
-                Piece::Text(b"13 mismatch at "),
-                Piece::Number(*at as u64),
-                Piece::Text(b" wanted "),
-                Piece::Text(wanted.text().as_bytes()),
-                Piece::Text(b" found "),
-                Piece::Text(found.text().as_bytes()),
-                Piece::Text(b"\n"),
-            ],
+        TypesRefusal::Twice(name) => Line::named(b"11 twice ", name.bytes()),
+        TypesRefusal::Unknown(name) => Line::named(b"10 unknown ", name.bytes()),
+        TypesRefusal::Undefined(name) => Line::named(b"15 undefined ", name.bytes()),
+        TypesRefusal::Recursive(name) => Line::named(b"16 recursive ", name.bytes()),
+        TypesRefusal::NoMain => Line::plain(b"14 no main"),
+        TypesRefusal::Arity(at) => Line::numbered(b"12 arity at ", *at as u64),
+        TypesRefusal::Mismatch { at, wanted, found } => Line::three(
+            Piece::Number(b"13 mismatch at ", *at as u64),
+            Piece::Text(b" wanted ", wanted.text().as_bytes()),
+            Piece::Text(b" found ", found.text().as_bytes()),
         ),
-        TypesRefusal::TypeFree { node, name } => write_line(
-            err,
-            &[
-                Piece::Text(b"17 type free "),
-                Piece::Text(node.bytes()),
-                Piece::Text(b"."),
-                Piece::Text(name.bytes()),
-                Piece::Text(b"\n"),
-            ],
+        TypesRefusal::TypeFree { node, name } => Line::two(
+            Piece::Text(b"17 type free ", node.bytes()),
+            Piece::Text(b".", name.bytes()),
         ),
     }
 }
 
-/// Writes the line of flows without clocks.
-fn write_clocks<E: Sink>(err: &mut E, fault: &ClocksRefusal) -> Result<(), Failed>
-    ensures grown { IsWritten (E.seen err.old).written (E.seen err.new).written (clocks_line fault.now) result }
-    ensures counted { (E.seen err.old).faults ≤ (E.seen err.new).faults }
-    ensures failed { OnErr result ((E.seen err.old).faults < (E.seen err.new).faults) }
+/// The line of flows without clocks.
+fn clocks_line<'a>(fault: &'a ClocksRefusal) -> Line<'a>
+    ensures { line_text result ≡ clocks_line fault.now }
 {
     match fault {
-        ClocksRefusal::Mismatch(at) => write_placed(err, b"40 clock mismatch at ", *at as u64),
-        ClocksRefusal::Limit(limit) => write_limit(err, *limit),
-        ClocksRefusal::Free(label) => write_two(err, b"41 clock free ", label.bytes()),
+        ClocksRefusal::Mismatch(at) => Line::numbered(b"40 clock mismatch at ", *at as u64),
+        ClocksRefusal::Limit(limit) => limit_line(*limit),
+        ClocksRefusal::Free(label) => Line::named(b"41 clock free ", label.bytes()),
         ClocksRefusal::NotWhole {
             flow,
             period,
             start,
-        } => write_line(
-            err,
-            &[
-                Piece::Text(b"42 not whole "),
-                Piece::Text(flow.bytes()),
-                Piece::Text(b" period "),
-                Piece::Ratio(*period),
-                Piece::Text(b" start "),
-                Piece::Ratio(*start),
-                Piece::Text(b"\n"),
-            ],
+        } => Line(
+            Piece::Text(b"42 not whole ", flow.bytes()),
+            Piece::Signed(b" period ", period.num),
+            denominator(period),
+            Piece::Signed(b" start ", start.num),
+            denominator(start),
+            Piece::Nothing,
         ),
     }
 }
 
-/// Writes the line of a program without a task graph.
-fn write_graph<E: Sink>(err: &mut E, fault: &GraphRefusal) -> Result<(), Failed>
-    ensures grown { IsWritten (E.seen err.old).written (E.seen err.new).written (graph_line fault.now) result }
-    ensures counted { (E.seen err.old).faults ≤ (E.seen err.new).faults }
-    ensures failed { OnErr result ((E.seen err.old).faults < (E.seen err.new).faults) }
+/// The line of a program without a task graph.
+fn graph_line<'a>(fault: &'a GraphRefusal) -> Line<'a>
+    ensures { line_text result ≡ graph_line fault.now }
 {
     match fault {
-        GraphRefusal::DueOnNonTask(label) => write_two(err, b"50 due on non-task ", label.bytes()),
-        GraphRefusal::DueRange { flow, due, period } => write_line(
-            err,
-            &[
-                Piece::Text(b"51 due range "),
-                Piece::Text(flow.bytes()),
-                Piece::Text(b" due "),
-                Piece::Number(*due as u64),
-                Piece::Text(b" period "),
-                Piece::Number(*period),
-                Piece::Text(b"\n"),
-            ],
+        GraphRefusal::DueOnNonTask(label) => Line::named(b"50 due on non-task ", label.bytes()),
+        GraphRefusal::DueRange { flow, due, period } => Line::three(
+            Piece::Text(b"51 due range ", flow.bytes()),
+            Piece::Number(b" due ", *due as u64),
+            Piece::Number(b" period ", *period),
         ),
-        GraphRefusal::Limit(limit) => write_limit(err, *limit),
+        GraphRefusal::Limit(limit) => limit_line(*limit),
     }
 }
 
-/// Writes the line of jobs without encoded dates.
-fn write_dates<E: Sink>(err: &mut E, fault: &DatesRefusal) -> Result<(), Failed>
-    ensures grown { IsWritten (E.seen err.old).written (E.seen err.new).written (dates_line fault.now) result }
-    ensures counted { (E.seen err.old).faults ≤ (E.seen err.new).faults }
-    ensures failed { OnErr result ((E.seen err.old).faults < (E.seen err.new).faults) }
+/// The line of jobs without encoded dates.
+fn dates_line<'a>(fault: &'a DatesRefusal) -> Line<'a>
+    ensures { line_text result ≡ dates_line fault.now }
 {
     match fault {
         DatesRefusal::Narrow {
@@ -203,222 +138,147 @@ fn write_dates<E: Sink>(err: &mut E, fault: &DatesRefusal) -> Result<(), Failed>
             job,
             needs,
             has,
-        } => write_line(
-            err,
-            &[
-                Piece::Text(b"60 narrow "),
-                Piece::Text(name.bytes()),
-                Piece::Text(b" "),
-                Piece::Signed(*job),
-                Piece::Text(b" needs "),
-                Piece::Signed(*needs),
-                Piece::Text(b" has "),
-                Piece::Signed(*has),
-                Piece::Text(b"\n"),
-            ],
+        } => Line::four(
+            Piece::Text(b"60 narrow ", name.bytes()),
+            Piece::Signed(b" ", *job),
+            Piece::Signed(b" needs ", *needs),
+            Piece::Signed(b" has ", *has),
         ),
-        DatesRefusal::Loop { name, job } => write_line(
-            err,
-            &[
-                Piece::Text(b"61 loop "),
-                Piece::Text(name.bytes()),
-                Piece::Text(b" "),
-                Piece::Signed(*job),
-                Piece::Text(b"\n"),
-            ],
+        DatesRefusal::Loop { name, job } => Line::two(
+            Piece::Text(b"61 loop ", name.bytes()),
+            Piece::Signed(b" ", *job),
         ),
     }
 }
 
-/// Writes the line of a fault of bodies.
-fn write_bodies<E: Sink>(err: &mut E, fault: &BodiesRefusal) -> Result<(), Failed>
-    ensures grown { IsWritten (E.seen err.old).written (E.seen err.new).written (bodies_line fault.now) result }
-    ensures counted { (E.seen err.old).faults ≤ (E.seen err.new).faults }
-    ensures failed { OnErr result ((E.seen err.old).faults < (E.seen err.new).faults) }
+/// The line of a fault of bodies.
+fn bodies_line<'a>(fault: &'a BodiesRefusal) -> Line<'a>
+    ensures { line_text result ≡ bodies_line fault.now }
 {
     match fault {
-        BodiesRefusal::Syntax(at) => write_placed(err, b"23 body syntax at ", *at as u64),
-        BodiesRefusal::Limit(limit) => write_limit(err, *limit),
-        BodiesRefusal::BodyName(at) => write_placed(err, b"24 body name at ", *at as u64),
-        BodiesRefusal::BodyType(at) => write_placed(err, b"22 body type at ", *at as u64),
-        BodiesRefusal::BodyArity(at) => write_placed(err, b"21 body arity at ", *at as u64),
-        BodiesRefusal::Missing(name) => write_two(err, b"20 body missing ", name.bytes()),
+        BodiesRefusal::Syntax(at) => Line::numbered(b"23 body syntax at ", *at as u64),
+        BodiesRefusal::Limit(limit) => limit_line(*limit),
+        BodiesRefusal::BodyName(at) => Line::numbered(b"24 body name at ", *at as u64),
+        BodiesRefusal::BodyType(at) => Line::numbered(b"22 body type at ", *at as u64),
+        BodiesRefusal::BodyArity(at) => Line::numbered(b"21 body arity at ", *at as u64),
+        BodiesRefusal::Missing(name) => Line::named(b"20 body missing ", name.bytes()),
     }
 }
 
-/// Writes the line of rows that are not right, or too few.
-fn write_sensors<E: Sink>(err: &mut E, fault: &SensorsRefusal) -> Result<(), Failed>
-    ensures grown { IsWritten (E.seen err.old).written (E.seen err.new).written (sensors_line fault.now) result }
-    ensures counted { (E.seen err.old).faults ≤ (E.seen err.new).faults }
-    ensures failed { OnErr result ((E.seen err.old).faults < (E.seen err.new).faults) }
+/// The line of rows that are not right, or too few.
+fn sensors_line<'a>(fault: &'a SensorsRefusal) -> Line<'a>
+    ensures { line_text result ≡ sensors_line fault.now }
 {
     match fault {
-        SensorsRefusal::Row(number) => write_placed(err, b"80 row ", *number),
-        SensorsRefusal::NoSensor(number) => write_placed(err, b"81 no sensor ", *number),
-        SensorsRefusal::Order(number) => write_placed(err, b"82 order ", *number),
-        SensorsRefusal::Value(number) => write_placed(err, b"83 value ", *number),
-        SensorsRefusal::Short { name, have, need } => write_line(
-            err,
-            &[
-                Piece::Text(b"84 short "),
-                Piece::Text(name.bytes()),
-                Piece::Text(b" "),
-                Piece::Number(*have),
-                Piece::Text(b" "),
-                Piece::Number(*need),
-                Piece::Text(b"\n"),
-            ],
+        SensorsRefusal::Row(number) => Line::numbered(b"80 row ", *number),
+        SensorsRefusal::NoSensor(number) => Line::numbered(b"81 no sensor ", *number),
+        SensorsRefusal::Order(number) => Line::numbered(b"82 order ", *number),
+        SensorsRefusal::Value(number) => Line::numbered(b"83 value ", *number),
+        SensorsRefusal::Short { name, have, need } => Line::three(
+            Piece::Text(b"84 short ", name.bytes()),
+            Piece::Number(b" ", *have),
+            Piece::Number(b" ", *need),
         ),
     }
 }
 
-/// Writes the line of a schedule that is no whole run.
-fn write_schedule<E: Sink>(err: &mut E, fault: &ScheduleRefusal) -> Result<(), Failed>
-    ensures grown { IsWritten (E.seen err.old).written (E.seen err.new).written (schedule_line fault.now) result }
-    ensures counted { (E.seen err.old).faults ≤ (E.seen err.new).faults }
-    ensures failed { OnErr result ((E.seen err.old).faults < (E.seen err.new).faults) }
+/// The line of a schedule that is no whole run.
+fn schedule_line<'a>(fault: &'a ScheduleRefusal) -> Line<'a>
+    ensures { line_text result ≡ schedule_line fault.now }
 {
     match fault {
-        ScheduleRefusal::Syntax(line) => write_placed(err, b"70 schedule syntax line ", *line),
-        ScheduleRefusal::Illegal { line, rule } => write_line(
-            err,
-            &[
-                Piece::Text(b"71 illegal line "),
-                Piece::Number(*line),
-                Piece::Text(b" rule "),
-                Piece::Text(rule.text().as_bytes()),
-                Piece::Text(b"\n"),
-            ],
+        ScheduleRefusal::Syntax(line) => Line::numbered(b"70 schedule syntax line ", *line),
+        ScheduleRefusal::Illegal { line, rule } => Line::two(
+            Piece::Number(b"71 illegal line ", *line),
+            Piece::Text(b" rule ", rule.text().as_bytes()),
         ),
-        ScheduleRefusal::Unfinished { name, job } => write_line(
-            err,
-            &[
-                Piece::Text(b"72 unfinished "),
-                Piece::Text(name.bytes()),
-                Piece::Text(b" "),
-                Piece::Number(*job),
-                Piece::Text(b"\n"),
-            ],
+        ScheduleRefusal::Unfinished { name, job } => Line::two(
+            Piece::Text(b"72 unfinished ", name.bytes()),
+            Piece::Number(b" ", *job),
         ),
     }
 }
 
-/// Writes the line of a plan of which no table is made.
-fn write_make<E: Sink>(err: &mut E, fault: MakeRefusal) -> Result<(), Failed>
-    ensures grown { IsWritten (E.seen err.old).written (E.seen err.new).written (make_line fault) result }
-    ensures counted { (E.seen err.old).faults ≤ (E.seen err.new).faults }
-    ensures failed { OnErr result ((E.seen err.old).faults < (E.seen err.new).faults) }
+/// The line of a plan of which no table is made.
+fn make_line<'a>(fault: MakeRefusal) -> Line<'a>
+    ensures { line_text result ≡ make_line fault }
 {
     match fault {
-        MakeRefusal::TooFar(tick) => write_placed(err, b"92 too far ", tick),
-        MakeRefusal::Limit(limit) => write_limit(err, limit),
-        MakeRefusal::Overload { from, to, demand } => write_line(
-            err,
-            &[
-                Piece::Text(b"90 overload "),
-                Piece::Number(from),
-                Piece::Text(b" "),
-                Piece::Number(to),
-                Piece::Text(b" demand "),
-                Piece::Number(demand),
-                Piece::Text(b" has "),
-                Piece::Number(to.saturating_sub(from)),
-                Piece::Text(b"\n"),
-            ],
+        MakeRefusal::TooFar(tick) => Line::numbered(b"92 too far ", tick),
+        MakeRefusal::Limit(limit) => limit_line(limit),
+        MakeRefusal::Overload { from, to, demand } => Line::four(
+            Piece::Number(b"90 overload ", from),
+            Piece::Number(b" ", to),
+            Piece::Number(b" demand ", demand),
+            Piece::Number(b" has ", to.saturating_sub(from)),
         ),
-        MakeRefusal::Unsteady(tick) => write_placed(err, b"91 unsteady at ", tick),
+        MakeRefusal::Unsteady(tick) => Line::numbered(b"91 unsteady at ", tick),
     }
 }
 
-/// Writes the line of a text that is no good table.
-fn write_table<E: Sink>(err: &mut E, fault: &TableRefusal) -> Result<(), Failed>
-    ensures grown { IsWritten (E.seen err.old).written (E.seen err.new).written (table_line fault.now) result }
-    ensures counted { (E.seen err.old).faults ≤ (E.seen err.new).faults }
-    ensures failed { OnErr result ((E.seen err.old).faults < (E.seen err.new).faults) }
+/// The line of a text that is no good table.
+fn table_line<'a>(fault: &'a TableRefusal) -> Line<'a>
+    ensures { line_text result ≡ table_line fault.now }
 {
     match fault {
-        TableRefusal::Syntax(line) => write_placed(err, b"93 table syntax line ", *line),
-        TableRefusal::Piece(line) => write_placed(err, b"94 piece ", *line),
-        TableRefusal::Units { name, job } => write_line(
-            err,
-            &[
-                Piece::Text(b"95 units "),
-                Piece::Text(name.bytes()),
-                Piece::Text(b" "),
-                Piece::Number(*job),
-                Piece::Text(b"\n"),
-            ],
+        TableRefusal::Syntax(line) => Line::numbered(b"93 table syntax line ", *line),
+        TableRefusal::Piece(line) => Line::numbered(b"94 piece ", *line),
+        TableRefusal::Units { name, job } => Line::two(
+            Piece::Text(b"95 units ", name.bytes()),
+            Piece::Number(b" ", *job),
         ),
-        TableRefusal::Clash { first, second } => write_line(
-            err,
-            &[
-                Piece::Text(b"96 clash "),
-                Piece::Number(*first),
-                Piece::Text(b" "),
-                Piece::Number(*second),
-                Piece::Text(b"\n"),
-            ],
+        TableRefusal::Clash { first, second } => Line::two(
+            Piece::Number(b"96 clash ", *first),
+            Piece::Number(b" ", *second),
         ),
-        TableRefusal::Order { edge, job } => write_line(
-            err,
-            &[
-                Piece::Text(b"97 order edge "),
-                Piece::Number(edge.0 as u64),
-                Piece::Text(b" job "),
-                Piece::Number(*job),
-                Piece::Text(b"\n"),
-            ],
+        TableRefusal::Order { edge, job } => Line::two(
+            Piece::Number(b"97 order edge ", edge.0 as u64),
+            Piece::Number(b" job ", *job),
         ),
     }
 }
 
-/// Writes the line of a text that does not place the tasks.
-fn write_cores<E: Sink>(err: &mut E, fault: &CoresRefusal) -> Result<(), Failed>
-    ensures grown { IsWritten (E.seen err.old).written (E.seen err.new).written (cores_line fault.now) result }
-    ensures counted { (E.seen err.old).faults ≤ (E.seen err.new).faults }
-    ensures failed { OnErr result ((E.seen err.old).faults < (E.seen err.new).faults) }
+/// The line of a text that does not place the tasks.
+fn cores_line<'a>(fault: &'a CoresRefusal) -> Line<'a>
+    ensures { line_text result ≡ cores_line fault.now }
 {
     match fault {
-        CoresRefusal::Syntax(line) => write_placed(err, b"98 core syntax line ", *line),
-        CoresRefusal::Missing(name) => write_two(err, b"99 core missing ", name.bytes()),
+        CoresRefusal::Syntax(line) => Line::numbered(b"98 core syntax line ", *line),
+        CoresRefusal::Missing(name) => Line::named(b"99 core missing ", name.bytes()),
     }
 }
 
-/// Writes the line of a fault.
-fn write_fault<E: Sink>(err: &mut E, command: &Option<Command>, fault: &Fault) -> Result<(), Failed>
-    ensures grown { IsWritten (E.seen err.old).written (E.seen err.new).written (line_of_fault command.now fault.now) result }
-    ensures counted { (E.seen err.old).faults ≤ (E.seen err.new).faults }
-    ensures failed { OnErr result ((E.seen err.old).faults < (E.seen err.new).faults) }
+/// The line of a fault.
+fn fault_line<'a>(command: &'a Option<Command>, fault: &'a Fault) -> Line<'a>
+    ensures { line_text result ≡ line_of_fault command.now fault.now }
 {
     match fault {
-        Fault::Absent(part) => write_two(err, b"absent ", file_name(command, *part)),
-        Fault::TooLong(part) => write_two(err, b"too long ", file_name(command, *part)),
-        Fault::Grammar(fault) => write_grammar(err, *fault),
-        Fault::Types(fault) => write_types(err, fault),
-        Fault::Cycle(label) => write_two(err, b"30 cycle ", label.bytes()),
-        Fault::Clocks(fault) => write_clocks(err, fault),
-        Fault::Graph(fault) => write_graph(err, fault),
-        Fault::Dates(fault) => write_dates(err, fault),
-        Fault::Bodies(fault) => write_bodies(err, fault),
-        Fault::Sensors(fault) => write_sensors(err, fault),
-        Fault::Limit(limit) => write_limit(err, *limit),
-        Fault::Schedule(fault) => write_schedule(err, fault),
-        Fault::Made(fault) => write_make(err, *fault),
-        Fault::Table(fault) => write_table(err, fault),
-        Fault::Cores(fault) => write_cores(err, fault),
+        Fault::Absent(part) => Line::named(b"absent ", file_name(command, *part)),
+        Fault::TooLong(part) => Line::named(b"too long ", file_name(command, *part)),
+        Fault::Grammar(fault) => grammar_line(*fault),
+        Fault::Types(fault) => types_line(fault),
+        Fault::Cycle(label) => Line::named(b"30 cycle ", label.bytes()),
+        Fault::Clocks(fault) => clocks_line(fault),
+        Fault::Graph(fault) => graph_line(fault),
+        Fault::Dates(fault) => dates_line(fault),
+        Fault::Bodies(fault) => bodies_line(fault),
+        Fault::Sensors(fault) => sensors_line(fault),
+        Fault::Limit(limit) => limit_line(*limit),
+        Fault::Schedule(fault) => schedule_line(fault),
+        Fault::Made(fault) => make_line(*fault),
+        Fault::Table(fault) => table_line(fault),
+        Fault::Cores(fault) => cores_line(fault),
     }
 }
 
-/// Writes the line that tells why there is no text.
-fn write_stop<E: Sink>(err: &mut E, command: &Option<Command>, stop: &Stop) -> Result<(), Failed>
-    ensures grown { IsWritten (E.seen err.old).written (E.seen err.new).written (line_of_stop command.now stop.now) result }
-    ensures counted { (E.seen err.old).faults ≤ (E.seen err.new).faults }
-    ensures failed { OnErr result ((E.seen err.old).faults < (E.seen err.new).faults) }
+/// The line that tells why there is no text.
+fn stop_line<'a>(command: &'a Option<Command>, stop: &'a Stop) -> Line<'a>
+    ensures { line_text result ≡ line_of_stop command.now stop.now }
 {
     match stop {
-        Stop::Unread(part) => write_two(err, b"read fault ", file_name(command, *part)),
-        Stop::Refused(_, fault) => write_fault(err, command, fault),
-        Stop::Memory => write_all(err, b"memory\n"),
+        Stop::Unread(part) => Line::named(b"read fault ", file_name(command, *part)),
+        Stop::Refused(_, fault) => fault_line(command, fault),
+        Stop::Memory => Line::plain(b"memory"),
     }
 }
 
@@ -432,43 +292,40 @@ fn task_name(plan: &Plan, task: TaskNo) -> &[u8]
     }
 }
 
-/// Writes the line of a read that was overrun.
-fn write_overrun<E: Sink>(err: &mut E, name: &[u8], stopped: &Stopped) -> Result<(), Failed>
-    ensures grown { IsWritten (E.seen err.old).written (E.seen err.new).written (overrun_line name.now stopped.now) result }
-    ensures counted { (E.seen err.old).faults ≤ (E.seen err.new).faults }
-    ensures failed { OnErr result ((E.seen err.old).faults < (E.seen err.new).faults) }
+/// The line of a read that was overrun.
+fn overrun_line<'a>(name: &'a [u8], stopped: &Stopped) -> Line<'a>
+    ensures { line_text result ≡ overrun_line name.now stopped.now }
 {
-    write_line(
-        err,
-        &[
-            Piece::Text(b"overrun "),
-            Piece::Text(name),
-            Piece::Text(b" "),
-            Piece::Number(stopped.job),
-            Piece::Text(b" port "),
-            Piece::Number(stopped.port as u64),
-            Piece::Text(b" cell "),
-            Piece::Number(stopped.cell.0 as u64),
-            Piece::Text(b" wanted "),
-            Piece::Number(stopped.wanted as u64),
-            Piece::Text(b" found "),
-            Piece::Number(stopped.found as u64),
-            Piece::Text(b"\n"),
-        ],
+    Line(
+        Piece::Text(b"overrun ", name),
+        Piece::Number(b" ", stopped.job),
+        Piece::Number(b" port ", stopped.port as u64),
+        Piece::Number(b" cell ", stopped.cell.0 as u64),
+        Piece::Number(b" wanted ", stopped.wanted as u64),
+        Piece::Number(b" found ", stopped.found as u64),
     )
+}
+
+/// The line that tells how a call ended, where not all is done.
+fn ending_line<'a>(command: &'a Option<Command>, ending: &'a Ending) -> Option<Line<'a>>
+    ensures { option_map line_text result ≡ line_of command.now ending.now }
+{
+    match ending {
+        Ending::Done(_) => None,
+        Ending::Words => Some(Line::plain(b"usage: prelude MODE --OPTION VALUE ..")),
+        Ending::Stopped(stop) => Some(stop_line(command, stop)),
+        Ending::Unwritten(_) => Some(Line::plain(b"write fault")),
+        Ending::Overrun(plan, stopped) => {
+            Some(overrun_line(task_name(plan, stopped.task), stopped))
+        }
+    }
 }
 
 /// Tells on `err` how a call ended: in a line, but where all is done.
 pub fn tell<E: Sink>(err: &mut E, command: &Option<Command>, ending: &Ending)
     ensures told { IsTold (E.seen err.old) (E.seen err.new) (line_of command.now ending.now) }
 {
-    let _ = match ending {
-        Ending::Done(_) => Ok(()),
-        Ending::Words => write_all(err, b"usage: prelude MODE --OPTION VALUE ..\n"),
-        Ending::Stopped(stop) => write_stop(err, command, stop),
-        Ending::Unwritten(_) => write_all(err, b"write fault\n"),
-        Ending::Overrun(plan, stopped) => {
-            write_overrun(err, task_name(plan, stopped.task), stopped)
-        }
-    };
+    if let Some(line) = ending_line(command, ending) {
+        let _ = write_line(err, &line);
+    }
 }

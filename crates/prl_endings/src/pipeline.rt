@@ -51,24 +51,8 @@ fn mode_text(alloc: Global, mode: Mode, request: Request) -> Result<Vec<u8>, Sto
 {
     match mode {
         Mode::Flows => flows_text(alloc, request),
-        mode => {
-            let text = kept_text(alloc, mode, &request);
-            drop(request);
-            text
-        }
+        mode => kept_text(alloc, mode, &request),
     }
-}
-
-/// The text of a mode that runs nothing, which has run nothing.
-fn text_alone(alloc: Global, mode: Mode, request: Request) -> Result<(Vec<u8>, Ran), Stop>
-    requires mode { RunsNothing mode }
-    requires program { length request.texts.program.items ≤ MAX_PROGRAM }
-    requires bodies { length request.texts.bodies.items ≤ MAX_BODIES }
-    requires until { request.until < 2 ^ 31 }
-    ensures { Passes (given_of request) (stages_after mode request.named) (λ made. IsText (given_of request) mode made.0.items × (made.1 ≡ Ran.Not)) result }
-{
-    let text = mode_text(alloc, mode, request)?;
-    Ok((text, Ran::Not))
 }
 
 /// The text that a command with files means, with what it has run, by one thread.
@@ -81,12 +65,8 @@ fn requested(alloc: Global, command: &Command, request: Request) -> Result<(Vec<
 {
     match command.mode {
         Mode::Run => run_text(alloc, &request, command.clock),
-        Mode::Cycle => {
-            let made = cycle_text(alloc, &request);
-            drop(request);
-            made
-        }
-        mode => text_alone(alloc, mode, request),
+        Mode::Cycle => cycle_text(alloc, &request),
+        mode => Ok((mode_text(alloc, mode, request)?, Ran::Not)),
     }
 }
 
@@ -144,7 +124,5 @@ pub fn answer_threads<R: Threads + Wait + Sync, F: Files, P: Probe>(
     ensures kept { (F.seen files.new).folder ≡ (F.seen files.old).folder }
 {
     let request = read_request(alloc, files, command)?;
-    let outcome = run_outcome(rt, alloc, &request, command.clock, command.workers, probe);
-    drop(request);
-    outcome
+    run_outcome(rt, alloc, &request, command.clock, command.workers, probe)
 }

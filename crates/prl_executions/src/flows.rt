@@ -111,52 +111,8 @@ fn run_of(alloc: Global, request: &Request, typed: &Typed<'_>) -> Result<Run, St
         × HasRows (given_of request.now) run.flat run.clocks.of run.sensors) result }
 {
     let front = flat_of(alloc, request, typed)?;
-    match read_bodies(alloc, request, typed.program(), typed.main()) {
-        Ok(bodies) => Ok(run_with(alloc, request, front, bodies)?),
-        Err(stop) => {
-            drop(front);
-            Err(stop)
-        }
-    }
-}
-
-/// The text of the flows of a typed program.
-fn typed_flows(alloc: Global, request: Request, typed: &Typed<'_>) -> Result<Vec<u8>, Stop>
-    requires program { IsProgram (given_of request) (program_tree typed.now.program) }
-    requires bodies { length request.texts.bodies.items ≤ MAX_BODIES }
-    requires until { request.until < 2 ^ 31 }
-    requires main { IsMain (given_of request) (program_tree typed.now.program) typed.now.main }
-    requires typed { IsTyped (program_tree typed.now.program) (given_of request).node typed.now.main typed.now.types }
-    ensures { Passes (given_of request) flow_stages (λ text. IsText (given_of request) Mode.Flows text.items) result }
-{
-    let made = run_of(alloc, &request, typed);
-    let until = request.until;
-    // What comes now needs no text any more, and the rows' text may be long.
-    drop(request);
-    let run = made?;
-    let text = flows_of(alloc, until, typed, &run);
-    drop(run);
-    text
-}
-
-/// The text of the flows of a program.
-fn program_flows(alloc: Global, request: Request, program: &Program) -> Result<Vec<u8>, Stop>
-    requires program { IsProgram (given_of request) (program_tree program.now) }
-    requires bodies { length request.texts.bodies.items ≤ MAX_BODIES }
-    requires until { request.until < 2 ^ 31 }
-    ensures { Passes (given_of request) (Stage.Types ∷ flow_stages) (λ text. IsText (given_of request) Mode.Flows text.items) result }
-{
-    match check_types(alloc, &request, program) {
-        Ok(typed) => {
-            let text = typed_flows(alloc, request, &typed);
-            drop(typed);
-            text
-        }
-        Err(stop) => {
-            drop(request);
-            Err(stop)
-        }
-    }
+    let bodies = read_bodies(alloc, request, typed.program(), typed.main())?;
+    run_with(alloc, request, front, bodies)
 }
 
 /// Mode `flows`.
@@ -166,15 +122,12 @@ pub fn flows_text(alloc: Global, request: Request) -> Result<Vec<u8>, Stop>
     requires until { request.until < 2 ^ 31 }
     ensures { Passes (given_of request) (stages_after Mode.Flows request.named) (λ text. IsText (given_of request) Mode.Flows text.items) result }
 {
-    match read_program(alloc, &request) {
-        Ok(program) => {
-            let text = program_flows(alloc, request, &program);
-            drop(program);
-            text
-        }
-        Err(stop) => {
-            drop(request);
-            Err(stop)
-        }
-    }
+    let program = read_program(alloc, &request)?;
+    let typed = check_types(alloc, &request, &program)?;
+    let made = run_of(alloc, &request, &typed);
+    let until = request.until;
+    // What comes now needs no text any more, and the rows' text may be long.
+    drop(request);
+    let run = made?;
+    flows_of(alloc, until, &typed, &run)
 }

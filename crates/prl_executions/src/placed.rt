@@ -160,17 +160,6 @@ fn placed_of(
     }
 }
 
-/// The text of the run on the processors that the text of the command gives, after the stages of a run.
-fn placed_text(alloc: Global, request: &Request, ready: &Ready) -> Result<Vec<u8>, Stop>
-    requires { IsReady (given_of request.now) ready.now }
-    ensures { Passes (given_of request.now) (Stage.Cores ∷ Stage.Placed ∷ []) (λ text. IsText (given_of request.now) Mode.Cores text.items) result }
-{
-    let spread = make_placement(alloc, request, &ready.plan)?;
-    let text = placed_of(alloc, request, ready, &spread);
-    drop(spread);
-    text
-}
-
 /// Mode `cores`.
 pub fn cores_text(alloc: Global, request: &Request) -> Result<Vec<u8>, Stop>
     requires program { length request.now.texts.program.items ≤ MAX_PROGRAM }
@@ -178,7 +167,6 @@ pub fn cores_text(alloc: Global, request: &Request) -> Result<Vec<u8>, Stop>
     ensures { Passes (given_of request.now) (stages_after Mode.Cores request.now.named) (λ text. IsText (given_of request.now) Mode.Cores text.items) result }
 {
     let ready = make_ready(alloc, request)?;
-    let text = placed_text(alloc, request, &ready);
-    drop(ready);
-    text
+    let spread = make_placement(alloc, request, &ready.plan)?;
+    placed_of(alloc, request, &ready, &spread)
 }

@@ -53,50 +53,6 @@ fn program_is_ready(request: &Request, typed: &Typed<'_>, run: &Run, plan: &Plan
     plan_is_one(plan);
 }
 
-/// The task graph with its words, and the bodies.
-fn graph_and_bodies(
-    alloc: Global,
-    request: &Request,
-    typed: &Typed<'_>,
-    flat: &Flat,
-    clocks: &Clocks,
-) -> Result<((TaskGraph, Words), Bodies), Stop>
-    requires bodies { length request.now.texts.bodies.items ≤ MAX_BODIES }
-    requires main { IsMain (given_of request.now) (program_tree typed.now.program) typed.now.main }
-    requires clocks { HasClocks (given_of request.now) flat.now clocks.now.of }
-    ensures { Passes (given_of request.now) (graphed ++ (Stage.Bodies ∷ []))
-        (λ made. IsGraphOf flat.now clocks.now.of made.0.0 × HasWords (given_of request.now) made.0.0 made.0.1.of × AreBodies (given_of request.now) (map body_tree made.1)
-        × HaveBodiesOf (program_tree typed.now.program).imports (used_imports (program_tree typed.now.program) typed.now.main) made.1) result }
-{
-    let made = make_graphed(alloc, request, flat, clocks)?;
-    match read_bodies(alloc, request, typed.program(), typed.main()) {
-        Ok(bodies) => Ok((made, bodies)),
-        Err(stop) => {
-            drop(made);
-            Err(stop)
-        }
-    }
-}
-
-/// The plan of the task graph with its words, and its horizon.
-fn plan_to_horizon(
-    alloc: Global,
-    request: &Request,
-    graphed: (TaskGraph, Words),
-) -> Result<(Plan, Horizon), Stop>
-    requires { HasWords (given_of request.now) graphed.0 graphed.1.of }
-    ensures { Passes (given_of request.now) (planned ++ (Stage.Horizon ∷ [])) (λ made. (made.0.graph ≡ graphed.0) × HasHorizon (given_of request.now) made.0 made.1) result }
-{
-    let plan = make_planned(alloc, request, graphed)?;
-    match make_horizon(request, &plan) {
-        Ok(horizon) => Ok((plan, horizon)),
-        Err(stop) => {
-            drop(plan);
-            Err(stop)
-        }
-    }
-}
-
 /// The bodies, and the plan with its horizon.
 fn plan_of_replay(
     alloc: Global,
@@ -113,14 +69,11 @@ fn plan_of_replay(
         × HaveBodiesOf (program_tree typed.now.program).imports (used_imports (program_tree typed.now.program) typed.now.main) made.0 × IsGraphOf flat.now clocks.now.of made.1.0.graph
         × HasHorizon (given_of request.now) made.1.0 made.1.1) result }
 {
-    let (graphed, bodies) = graph_and_bodies(alloc, request, typed, flat, clocks)?;
-    match plan_to_horizon(alloc, request, graphed) {
-        Ok(plan) => Ok((bodies, plan)),
-        Err(stop) => {
-            drop(bodies);
-            Err(stop)
-        }
-    }
+    let graphed = make_graphed(alloc, request, flat, clocks)?;
+    let bodies = read_bodies(alloc, request, typed.program(), typed.main())?;
+    let plan = make_planned(alloc, request, graphed)?;
+    let horizon = make_horizon(request, &plan)?;
+    Ok((bodies, (plan, horizon)))
 }
 
 /// What a run needs, of what is evaluated and of a plan with its horizon.
@@ -132,38 +85,6 @@ fn ready_of(run: Run, plan: (Plan, Horizon)) -> Ready
         bodies: run.bodies,
         sensors: run.sensors,
         horizon: plan.1,
-    }
-}
-
-/// What a run needs, after its plan and its bodies: the rows are read.
-fn ready_after(
-    alloc: Global,
-    request: &Request,
-    typed: &Typed<'_>,
-    front: (Flat, Order, Clocks),
-    made: (Bodies, (Plan, Horizon)),
-) -> Result<Ready, Stop>
-    requires main { IsMain (given_of request.now) (program_tree typed.now.program) typed.now.main }
-    requires typed { IsTyped (program_tree typed.now.program) (given_of request.now).node typed.now.main typed.now.types }
-    requires expanded { IsExpanded (program_tree typed.now.program) typed.now.main typed.now.types front.0 }
-    requires order { IsOrder front.0 front.1.flows }
-    requires clocks { HasClocks (given_of request.now) front.0 front.2.of }
-    requires bodies { AreBodies (given_of request.now) (map body_tree made.0) }
-    requires have { HaveBodiesOf (program_tree typed.now.program).imports (used_imports (program_tree typed.now.program) typed.now.main) made.0 }
-    requires graph { IsGraphOf front.0 front.2.of made.1.0.graph }
-    requires horizon { HasHorizon (given_of request.now) made.1.0 made.1.1 }
-    ensures { PassesAt (given_of request.now) Stage.Rows (IsReady (given_of request.now)) result }
-{
-    let (bodies, plan) = made;
-    match run_with(alloc, request, front, bodies) {
-        Ok(run) => {
-            program_is_ready(request, typed, &run, &plan.0, plan.1);
-            Ok(ready_of(run, plan))
-        }
-        Err(stop) => {
-            drop(plan);
-            Err(stop)
-        }
     }
 }
 
@@ -182,37 +103,10 @@ fn ready_with(
     requires clocks { HasClocks (given_of request.now) front.0 front.2.of }
     ensures { Passes (given_of request.now) ran (IsReady (given_of request.now)) result }
 {
-    match plan_of_replay(alloc, request, typed, &front.0, &front.2) {
-        Ok(made) => ready_after(alloc, request, typed, front, made),
-        Err(stop) => {
-            drop(front);
-            Err(stop)
-        }
-    }
-}
-
-/// What a run needs, after the types.
-fn typed_ready(alloc: Global, request: &Request, typed: &Typed<'_>) -> Result<Ready, Stop>
-    requires program { IsProgram (given_of request.now) (program_tree typed.now.program) }
-    requires bodies { length request.now.texts.bodies.items ≤ MAX_BODIES }
-    requires main { IsMain (given_of request.now) (program_tree typed.now.program) typed.now.main }
-    requires typed { IsTyped (program_tree typed.now.program) (given_of request.now).node typed.now.main typed.now.types }
-    ensures { Passes (given_of request.now) (Stage.Expansion ∷ Stage.Causality ∷ Stage.Clocks ∷ ran) (IsReady (given_of request.now)) result }
-{
-    let front = flat_of(alloc, request, typed)?;
-    ready_with(alloc, request, typed, front)
-}
-
-/// What a run needs, after the program.
-fn program_ready(alloc: Global, request: &Request, program: &Program) -> Result<Ready, Stop>
-    requires program { IsProgram (given_of request.now) (program_tree program.now) }
-    requires bodies { length request.now.texts.bodies.items ≤ MAX_BODIES }
-    ensures { Passes (given_of request.now) (Stage.Types ∷ Stage.Expansion ∷ Stage.Causality ∷ Stage.Clocks ∷ ran) (IsReady (given_of request.now)) result }
-{
-    let typed = check_types(alloc, request, program)?;
-    let ready = typed_ready(alloc, request, &typed);
-    drop(typed);
-    ready
+    let (bodies, plan) = plan_of_replay(alloc, request, typed, &front.0, &front.2)?;
+    let run = run_with(alloc, request, front, bodies)?;
+    program_is_ready(request, typed, &run, &plan.0, plan.1);
+    Ok(ready_of(run, plan))
 }
 
 /// What a run needs: the stages of the modes that run tasks.
@@ -222,7 +116,7 @@ pub fn make_ready(alloc: Global, request: &Request) -> Result<Ready, Stop>
     ensures { Passes (given_of request.now) (front ++ ran) (IsReady (given_of request.now)) result }
 {
     let program = read_program(alloc, request)?;
-    let ready = program_ready(alloc, request, &program);
-    drop(program);
-    ready
+    let typed = check_types(alloc, request, &program)?;
+    let front = flat_of(alloc, request, &typed)?;
+    ready_with(alloc, request, &typed, front)
 }

@@ -62,7 +62,5 @@ pub fn replayed_text(alloc: Global, request: &Request) -> Result<Vec<u8>, Stop>
     ensures { Passes (given_of request.now) (stages_after Mode.Replay request.now.named) (λ text. IsText (given_of request.now) Mode.Replay text.items) result }
 {
     let ready = make_ready(alloc, request)?;
-    let text = replay_of(alloc, request, &ready);
-    drop(ready);
-    text
+    replay_of(alloc, request, &ready)
 }

@@ -84,27 +84,6 @@ pub(crate) fn text_of(
     actuator_text(alloc, &flows)
 }
 
-/// One thread runs all jobs; the text of the actuators, and the board.
-fn ended_text(
-    alloc: Global,
-    request: &Request,
-    ready: &Ready,
-    gate: Gate,
-) -> Result<(Vec<u8>, Ran), Stop>
-    requires { IsReady (given_of request.now) ready.now }
-    ensures text { IfOk result (λ made. IsRunText (given_of request.now) gate made.0.items made.1) }
-    ensures stop { IfErr result (λ stop. stop ≡ Stop.Memory) }
-{
-    let closed = closed_alone(alloc, ready, gate)?;
-    match text_of(alloc, request, ready, gate, &closed) {
-        Ok(text) => Ok((text, Ran::Ended(closed))),
-        Err(_) => {
-            drop(closed);
-            Err(Stop::Memory)
-        }
-    }
-}
-
 /// Mode `run` with one worker.
 pub fn run_text(alloc: Global, request: &Request, gate: Gate) -> Result<(Vec<u8>, Ran), Stop>
     requires program { length request.now.texts.program.items ≤ MAX_PROGRAM }
@@ -112,9 +91,9 @@ pub fn run_text(alloc: Global, request: &Request, gate: Gate) -> Result<(Vec<u8>
     ensures { Passes (given_of request.now) (front ++ ran) (λ made. IsRunText (given_of request.now) gate made.0.items made.1) result }
 {
     let ready = make_ready(alloc, request)?;
-    let made = ended_text(alloc, request, &ready, gate);
-    drop(ready);
-    made
+    let closed = closed_alone(alloc, &ready, gate)?;
+    let text = text_of(alloc, request, &ready, gate, &closed)?;
+    Ok((text, Ran::Ended(closed)))
 }
 
 /// What a run of several workers has come to.
@@ -139,13 +118,8 @@ fn ended_outcome(
     requires ended { HasEnded closed }
     ensures { IfOk result (IsOutcome (given_of request.now) gate) }
 {
-    match text_of(alloc, request, ready, gate, &closed) {
-        Ok(text) => Ok(Outcome::Ended(text, Ran::Ended(closed))),
-        Err(error) => {
-            drop(closed);
-            Err(error)
-        }
-    }
+    let text = text_of(alloc, request, ready, gate, &closed)?;
+    Ok(Outcome::Ended(text, Ran::Ended(closed)))
 }
 
 /// What a run of several workers has come to that was overrun.

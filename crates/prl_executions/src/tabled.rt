@@ -124,13 +124,8 @@ fn driven_text(
     ensures { IfOk result (λ made. IsTextOf (given_of request.now) ready.now gates.Gated made.0.items made.1) }
 {
     let closed = driven(alloc, ready, table)?;
-    match text_of(alloc, request, ready, Gate::Gated, &closed) {
-        Ok(text) => Ok((text, Ran::Ended(closed))),
-        Err(error) => {
-            drop(closed);
-            Err(error)
-        }
-    }
+    let text = text_of(alloc, request, ready, Gate::Gated, &closed)?;
+    Ok((text, Ran::Ended(closed)))
 }
 
 /// The run by the table that the text tells, where it is good.
@@ -153,17 +148,6 @@ fn cycled(
     }
 }
 
-/// The run by the table that the text tells, after the stages of a run.
-fn cycle_of(alloc: Global, request: &Request, ready: &Ready) -> Result<(Vec<u8>, Ran), Stop>
-    requires { IsReady (given_of request.now) ready.now }
-    ensures { PassesAt (given_of request.now) Stage.Table (λ made. IsCycleText (given_of request.now) made.0.items made.1) result }
-{
-    let table = told_table(alloc, request, &ready.plan)?;
-    let made = cycled(alloc, request, ready, &table);
-    drop(table);
-    made
-}
-
 /// Mode `cycle`.
 pub fn cycle_text(alloc: Global, request: &Request) -> Result<(Vec<u8>, Ran), Stop>
     requires program { length request.now.texts.program.items ≤ MAX_PROGRAM }
@@ -171,7 +155,6 @@ pub fn cycle_text(alloc: Global, request: &Request) -> Result<(Vec<u8>, Ran), St
     ensures { Passes (given_of request.now) ((front ++ ran) ++ (Stage.Table ∷ [])) (λ made. IsCycleText (given_of request.now) made.0.items made.1) result }
 {
     let ready = make_ready(alloc, request)?;
-    let made = cycle_of(alloc, request, &ready);
-    drop(ready);
-    made
+    let table = told_table(alloc, request, &ready.plan)?;
+    cycled(alloc, request, &ready, &table)
 }

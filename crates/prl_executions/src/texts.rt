@@ -25,9 +25,7 @@ pub fn print_text(alloc: Global, request: &Request) -> Result<Vec<u8>, Stop>
     ensures { Passes (given_of request.now) (stages_after Mode.Print request.now.named) (λ text. IsText (given_of request.now) Mode.Print text.items) result }
 {
     let program = read_program(alloc, request)?;
-    let text = print(alloc, &program);
-    drop(program);
-    Ok(text?)
+    Ok(print(alloc, &program)?)
 }
 
 /// Mode `plan`.
@@ -36,9 +34,7 @@ pub fn planned_text(alloc: Global, request: &Request) -> Result<Vec<u8>, Stop>
     ensures { Passes (given_of request.now) (stages_after Mode.Plan request.now.named) (λ text. IsText (given_of request.now) Mode.Plan text.items) result }
 {
     let plan = planned_program(alloc, request)?;
-    let text = plan_text(alloc, &plan);
-    drop(plan);
-    Ok(text?)
+    Ok(plan_text(alloc, &plan)?)
 }
 
 /// The line that says how large the plan is.
@@ -57,9 +53,7 @@ pub fn accepted_text(alloc: Global, request: &Request) -> Result<Vec<u8>, Stop>
     ensures { Passes (given_of request.now) (stages_after Mode.Check request.now.named) (λ text. IsText (given_of request.now) Mode.Check text.items) result }
 {
     let plan = checked_plan(alloc, request)?;
-    let text = accepted(alloc, &plan);
-    drop(plan);
-    Ok(text?)
+    Ok(accepted(alloc, &plan)?)
 }
 
 /// The plan of the program, and its horizon.
@@ -68,13 +62,8 @@ fn plan_and_horizon(alloc: Global, request: &Request) -> Result<(Plan, Horizon),
     ensures { Passes (given_of request.now) (stages_after Mode.Schedule request.now.named) (λ made. HasHorizon (given_of request.now) made.0 made.1) result }
 {
     let plan = planned_program(alloc, request)?;
-    match make_horizon(request, &plan) {
-        Ok(horizon) => Ok((plan, horizon)),
-        Err(stop) => {
-            drop(plan);
-            Err(stop)
-        }
-    }
+    let horizon = make_horizon(request, &plan)?;
+    Ok((plan, horizon))
 }
 
 /// The text of the dispatched list.
@@ -96,10 +85,8 @@ pub fn scheduled_text(alloc: Global, request: &Request) -> Result<Vec<u8>, Stop>
     requires program { length request.now.texts.program.items ≤ MAX_PROGRAM }
     ensures { Passes (given_of request.now) (stages_after Mode.Schedule request.now.named) (λ text. IsText (given_of request.now) Mode.Schedule text.items) result }
 {
-    let made = plan_and_horizon(alloc, request)?;
-    let text = dispatched(alloc, request, &made.0, made.1);
-    drop(made);
-    Ok(text?)
+    let (plan, horizon) = plan_and_horizon(alloc, request)?;
+    Ok(dispatched(alloc, request, &plan, horizon)?)
 }
 
 /// The line of what the analysis of the plan finds.
@@ -121,10 +108,8 @@ pub fn edf_text(alloc: Global, request: &Request) -> Result<Vec<u8>, Stop>
     requires program { length request.now.texts.program.items ≤ MAX_PROGRAM }
     ensures { Passes (given_of request.now) (stages_after Mode.Edf request.now.named) (λ text. IsText (given_of request.now) Mode.Edf text.items) result }
 {
-    let made = plan_and_horizon(alloc, request)?;
-    let text = analysed(alloc, request, &made.0, made.1);
-    drop(made);
-    Ok(text?)
+    let (plan, horizon) = plan_and_horizon(alloc, request)?;
+    Ok(analysed(alloc, request, &plan, horizon)?)
 }
 
 /// The refusal that a fault of making is; None is want of memory.
@@ -157,24 +142,12 @@ fn make_table(alloc: Global, request: &Request, plan: &Plan) -> Result<Table, St
     }
 }
 
-/// The text of the table that is made of the plan.
-fn table_of(alloc: Global, request: &Request, plan: &Plan) -> Result<Vec<u8>, Stop>
-    requires { HasPlan (given_of request.now) plan.now }
-    ensures { PassesAt (given_of request.now) Stage.Made (λ text. IsText (given_of request.now) Mode.Table text.items) result }
-{
-    let table = make_table(alloc, request, plan)?;
-    let text = table_text(alloc, plan, &table);
-    drop(table);
-    Ok(text?)
-}
-
 /// Mode `table`.
 pub fn made_text(alloc: Global, request: &Request) -> Result<Vec<u8>, Stop>
     requires program { length request.now.texts.program.items ≤ MAX_PROGRAM }
     ensures { Passes (given_of request.now) (stages_after Mode.Table request.now.named) (λ text. IsText (given_of request.now) Mode.Table text.items) result }
 {
     let plan = planned_program(alloc, request)?;
-    let text = table_of(alloc, request, &plan);
-    drop(plan);
-    text
+    let table = make_table(alloc, request, &plan)?;
+    Ok(table_text(alloc, &plan, &table)?)
 }

@@ -3,21 +3,30 @@ use Rattle.prl_stages.specs.Vocabulary.{HasPlan, front, graphed, named_bodies, p
 use Rattle.prl_stages.specs.declared.stages.Stage.{Stage}
 use Rattle.prl_calls.specs.Stops.{given_of}
 use Rattle.prl_calls.specs.declared.reading.Request.{Request}
-use Rattle.prl_calls.proofs.Stops.{passes_rest, stops_first}
+use Rattle.prl_calls.proofs.Stops.{both_hold, passes_rest, stops_first, stops_rest}
 use Rattle.prl_calls.proofs.fronts.checked_plan.Goals as goal
 
--- the stages up to the bodies, where they are named
-abbrev first : Request → List Stage
-first r = front ++ (graphed ++ named_bodies r.named)
+-- the stages of the graph, and of the bodies where they are named
+abbrev named : Request → List Stage
+named r = graphed ++ named_bodies r.named
+
+pub returns-in_err-front : goal.returns-in_err-front
+returns-in_err-front c =
+    let r = c.args.request.now in
+    let g = given_of r in
+    let p = err_from_is_err_and c.from_residual.result c.from_residual.ensures.1 in
+    rw (p.1, p.2) (stops_first g front (named r ++ planned) c.in_err-front.field-0.0 c.in_err-front.ensures)
 
 pub returns-in_err-made : goal.returns-in_err-made
 returns-in_err-made c =
     let r = c.args.request.now in
-    let p = err_from_is_err_and c.from_residual.result c.from_residual.ensures.1 in
-    rw (p.1, p.2) (stops_first (given_of r) (first r) planned c.in_err-made.field-0.0 c.in_err-made.ensures)
+    let g = given_of r in
+    let p = err_from_is_err_and c.from_residual-in_err-made.result c.from_residual-in_err-made.ensures.1 in
+    rw (p.1, p.2) (stops_rest g front (named r ++ planned) c.in_err-made.field-0.0 c.in_ok-front.ensures.1 (stops_first g (named r) planned c.in_err-made.field-0.0 c.in_err-made.ensures))
 
 pub returns : goal.returns
 returns c =
     let r = c.args.request.now in
     let g = given_of r in
-    passes_rest g (first r) c.in_ok-made.ensures.1 _ (HasPlan g) (λ plan found. found.1) planned c.make_planned.result c.make_planned.ensures
+    let hold = both_hold g front (named r) c.in_ok-front.ensures.1 c.in_ok-made.ensures.1 in
+    passes_rest g (front ++ named r) hold _ (HasPlan g) (λ plan found. found.1) planned c.make_planned.result c.make_planned.ensures

@@ -21,7 +21,7 @@ returns-clause-outcome g c =
     let command = c.args.command.now in
     ok_passed (given_of request) (front ++ ran) (IsOutcome (given_of request) command.clock) (IsAnswerOf told command)
     (λ outcome is hold. outcome_answered told command c.requires.mode request c.in_ok-request.ensures.request outcome is hold)
-    c.run_outcome-outcome.result c.run_outcome-outcome.ensures
+    c.run_outcome.result c.run_outcome.ensures
 
 pub returns-clause-stop : goal.returns-clause-stop
 returns-clause-stop g c =
@@ -31,4 +31,4 @@ returns-clause-stop g c =
     let command = c.args.command.now in
     err_passed (given_of request) (front ++ ran) (IsOutcome (given_of request) command.clock) (IsAnswerStop old new command)
     (λ stop at. answer_stop old new command request stop (subst HasFiles (sym c.requires.mode) tt) c.in_ok-request.ensures.request c.in_ok-request.ensures.failed
-    (subst (λ (m : Mode). StopsIn (given_of request) (stages_after m request.named) stop) (sym c.requires.mode) at)) c.run_outcome-outcome.result c.run_outcome-outcome.ensures
+    (subst (λ (m : Mode). StopsIn (given_of request) (stages_after m request.named) stop) (sym c.requires.mode) at)) c.run_outcome.result c.run_outcome.ensures
