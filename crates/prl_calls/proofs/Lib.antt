@@ -1,5 +1,4 @@
 mod Contents
-mod Flats
 mod Found
 mod Inputs
 pub mod Schedules

@@ -3,7 +3,22 @@ use Rattle.prl_base.proofs.Standard.{◌≡◌, ◌≢◌, ◌++◌, ℕ, List, 
 use Rattle.prl_ast.specs.Trees.{ProgramTree}
 use Rattle.prl_body.specs.declared.faults.BodyFault.{BodyFault}
 use Rattle.prl_body.specs.declared.faults.BodyFault.TheVariants as body_faults
+use Rattle.prl_base.specs.declared.operators.Clock.{Clock}
+use Rattle.prl_causal.specs.Cycles.{IsCausalFault}
+use Rattle.prl_causal.specs.declared.causality.CausalFault.{CausalFault}
+use Rattle.prl_causal.specs.declared.causality.CausalFault.TheVariants as causal_faults
+use Rattle.prl_clock.specs.Outcomes.{IsClockFault}
+use Rattle.prl_clock.specs.declared.calculus.ClockFault.{ClockFault}
+use Rattle.prl_clock.specs.declared.calculus.ClockFault.TheVariants as clock_faults
+use Rattle.prl_flow.specs.Programs.{FlatProgram}
+use Rattle.prl_sensors.specs.declared.faults.SensorFault.{SensorFault}
+use Rattle.prl_sensors.specs.declared.faults.SensorFault.TheVariants as sensors
+use Rattle.prl_stages.specs.Runs.{rows_for}
+use Rattle.prl_stages.specs.Told.{told_causal}
 use Rattle.prl_stages.specs.Vocabulary.{Given, text_of, IsMain, RefusesBodies, IsPlanOrNone, Comes, front, graphed, planned, stop_of, told_body}
+use Rattle.prl_stages.specs.Vocabulary.{IsFlattened, IsCausal, HasClocks, told_clocks, told_sensors}
+use Rattle.prl_stages.specs.declared.faults.ClocksRefusal.TheVariants as bad_clocks
+use Rattle.prl_stages.specs.declared.faults.SensorsRefusal.TheVariants as bad_rows
 use Rattle.prl_stages.specs.declared.faults.Fault.{Fault}
 use Rattle.prl_stages.specs.declared.faults.InputFile.{InputFile}
 use Rattle.prl_stages.specs.declared.stages.Stage.{Stage}
@@ -25,6 +40,33 @@ bodies_stop g p main (body_faults.BodyType at) stop h e is = subst (StopsAt g st
 bodies_stop g p main (body_faults.BodyArity at) stop h e is = subst (StopsAt g stages.Bodies) (sym is) (refl, (p, main, h, bad_bodies.BodyArity at, e (λ k. cc), refl))
 bodies_stop g p main (body_faults.Missing name) stop h e is = subst (StopsAt g stages.Bodies) (sym is) (refl, (p, main, h, bad_bodies.Missing name, e (λ k. cc), refl))
 bodies_stop g p main body_faults.Memory stop h e is = subst (StopsAt g stages.Bodies) (sym is) tt
+
+-- a cycle refuses
+pub causal_stop : (g : Given) (flat : FlatProgram) (fault : CausalFault) (stop : Stop) → IsFlattened g flat → IsCausalFault flat fault
+    → stop ≡ stop_of stages.Causality (told_causal fault) → StopsAt g stages.Causality stop
+causal_stop g flat (causal_faults.Cycle label) stop h e is = subst (StopsAt g stages.Causality) (sym is) (refl, (flat, h, label, e, refl))
+causal_stop g flat causal_faults.Memory stop h e is = subst (StopsAt g stages.Causality) (sym is) tt
+
+-- flows without clocks refuse
+pub clocks_stop : (g : Given) (flat : FlatProgram) (fault : ClockFault) (stop : Stop) → IsCausal g flat → IsClockFault flat fault
+    → stop ≡ stop_of stages.Clocks (told_clocks fault) → StopsAt g stages.Clocks stop
+clocks_stop g flat (clock_faults.Mismatch at) stop h e is = subst (StopsAt g stages.Clocks) (sym is) (refl, (flat, h, bad_clocks.Mismatch at, e, refl))
+clocks_stop g flat (clock_faults.Limit limit) stop h e is = subst (StopsAt g stages.Clocks) (sym is) (refl, (flat, h, bad_clocks.Limit limit, e, refl))
+clocks_stop g flat (clock_faults.Free label) stop h e is = subst (StopsAt g stages.Clocks) (sym is) (refl, (flat, h, bad_clocks.Free label, e, refl))
+clocks_stop g flat (clock_faults.NotWhole label period start) stop h e is =
+    subst (StopsAt g stages.Clocks) (sym is) (refl, (flat, h, bad_clocks.NotWhole label period start, e, refl))
+clocks_stop g flat clock_faults.Memory stop h e is = subst (StopsAt g stages.Clocks) (sym is) tt
+
+-- rows refuse
+pub rows_stop : (g : Given) (flat : FlatProgram) (clocks : List Clock) (fault : SensorFault) (stop : Stop) → HasClocks g flat clocks
+    → (fault ≢ sensors.Memory → rows_for g flat clocks ≡ Err fault) → stop ≡ stop_of stages.Rows (told_sensors fault) → StopsAt g stages.Rows stop
+rows_stop g flat clocks (sensors.Row k) stop h e is = subst (StopsAt g stages.Rows) (sym is) (refl, (flat, clocks, h, bad_rows.Row k, e (λ m. cc), refl))
+rows_stop g flat clocks (sensors.NoSensor k) stop h e is = subst (StopsAt g stages.Rows) (sym is) (refl, (flat, clocks, h, bad_rows.NoSensor k, e (λ m. cc), refl))
+rows_stop g flat clocks (sensors.Order k) stop h e is = subst (StopsAt g stages.Rows) (sym is) (refl, (flat, clocks, h, bad_rows.Order k, e (λ m. cc), refl))
+rows_stop g flat clocks (sensors.Value k) stop h e is = subst (StopsAt g stages.Rows) (sym is) (refl, (flat, clocks, h, bad_rows.Value k, e (λ m. cc), refl))
+rows_stop g flat clocks (sensors.Short name have need) stop h e is =
+    subst (StopsAt g stages.Rows) (sym is) (refl, (flat, clocks, h, bad_rows.Short name have need, e (λ m. cc), refl))
+rows_stop g flat clocks sensors.Memory stop h e is = subst (StopsAt g stages.Rows) (sym is) tt
 
 -- a stop of a list is a refusal of it
 pub stops_comes : (g : Given) (list : List Stage) (stage : Stage) (fault : Fault) → StopsIn g list (stops.Refused stage fault) → Comes g list (Some (stage, fault))

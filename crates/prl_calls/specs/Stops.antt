@@ -1,5 +1,5 @@
 -- What the stages are asked about, and what their stops say.
-use Rattle.std.specs.Prelude.{◌≡◌, ◌++◌, ◌⊎◌, ℕ, Bool, List, [], ◌∷◌, Option, Some, None, is_some, Result, Ok, Err}
+use Rattle.std.specs.Prelude.{◌≡◌, ◌≤◌, ◌++◌, ◌⊎◌, ℕ, Bool, true, false, List, [], ◌∷◌, Option, Some, None, is_some, length, Result, Ok, Err}
 use Rattle.prl_io.specs.Views.{FolderView}
 use Rattle.prl_calls.specs.declared.reading.Request.{Request}
 use Rattle.prl_calls.specs.declared.reading.Texts.{Texts}
@@ -7,6 +7,7 @@ use Rattle.prl_stages.specs.declared.faults.Fault.{Fault}
 use Rattle.prl_stages.specs.declared.stages.Stage.{Stage}
 use Rattle.prl_stages.specs.declared.stages.Stop.{Stop}
 use Rattle.prl_stages.specs.declared.stages.Stop.TheVariants as stops
+use Rattle.prl_stages.specs.declared.sizes.TheConstants.{MAX_BODIES}
 use Rattle.prl_arguments.specs.declared.arguments.Command.{Command}
 use Rattle.prl_stages.specs.declared.faults.InputFile.{InputFile}
 use Rattle.prl_stages.specs.declared.stages.Stage.TheVariants as stages
@@ -30,6 +31,11 @@ texts_give t listed node until = record {
 -- what is given to the stages that are asked
 abbrev pub given_of : Request → Given
 given_of r = texts_give r.texts r.listed r.node r.until
+
+-- there are no more bytes than the bodies may have, where they are looked at
+abbrev pub AreFewWhere : Bool → List ℕ → Type 0
+AreFewWhere true bytes = length bytes ≤ MAX_BODIES
+AreFewWhere false bytes = Unit {0}
 
 -- this is asked for the command, over a folder of which so much is known
 pub record IsRequestOf (told : Option Folder) (c : Command) (r : Request) : Type 0 where

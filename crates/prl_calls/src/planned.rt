@@ -1,45 +1,18 @@
-//! The stages from the clocks of a flat program to its plan: the task graph, its words, its encoded dates and its cells; and the
-//! horizon of a plan.
+//! The names of tasks, the encoded dates of a task graph, and the horizon of a plan.
 
 ghost use Rattle.std.specs.Prelude.{◌≡◌, ◌<◌, Some, IfOk, IfSome, length};
 ghost use Rattle.prl_dates.specs.Faults.{IsDateFault};
-ghost use Rattle.prl_graph.specs.TaskGraphs.{IsGraphOf};
 ghost use Rattle.prl_plan.specs.Jobs.{task_at};
-ghost use Rattle.prl_stages.specs.Vocabulary.{HasClocks, HasGraph, HasWords, HasDates, HasPlan};
+ghost use Rattle.prl_stages.specs.Vocabulary.{HasGraph, HasDates, HasPlan};
 ghost use Rattle.prl_stages.specs.Vocabulary.{dates_refusal, HasHorizon};
 ghost use Rattle.prl_calls.specs.Stops.{given_of, PassesAt};
 
 use crate::reading::Request;
 use prl_base::{Label, TaskNo};
-use prl_buffers::cells;
 use prl_dates::{DateFault, encode};
-use prl_flow::{Clocks, Flat};
-use prl_graph::graph;
-use prl_plan::{Dates, Horizon, Plan, TaskGraph, Words};
+use prl_plan::{Dates, Horizon, Plan, TaskGraph};
 use prl_stages::{DatesRefusal, Fault, Stage, Stop};
-use prl_words::words;
 use std::alloc::{AllocError, Global};
-
-/// The task graph of the flat program with its clocks.
-pub fn make_graph(
-    alloc: Global,
-    request: &Request,
-    flat: &Flat,
-    clocks: &Clocks,
-) -> Result<TaskGraph, Stop>
-    requires { HasClocks (given_of request.now) flat.now clocks.now.of }
-    ensures { PassesAt (given_of request.now) Stage.Graph (λ made. IsGraphOf flat.now clocks.now.of made × HasGraph (given_of request.now) made) result }
-{
-    Ok(graph(alloc, flat, clocks)?)
-}
-
-/// The dependency words of the graph's edges.
-pub fn make_words(alloc: Global, request: &Request, graph: &TaskGraph) -> Result<Words, Stop>
-    requires { HasGraph (given_of request.now) graph.now }
-    ensures { PassesAt (given_of request.now) Stage.Words (λ words. HasWords (given_of request.now) graph.now words.of) result }
-{
-    Ok(words(alloc, graph)?)
-}
 
 /// The name of a task.
 pub fn task_name(alloc: Global, graph: &TaskGraph, task: TaskNo) -> Result<Label, AllocError>
@@ -89,22 +62,6 @@ pub fn make_dates(alloc: Global, request: &Request, graph: &TaskGraph) -> Result
             None => Err(Stop::Memory),
         },
     }
-}
-
-/// The plan of the graph with its words and its dates.
-pub fn make_plan(
-    alloc: Global,
-    request: &Request,
-    made: (TaskGraph, Words),
-    dates: Dates,
-) -> Result<Plan, Stop>
-    requires words { HasWords (given_of request.now) made.0 made.1.of }
-    requires dates { HasDates (given_of request.now) made.0 dates }
-    ensures { PassesAt (given_of request.now) Stage.Cells (λ plan. (plan.graph ≡ made.0) × HasPlan (given_of request.now) plan) result }
-{
-    let cells = cells(alloc, &made.0, &made.1, &dates)?;
-    let (graph, words) = made;
-    Ok(Plan::new(graph, words, dates, cells))
 }
 
 /// The horizon of the plan up to the date of the command.

@@ -17,7 +17,7 @@ fn plan_for(alloc: Global, request: &Request) -> Result<Option<Plan>, AllocError
     requires { length request.now.texts.program.items ≤ MAX_PROGRAM }
     ensures { IfOk result (IsPlanOrNone (given_of request.now)) }
 {
-    match planned_program(alloc, request) {
+    match planned_program(alloc, request, false) {
         Ok(plan) => Ok(Some(plan)),
         Err(stop) => {
             let memory = stop.is_memory();

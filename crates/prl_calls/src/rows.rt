@@ -121,23 +121,8 @@ fn rows_of_text(
     )
 }
 
-/// The rows of main's inputs: of each a row for each date of its flow below the date of the command, or more.
-pub fn read_rows(
-    alloc: Global,
-    request: &Request,
-    flat: &Flat,
-    clocks: &Clocks,
-) -> Result<Sensors, Stop>
-    requires { HasClocks (given_of request.now) flat.now clocks.now.of }
-    ensures { PassesAt (given_of request.now) Stage.Rows (HasRows (given_of request.now) flat.now clocks.now.of) result }
-{
-    match rows_of_text(alloc, &request.texts.sensors, flat, clocks, request.until) {
-        Ok(sensors) => Ok(sensors),
-        Err(fault) => Err(rows_stop(fault)),
-    }
-}
-
-/// What is evaluated: the rows of main's inputs are read, and stand with the rest.
+/// What is evaluated: the rows of main's inputs are read, of each a row for each date of its flow below the date of the command, or
+/// more; and they stand with the rest.
 pub fn run_with(
     alloc: Global,
     request: &Request,
@@ -149,7 +134,13 @@ pub fn run_with(
         (λ run. (run.flat ≡ front.0) × (run.order ≡ front.1) × (run.clocks ≡ front.2) × (run.bodies ≡ bodies)
         × HasRows (given_of request.now) run.flat run.clocks.of run.sensors) result }
 {
-    match read_rows(alloc, request, &front.0, &front.2) {
+    match rows_of_text(
+        alloc,
+        &request.texts.sensors,
+        &front.0,
+        &front.2,
+        request.until,
+    ) {
         Ok(sensors) => {
             let (flat, order, clocks) = front;
             Ok(Run {
@@ -160,9 +151,9 @@ pub fn run_with(
                 sensors,
             })
         }
-        Err(stop) => {
+        Err(fault) => {
             drop((front, bodies));
-            Err(stop)
+            Err(rows_stop(fault))
         }
     }
 }

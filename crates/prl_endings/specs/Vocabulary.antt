@@ -2,4 +2,4 @@
 pub use Rattle.prl_endings.specs.Answers.{IsAnswer, IsAnswerOf, IsAnswerStop}
 pub use Rattle.prl_endings.specs.ErrorLines.{line_of}
 pub use Rattle.prl_endings.specs.Statuses.{IsTold, ran_of, status_of}
-pub use Rattle.prl_endings.specs.code.Modes.{HasFiles, RunsNothing}
+pub use Rattle.prl_endings.specs.code.Modes.{HasFiles}

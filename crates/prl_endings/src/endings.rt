@@ -1,7 +1,7 @@
 //! How a call of the command ends, and its status.
 
 ghost use Rattle.std.specs.Prelude.{◌≡◌};
-ghost use Rattle.prl_endings.specs.Statuses.{ran_of, status_of, status_of_stage, status_of_stop};
+ghost use Rattle.prl_endings.specs.Statuses.{ran_of, status_of, status_of_stage};
 
 use prl_exec::Stopped;
 use prl_plan::Plan;
@@ -50,17 +50,6 @@ fn status_of_stage(stage: Stage) -> u8
     }
 }
 
-/// The status where there is no text.
-fn status_of_stop(stop: &Stop) -> u8
-    ensures { result ≡ status_of_stop stop.now }
-{
-    match stop {
-        Stop::Unread(_) => 3,
-        Stop::Refused(stage, _) => status_of_stage(*stage),
-        Stop::Memory => 6,
-    }
-}
-
 /// The code of the status that tells an ending.
 fn code_of(ending: &Ending) -> u8
     ensures { result ≡ status_of ending.now }
@@ -70,15 +59,19 @@ fn code_of(ending: &Ending) -> u8
         Ending::Words => 2,
         Ending::Unwritten(_) => 4,
         Ending::Overrun(_, _) => 5,
-        Ending::Stopped(stop) => status_of_stop(stop),
+        Ending::Stopped(Stop::Unread(_)) => 3,
+        Ending::Stopped(Stop::Refused(stage, _)) => status_of_stage(*stage),
+        Ending::Stopped(Stop::Memory) => 6,
     }
 }
 
-/// What was run.
-fn ran_of(ending: Ending) -> Ran
-    ensures { result ≡ ran_of ending }
+/// The status that tells an ending, with what was run.
+pub fn status_of(ending: Ending) -> Status
+    ensures code { result.code ≡ status_of ending }
+    ensures ran { result.ran ≡ ran_of ending }
 {
-    match ending {
+    let code = code_of(&ending);
+    let ran = match ending {
         Ending::Done(ran) | Ending::Unwritten(ran) => ran,
         Ending::Overrun(plan, stopped) => {
             drop(plan);
@@ -89,17 +82,6 @@ fn ran_of(ending: Ending) -> Ran
             drop(stop);
             Ran::Not
         }
-    }
-}
-
-/// The status that tells an ending, with what was run.
-pub fn status_of(ending: Ending) -> Status
-    ensures code { result.code ≡ status_of ending }
-    ensures ran { result.ran ≡ ran_of ending }
-{
-    let code = code_of(&ending);
-    Status {
-        code,
-        ran: ran_of(ending),
-    }
+    };
+    Status { code, ran }
 }

@@ -2,7 +2,7 @@
 
 ghost use Rattle.std.specs.Prelude.{◌≡◌, [], unwrap_or};
 ghost use Rattle.std.specs.Option.{option_map};
-ghost use Rattle.prl_endings.specs.ErrorLines.{file_name, grammar_line, types_line, limit_line, bodies_line, sensors_line, clocks_line, graph_line, dates_line, schedule_line, make_line, table_line, cores_line, line_of_fault, line_of_stop, line_of, overrun_line};
+ghost use Rattle.prl_endings.specs.ErrorLines.{file_name, grammar_line, types_line, limit_line, bodies_line, sensors_line, clocks_line, graph_line, dates_line, schedule_line, make_line, table_line, cores_line, line_of_fault, line_of, overrun_line};
 ghost use Rattle.prl_plan.specs.Jobs.{task_at};
 ghost use Rattle.prl_endings.specs.code.Pieces.{line_text};
 ghost use Rattle.prl_endings.specs.Statuses.{IsTold};
@@ -271,17 +271,6 @@ fn fault_line<'a>(command: &'a Option<Command>, fault: &'a Fault) -> Line<'a>
     }
 }
 
-/// The line that tells why there is no text.
-fn stop_line<'a>(command: &'a Option<Command>, stop: &'a Stop) -> Line<'a>
-    ensures { line_text result ≡ line_of_stop command.now stop.now }
-{
-    match stop {
-        Stop::Unread(part) => Line::named(b"read fault ", file_name(command, *part)),
-        Stop::Refused(_, fault) => fault_line(command, fault),
-        Stop::Memory => Line::plain(b"memory"),
-    }
-}
-
 /// The name of a task of the plan.
 fn task_name(plan: &Plan, task: TaskNo) -> &[u8]
     ensures { result.now ≡ (task_at plan.now.graph task.0).name }
@@ -313,7 +302,11 @@ fn ending_line<'a>(command: &'a Option<Command>, ending: &'a Ending) -> Option<L
     match ending {
         Ending::Done(_) => None,
         Ending::Words => Some(Line::plain(b"usage: prelude MODE --OPTION VALUE ..")),
-        Ending::Stopped(stop) => Some(stop_line(command, stop)),
+        Ending::Stopped(Stop::Unread(part)) => {
+            Some(Line::named(b"read fault ", file_name(command, *part)))
+        }
+        Ending::Stopped(Stop::Refused(_, fault)) => Some(fault_line(command, fault)),
+        Ending::Stopped(Stop::Memory) => Some(Line::plain(b"memory")),
         Ending::Unwritten(_) => Some(Line::plain(b"write fault")),
         Ending::Overrun(plan, stopped) => {
             Some(overrun_line(task_name(plan, stopped.task), stopped))

@@ -5,7 +5,7 @@ ghost use Rattle.prl_arguments.specs.Arguments.{AreInRange};
 ghost use Rattle.prl_calls.specs.Stops.{given_of, Passes};
 ghost use Rattle.prl_stages.specs.Vocabulary.{IsMeant, stages_after, IsText};
 ghost use Rattle.prl_endings.specs.Answers.{IsAnswer, IsAnswerOf, IsAnswerStop};
-ghost use Rattle.prl_endings.specs.code.Modes.{HasFiles, KeepsTexts, RunsNothing};
+ghost use Rattle.prl_endings.specs.code.Modes.{HasFiles, KeepsTexts};
 
 use crate::generated::generated_text;
 use prl_arguments::{Command, Mode};
@@ -41,20 +41,6 @@ fn kept_text(alloc: Global, mode: Mode, request: &Request) -> Result<Vec<u8>, St
     }
 }
 
-/// The text of a mode that runs nothing.
-fn mode_text(alloc: Global, mode: Mode, request: Request) -> Result<Vec<u8>, Stop>
-    requires mode { RunsNothing mode }
-    requires program { length request.texts.program.items ≤ MAX_PROGRAM }
-    requires bodies { length request.texts.bodies.items ≤ MAX_BODIES }
-    requires until { request.until < 2 ^ 31 }
-    ensures { Passes (given_of request) (stages_after mode request.named) (λ text. IsText (given_of request) mode text.items) result }
-{
-    match mode {
-        Mode::Flows => flows_text(alloc, request),
-        mode => kept_text(alloc, mode, &request),
-    }
-}
-
 /// The text that a command with files means, with what it has run, by one thread.
 fn requested(alloc: Global, command: &Command, request: Request) -> Result<(Vec<u8>, Ran), Stop>
     requires mode { HasFiles command.now.mode }
@@ -66,25 +52,9 @@ fn requested(alloc: Global, command: &Command, request: Request) -> Result<(Vec<
     match command.mode {
         Mode::Run => run_text(alloc, &request, command.clock),
         Mode::Cycle => cycle_text(alloc, &request),
-        mode => Ok((mode_text(alloc, mode, request)?, Ran::Not)),
+        Mode::Flows => Ok((flows_text(alloc, request)?, Ran::Not)),
+        mode => Ok((kept_text(alloc, mode, &request)?, Ran::Not)),
     }
-}
-
-/// The text that a command with files means, with what it has run.
-fn answer_files<F: Files>(
-    alloc: Global,
-    files: &mut F,
-    command: &Command,
-) -> Result<(Vec<u8>, Ran), Stop>
-    requires mode { HasFiles command.now.mode }
-    requires until { command.now.until < 2 ^ 31 }
-    ensures text { IfOk result (λ made. IsAnswer (F.seen files.old).folder command.now made.0.items made.1) }
-    ensures stop { IfErr result (IsAnswerStop (F.seen files.old) (F.seen files.new) command.now) }
-    ensures failed { IfOk result (λ _. (F.seen files.new).failed ≡ (F.seen files.old).failed) }
-    ensures kept { (F.seen files.new).folder ≡ (F.seen files.old).folder }
-{
-    let request = read_request(alloc, files, command)?;
-    requested(alloc, command, request)
 }
 
 /// The text that the command asks for: its files are read, or its texts are generated, and its stages give the text, with
@@ -101,10 +71,10 @@ pub fn answer<F: Files>(
     ensures kept { (F.seen files.new).folder ≡ (F.seen files.old).folder }
 {
     if command.mode == Mode::Generate {
-        generated_text(alloc, command)
-    } else {
-        answer_files(alloc, files, command)
+        return generated_text(alloc, command);
     }
+    let request = read_request(alloc, files, command)?;
+    requested(alloc, command, request)
 }
 
 /// What a command of mode `run` with several workers comes to: its files are read, and its stages give what is run. It may

@@ -6,12 +6,12 @@ ghost use Rattle.prl_flow.specs.declared.programs.OutFlow.{OutFlow as AnyFlow};
 ghost use Rattle.prl_replay.specs.Shown.{AreShown};
 ghost use Rattle.prl_rule.specs.declared.views.Constants.{Constants};
 ghost use Rattle.prl_stages.specs.Given.{generated};
-ghost use Rattle.prl_stages.specs.Ran.{IsSummary, sum_of, summary_line, with_value, with_values};
+ghost use Rattle.prl_stages.specs.Ran.{IsSummary, sum_of, with_values};
 ghost use Rattle.prl_executions.specs.Ready.{IsReady};
 ghost use Rattle.prl_executions.specs.code.Generated.{IsReplayed};
 ghost use Rattle.prl_calls.specs.Stops.{given_of};
 
-use crate::lines::push_summary;
+use crate::lines::summary;
 use crate::ready::Ready;
 use crate::running::closed_alone;
 use prl_arguments::Gate;
@@ -83,23 +83,15 @@ fn replayed(alloc: Global, request: &Request, ready: &Ready) -> Result<Trace, Al
     }
 }
 
-/// A sum with one value more; no memory is there for a sum past 128 bits.
-fn with_value(total: i128, value: Value) -> Result<i128, AllocError>
-    ensures { IfOk result (λ sum. sum ≡ with_value total value) }
-{
-    match value {
-        Value::Int(number) => total.checked_add(i128::from(number)).ok_or(AllocError),
-        Value::Bool(_) => Ok(total),
-    }
-}
-
-/// A sum with more values.
+/// A sum with more values; no memory is there for a sum past 128 bits.
 fn with_values(total: i128, values: &[Value]) -> Result<i128, AllocError>
     ensures { IfOk result (λ sum. sum ≡ with_values total values.now) }
 {
     let mut sum = total;
     for value in values {
-        sum = with_value(sum, *value)?;
+        if let Value::Int(number) = value {
+            sum = sum.checked_add(i128::from(*number)).ok_or(AllocError)?;
+        }
     }
     Ok(sum)
 }
@@ -113,24 +105,6 @@ fn sum_of(outs: &[OutFlow]) -> Result<i128, AllocError>
         sum = with_values(sum, out.values.as_slice())?;
     }
     Ok(sum)
-}
-
-/// The line of a summary: a number, a size, how many tasks, edges, jobs and reads there are, and a sum.
-fn summary(
-    alloc: Global,
-    seed: u64,
-    size: u32,
-    plan: &Plan,
-    jobs: u64,
-    reads: u64,
-    sum: i128,
-) -> Result<Vec<u8>, AllocError>
-    ensures { IfOk result (λ text. text.items ≡
-        summary_line seed size (length plan.now.graph.tasks) (length plan.now.graph.edges) jobs reads sum) }
-{
-    let mut text = Vec::new(alloc);
-    push_summary(&mut text, seed, size, plan, jobs, reads, sum)?;
-    Ok(text)
 }
 
 /// The sum of all values that a closed board shows.

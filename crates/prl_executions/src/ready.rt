@@ -76,18 +76,6 @@ fn plan_of_replay(
     Ok((bodies, (plan, horizon)))
 }
 
-/// What a run needs, of what is evaluated and of a plan with its horizon.
-fn ready_of(run: Run, plan: (Plan, Horizon)) -> Ready
-    ensures { result ≡ record { plan = plan.0; bodies = run.bodies; sensors = run.sensors; horizon = plan.1 } }
-{
-    Ready {
-        plan: plan.0,
-        bodies: run.bodies,
-        sensors: run.sensors,
-        horizon: plan.1,
-    }
-}
-
 /// What a run needs, after the clocks of the flows.
 fn ready_with(
     alloc: Global,
@@ -106,7 +94,12 @@ fn ready_with(
     let (bodies, plan) = plan_of_replay(alloc, request, typed, &front.0, &front.2)?;
     let run = run_with(alloc, request, front, bodies)?;
     program_is_ready(request, typed, &run, &plan.0, plan.1);
-    Ok(ready_of(run, plan))
+    Ok(Ready {
+        plan: plan.0,
+        bodies: run.bodies,
+        sensors: run.sensors,
+        horizon: plan.1,
+    })
 }
 
 /// What a run needs: the stages of the modes that run tasks.

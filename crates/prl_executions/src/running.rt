@@ -105,37 +105,6 @@ pub enum Outcome {
     Overrun(Plan, Stopped),
 }
 
-/// What a run of several workers has come to where all jobs have ended.
-fn ended_outcome(
-    alloc: Global,
-    request: &Request,
-    ready: &Ready,
-    gate: Gate,
-    closed: Closed,
-) -> Result<Outcome, AllocError>
-    requires ready { IsReady (given_of request.now) ready.now }
-    requires known { closed.constants ≡ Some (known ready.now.plan ready.now.horizon gate ready.now.sensors ready.now.bodies) }
-    requires ended { HasEnded closed }
-    ensures { IfOk result (IsOutcome (given_of request.now) gate) }
-{
-    let text = text_of(alloc, request, ready, gate, &closed)?;
-    Ok(Outcome::Ended(text, Ran::Ended(closed)))
-}
-
-/// What a run of several workers has come to that was overrun.
-fn overrun_outcome(ready: Ready, stopped: Stopped) -> Outcome
-    ensures { result ≡ Outcome.Overrun ready.plan stopped }
-{
-    let Ready {
-        plan,
-        bodies,
-        sensors,
-        ..
-    } = ready;
-    drop((bodies, sensors));
-    Outcome::Overrun(plan, stopped)
-}
-
 /// Mode `run` with several workers, after its stages. It may wait.
 fn outcome_of<R: Threads + Wait + Sync, P: Probe>(
     rt: &R,
@@ -162,15 +131,11 @@ fn outcome_of<R: Threads + Wait + Sync, P: Probe>(
         probe,
     ) {
         Ok(closed) => {
-            let outcome = ended_outcome(alloc, request, &ready, gate, closed);
-            drop(ready);
-            outcome
+            let text = text_of(alloc, request, &ready, gate, &closed)?;
+            Ok(Outcome::Ended(text, Ran::Ended(closed)))
         }
-        Err(RunFault::Overrun(stopped)) => Ok(overrun_outcome(ready, stopped)),
-        Err(RunFault::Memory) => {
-            drop(ready);
-            Err(AllocError)
-        }
+        Err(RunFault::Overrun(stopped)) => Ok(Outcome::Overrun(ready.plan, stopped)),
+        Err(RunFault::Memory) => Err(AllocError),
     }
 }
 

@@ -72,7 +72,7 @@ fn told_table(alloc: Global, request: &Request, plan: &Plan) -> Result<Table, St
 }
 
 /// One thread runs all jobs by the table, and its steps are counted.
-fn driven_counted<L: Ledger>(
+fn driven<L: Ledger>(
     alloc: Global,
     ready: &Ready,
     table: &Checked<'_>,
@@ -99,19 +99,6 @@ fn driven_counted<L: Ledger>(
     )
 }
 
-/// One thread runs all jobs by the table.
-fn driven(alloc: Global, ready: &Ready, table: &Checked<'_>) -> Result<Closed, AllocError>
-    requires horizon { IsHorizon ready.now.plan ready.now.horizon }
-    requires bodies { HaveTaskBodies ready.now.plan.graph ready.now.bodies }
-    requires rows { HaveTypedRows ready.now.plan.graph ready.now.horizon.until ready.now.sensors }
-    requires table { table.now.plan ≡ ready.now.plan }
-    ensures known { IfOk result (λ closed. closed.constants ≡ Some (known ready.now.plan ready.now.horizon gates.Gated ready.now.sensors ready.now.bodies)) }
-    ensures ended { IfOk result HasEnded }
-{
-    let blank = Blank::new(1);
-    driven_counted::<Brand>(alloc, ready, table, blank)
-}
-
 /// The text of the actuators of a run by the table, and the board.
 fn driven_text(
     alloc: Global,
@@ -123,7 +110,8 @@ fn driven_text(
     requires table { table.now.plan ≡ ready.now.plan }
     ensures { IfOk result (λ made. IsTextOf (given_of request.now) ready.now gates.Gated made.0.items made.1) }
 {
-    let closed = driven(alloc, ready, table)?;
+    let blank = Blank::new(1);
+    let closed = driven::<Brand>(alloc, ready, table, blank)?;
     let text = text_of(alloc, request, ready, Gate::Gated, &closed)?;
     Ok((text, Ran::Ended(closed)))
 }

@@ -1,15 +1,15 @@
 //! The texts of modes that run no task: of the program (`print`), of its plan (`plan`, `check`), and of what is made of it
 //! (`schedule`, `edf`, `table`).
 
-ghost use Rattle.std.specs.Prelude.{◌≡◌, ◌≤◌, IfOk, length};
-ghost use Rattle.prl_stages.specs.Vocabulary.{HasPlan, accepted_line, HasHorizon, stages_after};
+ghost use Rattle.std.specs.Prelude.{◌≡◌, ◌≤◌, length};
+ghost use Rattle.prl_stages.specs.Vocabulary.{HasPlan, HasHorizon, stages_after};
 ghost use Rattle.prl_stages.specs.Vocabulary.{IsText, make_refusal, HasMadeTable};
 ghost use Rattle.prl_tables.specs.Tables.{IsGood};
 ghost use Rattle.prl_calls.specs.Stops.{given_of, Passes, PassesAt};
 
-use crate::lines::push_accepted;
+use crate::lines::accepted;
 use prl_arguments::Mode;
-use prl_calls::{Request, checked_plan, make_horizon, planned_program, read_program};
+use prl_calls::{Request, make_horizon, planned_program, read_program};
 use prl_edf::{analyse, verdict_text};
 use prl_plan::{Horizon, Plan};
 use prl_plantext::plan_text;
@@ -17,7 +17,7 @@ use prl_print::print;
 use prl_schedules::{dispatch, schedule_text};
 use prl_stages::{Fault, MAX_BODIES, MAX_PROGRAM, MakeRefusal, Stage, Stop};
 use prl_table::{MakeFault, Table, make, table_text};
-use std::alloc::{AllocError, Global};
+use std::alloc::Global;
 
 /// Mode `print`.
 pub fn print_text(alloc: Global, request: &Request) -> Result<Vec<u8>, Stop>
@@ -33,17 +33,8 @@ pub fn planned_text(alloc: Global, request: &Request) -> Result<Vec<u8>, Stop>
     requires program { length request.now.texts.program.items ≤ MAX_PROGRAM }
     ensures { Passes (given_of request.now) (stages_after Mode.Plan request.now.named) (λ text. IsText (given_of request.now) Mode.Plan text.items) result }
 {
-    let plan = planned_program(alloc, request)?;
+    let plan = planned_program(alloc, request, false)?;
     Ok(plan_text(alloc, &plan)?)
-}
-
-/// The line that says how large the plan is.
-fn accepted(alloc: Global, plan: &Plan) -> Result<Vec<u8>, AllocError>
-    ensures { IfOk result (λ text. text.items ≡ accepted_line plan.now) }
-{
-    let mut text = Vec::new(alloc);
-    push_accepted(&mut text, plan)?;
-    Ok(text)
 }
 
 /// Mode `check`.
@@ -52,7 +43,7 @@ pub fn accepted_text(alloc: Global, request: &Request) -> Result<Vec<u8>, Stop>
     requires bodies { length request.now.texts.bodies.items ≤ MAX_BODIES }
     ensures { Passes (given_of request.now) (stages_after Mode.Check request.now.named) (λ text. IsText (given_of request.now) Mode.Check text.items) result }
 {
-    let plan = checked_plan(alloc, request)?;
+    let plan = planned_program(alloc, request, request.named)?;
     Ok(accepted(alloc, &plan)?)
 }
 
@@ -61,23 +52,9 @@ fn plan_and_horizon(alloc: Global, request: &Request) -> Result<(Plan, Horizon),
     requires program { length request.now.texts.program.items ≤ MAX_PROGRAM }
     ensures { Passes (given_of request.now) (stages_after Mode.Schedule request.now.named) (λ made. HasHorizon (given_of request.now) made.0 made.1) result }
 {
-    let plan = planned_program(alloc, request)?;
+    let plan = planned_program(alloc, request, false)?;
     let horizon = make_horizon(request, &plan)?;
     Ok((plan, horizon))
-}
-
-/// The text of the dispatched list.
-fn dispatched(
-    alloc: Global,
-    request: &Request,
-    plan: &Plan,
-    horizon: Horizon,
-) -> Result<Vec<u8>, AllocError>
-    requires { HasHorizon (given_of request.now) plan.now horizon }
-    ensures { IfOk result (λ text. IsText (given_of request.now) Mode.Schedule text.items) }
-{
-    let events = dispatch(alloc, plan, horizon)?;
-    schedule_text(alloc, plan, &events)
 }
 
 /// Mode `schedule`.
@@ -86,21 +63,8 @@ pub fn scheduled_text(alloc: Global, request: &Request) -> Result<Vec<u8>, Stop>
     ensures { Passes (given_of request.now) (stages_after Mode.Schedule request.now.named) (λ text. IsText (given_of request.now) Mode.Schedule text.items) result }
 {
     let (plan, horizon) = plan_and_horizon(alloc, request)?;
-    Ok(dispatched(alloc, request, &plan, horizon)?)
-}
-
-/// The line of what the analysis of the plan finds.
-fn analysed(
-    alloc: Global,
-    request: &Request,
-    plan: &Plan,
-    horizon: Horizon,
-) -> Result<Vec<u8>, AllocError>
-    requires { HasHorizon (given_of request.now) plan.now horizon }
-    ensures { IfOk result (λ text. IsText (given_of request.now) Mode.Edf text.items) }
-{
-    let verdict = analyse(alloc, plan, horizon)?;
-    verdict_text(alloc, plan, horizon, &verdict)
+    let events = dispatch(alloc, &plan, horizon)?;
+    Ok(schedule_text(alloc, &plan, &events)?)
 }
 
 /// Mode `edf`.
@@ -109,7 +73,8 @@ pub fn edf_text(alloc: Global, request: &Request) -> Result<Vec<u8>, Stop>
     ensures { Passes (given_of request.now) (stages_after Mode.Edf request.now.named) (λ text. IsText (given_of request.now) Mode.Edf text.items) result }
 {
     let (plan, horizon) = plan_and_horizon(alloc, request)?;
-    Ok(analysed(alloc, request, &plan, horizon)?)
+    let verdict = analyse(alloc, &plan, horizon)?;
+    Ok(verdict_text(alloc, &plan, horizon, &verdict)?)
 }
 
 /// The refusal that a fault of making is; None is want of memory.
@@ -147,7 +112,7 @@ pub fn made_text(alloc: Global, request: &Request) -> Result<Vec<u8>, Stop>
     requires program { length request.now.texts.program.items ≤ MAX_PROGRAM }
     ensures { Passes (given_of request.now) (stages_after Mode.Table request.now.named) (λ text. IsText (given_of request.now) Mode.Table text.items) result }
 {
-    let plan = planned_program(alloc, request)?;
+    let plan = planned_program(alloc, request, false)?;
     let table = make_table(alloc, request, &plan)?;
     Ok(table_text(alloc, &plan, &table)?)
 }

@@ -1,3 +1,4 @@
+mod Flats
 mod Lefts
 mod Lines
 mod Named

@@ -20,7 +20,7 @@ use Rattle.prl_sentences.specs.Kinds.{IsLineOf, rest_of}
 use Rattle.prl_explain.specs.declared.texts.Texts.{Texts}
 use Rattle.prl_explain.specs.Details.{IsPlanFrom}
 use Rattle.prl_explain.specs.Explanations.{IsByPlan, IsCountedAt, IsDetail, IsExplanation, IsFront, IsOfKind, program_in}
-use Rattle.prl_calls.specs.ProgramTexts.{IsFlatOf, IsGraphIn}
+use Rattle.prl_explain.specs.ProgramTexts.{IsFlatOf, IsGraphIn}
 use Rattle.prl_explain.specs.Texts.{AreNamed, Folder, text_in}
 use Rattle.prl_explain.specs.Ways.{IsChainTold, IsCircleTold, IsClashTold, IsCycleTold, IsDated, IsJobNamed}
 

@@ -8,6 +8,7 @@
 mod details;
 mod explanations;
 mod placings;
+mod program_texts;
 mod texts;
 mod told;
 mod ways;

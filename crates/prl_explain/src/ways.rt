@@ -2,15 +2,15 @@
 
 ghost use Rattle.std.specs.Prelude.{◌≡◌, ◌<◌, ◌^◌, IfOk, IfSome, Some, length};
 ghost use Rattle.std.specs.Option.{option_copied, option_map};
-ghost use Rattle.prl_calls.specs.ProgramTexts.{IsFlatOf, IsGraphIn};
+ghost use Rattle.prl_explain.specs.ProgramTexts.{IsFlatOf, IsGraphIn};
 ghost use Rattle.prl_explain.specs.Ways.{IsChainTold, IsCircleTold, IsClashTold, IsCycleTold, IsDated, IsJobNamed};
 ghost use Rattle.prl_plan.specs.Jobs.{task_at};
 ghost use Rattle.prl_sentences.specs.Sentences.{word_at};
 ghost use Rattle.prl_ways.specs.Chains.{job_of};
 ghost use Rattle.prl_base.specs.Decimals.{decimal_of};
 
+use crate::program_texts::{flat_of_text, graph_of_text};
 use prl_base::{Label, TaskNo, decimal_of};
-use prl_calls::{flat_of_text, graph_of_text};
 use prl_clashes::{clash_at, push_clash};
 use prl_flow::Flat;
 use prl_plan::TaskGraph;

@@ -2,17 +2,13 @@
 use Rattle.prl_arguments.specs.declared.arguments.Mode.{Mode}
 use Rattle.prl_arguments.specs.declared.arguments.Mode.TheVariants as modes
 
--- the mode runs nothing
-abbrev pub RunsNothing : Mode → Type 0
-RunsNothing modes.Run = ⊥
-RunsNothing modes.Generate = ⊥
-RunsNothing modes.Cycle = ⊥
-RunsNothing mode = Unit {0}
-
 -- the mode runs nothing, and keeps the texts of its files to its end
 abbrev pub KeepsTexts : Mode → Type 0
 KeepsTexts modes.Flows = ⊥
-KeepsTexts mode = RunsNothing mode
+KeepsTexts modes.Run = ⊥
+KeepsTexts modes.Generate = ⊥
+KeepsTexts modes.Cycle = ⊥
+KeepsTexts mode = Unit {0}
 
 -- the texts of the mode are those of files
 abbrev pub HasFiles : Mode → Type 0

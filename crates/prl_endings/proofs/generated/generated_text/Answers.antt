@@ -1,4 +1,4 @@
-use Rattle.prl_base.proofs.Standard.{refl, err_from_is_err_and}
+use Rattle.prl_base.proofs.Standard.{err_from_is_err_and}
 use Rattle.prl_endings.proofs.Answered.{generated_answered, generated_stop}
 use Rattle.prl_endings.proofs.generated.generated_text.Goals as goal
 

@@ -1,8 +1,40 @@
+use Rattle.prl_base.proofs.Standard.{Option, rules, err_from_is_err_and}
 use Rattle.prl_stages.specs.Given.{Folder}
-use Rattle.std.proofs.Common.{Option}
-use Rattle.prl_endings.specs.Answers.{IsAnswer}
-use Rattle.prl_calls.proofs.Stops.{ok_map}
+use Rattle.prl_stages.specs.Vocabulary.{stages_after, IsMeant}
+use Rattle.prl_endings.specs.Answers.{IsAnswer, IsAnswerStop}
+use Rattle.prl_calls.specs.Stops.{given_of}
+use Rattle.prl_calls.proofs.Stops.{err_passed, ok_map, ok_passed}
+use Rattle.prl_endings.specs.code.Modes.{HasFiles}
+use Rattle.prl_endings.proofs.Answered.{answered, answer_stop, files_stop}
 use Rattle.prl_endings.proofs.pipeline.answer.Goals as goal
+
+pub returns-in_err-request-clause-stop : goal.returns-in_err-request-clause-stop
+returns-in_err-request-clause-stop g c =
+    let has : HasFiles c.args.command.now.mode = search rules in
+    let p = err_from_is_err_and c.from_residual.result c.from_residual.ensures.1 in
+    rw (p.1, p.2) (files_stop (g.F.Files.seen c.args.files.now) (g.F.Files.seen c.read_request.new.files) c.args.command.now c.in_err-request.field-0.0 has c.in_err-request.ensures.stop)
+
+pub returns-clause-text : goal.returns-clause-text
+returns-clause-text g c =
+    let request = c.in_ok-request.request in
+    let told = (g.F.Files.seen c.args.files.now).folder in
+    let command = c.args.command.now in
+    let has : HasFiles command.mode = search rules in
+    ok_passed (given_of request) (stages_after command.mode request.named) (λ made. IsMeant (given_of request) command made.0.items made.1)
+    (λ made. IsAnswer told command made.0.items made.1)
+    (λ made is hold. answered told command request has c.in_ok-request.ensures.request made.0.items made.1 is hold)
+    c.requested.result c.requested.ensures
+
+pub returns-clause-stop : goal.returns-clause-stop
+returns-clause-stop g c =
+    let request = c.in_ok-request.request in
+    let old = g.F.Files.seen c.args.files.now in
+    let new = g.F.Files.seen c.read_request.new.files in
+    let command = c.args.command.now in
+    let has : HasFiles command.mode = search rules in
+    err_passed (given_of request) (stages_after command.mode request.named) (λ made. IsMeant (given_of request) command made.0.items made.1) (IsAnswerStop old new command)
+    (λ stop at. answer_stop old new command request stop has c.in_ok-request.ensures.request c.in_ok-request.ensures.failed at)
+    c.requested.result c.requested.ensures
 
 pub returns-then-eq-clause-text : goal.returns-then-eq-clause-text
 returns-then-eq-clause-text g c =

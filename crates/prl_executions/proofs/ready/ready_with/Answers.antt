@@ -40,4 +40,4 @@ returns-in_err-run c =
 pub returns : goal.returns
 returns c =
     let hold = both_hold (given_of c.args.request.now) first (stages.Rows ∷ []) c.in_ok-bodies.ensures.1 (c.in_ok-run.ensures.1, tt) in
-    (rw c.ready_of.ensures c.program_is_ready.ensures, hold)
+    (c.program_is_ready.ensures, hold)

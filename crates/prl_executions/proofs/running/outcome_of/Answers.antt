@@ -10,5 +10,5 @@ run_threads-requires-clause-horizon g c κs outlives = horizon_there (given_of c
 pub returns-in-Err-Overrun : goal.returns-in-Err-Overrun
 returns-in-Err-Overrun g c =
     let fault = subst (IsRunFault (known_of c.args.ready c.args.gate)) c.in-Err-Overrun.field-0-is c.in-Err-Overrun.ensures.fault in
-    rw (c.overrun_outcome.ensures, c.in-Err-Overrun.field-0-is)
+    rw c.in-Err-Overrun.field-0-is
     (overrun_is (given_of c.args.request.now) c.args.ready c.requires.ready c.args.gate c.in-Err-Overrun.stopped fault)

@@ -2,13 +2,13 @@
 
 ghost use Rattle.std.specs.Prelude.{◌≡◌, ◌<◌, ◌^◌, Ok, IfOk, IfSome, length};
 ghost use Rattle.std.specs.Option.{option_copied};
-ghost use Rattle.prl_ast.specs.Vocabulary.{IsInRange, program_tree};
+ghost use Rattle.prl_ast.specs.Trees.{program_tree};
 ghost use Rattle.prl_syntax.specs.Parsing.{IsParsed};
 ghost use Rattle.prl_types.specs.Typing.{IsTyped};
 ghost use Rattle.prl_clock.specs.Outcomes.{AreOnlyClocks};
 ghost use Rattle.prl_flow.specs.Uses.{HasNoCycle};
 ghost use Rattle.prl_graph.specs.TaskGraphs.{IsGraphOf};
-ghost use Rattle.prl_calls.specs.ProgramTexts.{IsFlatOf, IsGraphIn};
+ghost use Rattle.prl_explain.specs.ProgramTexts.{IsFlatOf, IsGraphIn};
 
 use prl_ast::Program;
 use prl_base::Label;
@@ -53,17 +53,9 @@ fn expanded(
     }
 }
 
-/// The program of a text is in range.
-fn parsed_in_range(text: &[u8], program: &Program)
-    requires { IsParsed text.now (Ok (program_tree program.now)) }
-    ensures { IsInRange (program_tree program.now) }
-{
-    programs_are_in_range();
-}
-
 /// The flat program of a program, where main is the node of this name, or the last one where none is given; None where it has
 /// none.
-pub fn flat_of_text(
+pub(crate) fn flat_of_text(
     alloc: Global,
     text: &[u8],
     node: Option<&Label>,
@@ -74,7 +66,7 @@ pub fn flat_of_text(
     let Some(program) = program_of(alloc, text)? else {
         return Ok(None);
     };
-    parsed_in_range(text, &program);
+    programs_are_in_range();
     match check_names_types(alloc, &program, node) {
         Ok(typed) => expanded(alloc, text, node, &typed),
         Err(TypeFault::Memory) => Err(AllocError),
@@ -84,8 +76,7 @@ pub fn flat_of_text(
 
 /// The clocks of a flat program without a cycle; None where it has none.
 fn clocks_of(alloc: Global, flat: &Flat) -> Result<Option<Clocks>, AllocError>
-    ensures clocks { IfOk result (λ found. IfSome found (λ clocks. AreOnlyClocks flat.now clocks.of)) }
-    ensures acyclic { IfOk result (λ found. IfSome found (λ clocks. HasNoCycle flat.now)) }
+    ensures { IfOk result (λ found. IfSome found (λ clocks. AreOnlyClocks flat.now clocks.of × HasNoCycle flat.now)) }
 {
     match causal(alloc, flat) {
         Ok(_) => match clocks(alloc, flat) {
@@ -114,7 +105,7 @@ fn graph_in(alloc: Global, flat: &Flat, clocks: &Clocks) -> Result<Option<TaskGr
 
 /// The task graph of a program, where main is the node of this name, or the last one where none is given; None where it has none.
 #[tactic(auto, using(crate::proofs::Flats::graph_is))]
-pub fn graph_of_text(
+pub(crate) fn graph_of_text(
     alloc: Global,
     text: &[u8],
     node: Option<&Label>,
