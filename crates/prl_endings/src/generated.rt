@@ -1,18 +1,15 @@
 //! Mode `generate`: a program is made from a number and a size; the dispatched list of its plan is replayed, its tasks run on a
 //! board, and a line sums up both.
 
-ghost use Rattle.std.specs.Prelude.{◌≡◌, ◌≤◌, ◌++◌, Option, IfOk, IfErr, length};
+ghost use Rattle.std.specs.Prelude.{◌≡◌, Option, IfOk, IfErr};
 ghost use Rattle.prl_arguments.specs.Arguments.{AreInRange};
 ghost use Rattle.prl_io.specs.Views.{FolderView};
-ghost use Rattle.prl_calls.specs.Stops.{given_of, AllHold};
-ghost use Rattle.prl_executions.specs.Ready.{IsReady};
-ghost use Rattle.prl_stages.specs.Vocabulary.{Folder, generated, front, ran};
+ghost use Rattle.prl_stages.specs.Vocabulary.{Folder};
 ghost use Rattle.prl_endings.specs.Answers.{IsAnswer, IsAnswerStop};
 
 use prl_arguments::{Command, Mode};
-use prl_calls::Request;
-use prl_executions::{Ready, generated_request, make_ready, summary_of};
-use prl_stages::{MAX_BODIES, MAX_PROGRAM, Ran, Stop};
+use prl_executions::{generated_request, make_ready, summary_of};
+use prl_stages::{Ran, Stop};
 use std::alloc::Global;
 
 /// Mode `generate`. No file is read.

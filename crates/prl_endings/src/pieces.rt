@@ -2,7 +2,6 @@
 
 ghost use Rattle.std.specs.Prelude.{◌≡◌, ◌<◌, ◌≤◌, ◌++◌, OnErr};
 ghost use Rattle.std.specs.Fmt.{signed_decimal};
-ghost use Rattle.std.specs.List.{flat_map};
 ghost use Rattle.prl_base.specs.Texts.{fraction_text};
 ghost use Rattle.prl_io.specs.Growth.{IsWritten};
 ghost use Rattle.prl_endings.specs.code.Pieces.{line_text, piece_text};

@@ -1,22 +1,20 @@
 //! Mode `flows`: the values of all flows, and the text of main's outputs.
 
-ghost use Rattle.std.specs.Prelude.{◌≡◌, ◌<◌, ◌≤◌, ◌^◌, IfOk, IfErr, [], ◌∷◌, length, map};
+ghost use Rattle.std.specs.Prelude.{◌≡◌, ◌<◌, ◌≤◌, ◌^◌, IfOk, [], ◌∷◌, length, map};
 ghost use Rattle.std.specs.Vec.{vec_items};
 ghost use Rattle.prl_ast.specs.Trees.{program_tree};
 ghost use Rattle.prl_body.specs.Vocabulary.{body_tree, HaveBodiesOf};
 ghost use Rattle.prl_expand.specs.Expanding.{IsExpanded};
-ghost use Rattle.prl_evaluation.specs.Evaluations.{AreSolution};
-ghost use Rattle.prl_flow.specs.Vocabulary.{HaveBodies, IsOrder};
+ghost use Rattle.prl_flow.specs.Vocabulary.{IsOrder};
 ghost use Rattle.prl_names.specs.Uses.{used_imports};
 ghost use Rattle.prl_replay.specs.Outputs.{out_flow, out_flows};
 ghost use Rattle.prl_types.specs.Typing.{IsTyped};
 ghost use Rattle.prl_stages.specs.Vocabulary.{Given, AreBodies, IsMain, IsProgram, HasRows};
 ghost use Rattle.prl_stages.specs.Vocabulary.{IsText, stages_after};
 ghost use Rattle.prl_calls.specs.Stops.{given_of, Passes, PassesAt};
-ghost use Rattle.prl_executions.specs.code.Flows.{HasRowsUntil, IsEvaluated, flow_stages};
+ghost use Rattle.prl_executions.specs.code.Flows.{IsEvaluated};
 
 use prl_arguments::Mode;
-use prl_ast::Program;
 use prl_base::FlowNo;
 use prl_calls::{Request, Run, check_types, flat_of, read_bodies, read_program, run_with};
 use prl_evaluation::{FlowTable, evaluate};
@@ -24,28 +22,6 @@ use prl_sensors::{OutRows, lent_text, rows_are_typed_and_enough};
 use prl_stages::{MAX_BODIES, MAX_PROGRAM, Stage, Stop, runs_tell_of_behaviours};
 use prl_types::Typed;
 use std::alloc::{AllocError, Global};
-
-/// The values of all flows.
-fn values<'a>(alloc: Global, until: u32, run: &'a Run) -> Result<FlowTable<'a>, Stop>
-    requires until { until < 2 ^ 31 }
-    requires order { IsOrder run.now.flat run.now.order.flows }
-    requires bodies { HaveBodies run.now.flat run.now.bodies }
-    requires rows { (g : Given) × HasRowsUntil g until run.now }
-    ensures solution { IfOk result (AreSolution run.now.flat run.now.clocks.of run.now.bodies run.now.sensors until) }
-    ensures passes { (g : Given) → HasRowsUntil g until run.now → PassesAt g Stage.Values (λ _. Unit {0}) result }
-{
-    rows_are_typed_and_enough();
-    let _flows = run.flat.flows();
-    Ok(evaluate(
-        alloc,
-        &run.flat,
-        &run.clocks,
-        &run.order,
-        &run.bodies,
-        &run.sensors,
-        until as u64,
-    )?)
-}
 
 /// The flow of main's output `k`, with its name and clock.
 fn out_flow<'a>(run: &'a Run, table: &'a FlowTable<'_>, k: u32, flow: FlowNo) -> OutRows<'a>
@@ -91,9 +67,18 @@ fn flows_of(alloc: Global, until: u32, typed: &Typed<'_>, run: &Run) -> Result<V
         → PassesAt g Stage.Values (λ text. IsText g Mode.Flows text.items) result }
 {
     runs_tell_of_behaviours();
+    rows_are_typed_and_enough();
     let _main = typed.main();
     let _flows = run.flat.flows();
-    let table = values(alloc, until, run)?;
+    let table = evaluate(
+        alloc,
+        &run.flat,
+        &run.clocks,
+        &run.order,
+        &run.bodies,
+        &run.sensors,
+        until as u64,
+    )?;
     let outs = out_flows(alloc, run, &table)?;
     Ok(lent_text(alloc, &outs)?)
 }

@@ -27,6 +27,8 @@ use prl_replay::{
 };
 use prl_stages::{MAX_BODIES, MAX_PROGRAM, Ran};
 use std::alloc::{AllocError, Global};
+use std::marker::Brand;
+use std::sync::ledger::Blank;
 
 /// The generated texts of a number and a size, as what the stages are asked about.
 pub fn generated_request(alloc: Global, seed: u64, size: u32) -> Result<Request, AllocError>
@@ -130,7 +132,8 @@ pub fn summary_of(
     ended_boards_show_flows();
     plan_is_one(&ready.plan);
     let trace = replayed(alloc, request, ready)?;
-    let closed = closed_alone(alloc, ready, Gate::Gated)?;
+    let blank = Blank::new(1);
+    let closed = closed_alone::<Brand>(alloc, ready, Gate::Gated, blank)?;
     closed.stands();
     let sum = shown_sum(alloc, &ready.plan, &closed)?;
     let reads = trace.reads.len() as u64;

@@ -1,7 +1,7 @@
 //! The last stages of mode `cores`: the tasks are placed on the processors of the text, the schedule is done on the machine of the
 //! plan that is spread so, or the dispatched list where no schedule is named, and what this tells is written.
 
-ghost use Rattle.std.specs.Prelude.{◌≡◌, ◌≢◌, ◌≤◌, List, [], ◌∷◌, Some, Ok, IfOk, IfErr, IfSome, length};
+ghost use Rattle.std.specs.Prelude.{◌≡◌, ◌≢◌, ◌≤◌, List, Some, Ok, IfOk, IfErr, IfSome, length};
 ghost use Rattle.prl_core.specs.Cores.{opened_on};
 ghost use Rattle.prl_cores.specs.Processors.{IsOfTasks};
 ghost use Rattle.prl_cores.specs.Spreads.{IsSpreadOf};
@@ -14,7 +14,6 @@ ghost use Rattle.prl_values.specs.Fitting.{HaveTaskBodies, HaveTypedRows};
 ghost use Rattle.prl_stages.specs.Vocabulary.{HasPlacement, cores_refusal, HasPlan, IsText};
 ghost use Rattle.prl_stages.specs.Vocabulary.{stages_after};
 ghost use Rattle.prl_executions.specs.code.Placed.{FailsPlaced, IsPlacedTrace, IsTraceOn};
-ghost use Rattle.prl_executions.specs.Ready.{IsReady};
 ghost use Rattle.prl_calls.specs.Stops.{given_of, Passes, PassesAt};
 
 use crate::ready::{Ready, make_ready};
@@ -138,28 +137,6 @@ fn placed_trace(
     }
 }
 
-/// The text of the run on the processors.
-fn placed_of(
-    alloc: Global,
-    request: &Request,
-    ready: &Ready,
-    spread: &Spread,
-) -> Result<Vec<u8>, Stop>
-    requires ready { IsReady (given_of request.now) ready.now }
-    requires placement { HasPlacement (given_of request.now) ready.now.plan spread.now.placement }
-    ensures { PassesAt (given_of request.now) Stage.Placed (λ text. IsText (given_of request.now) Mode.Cores text.items) result }
-{
-    plan_is_one(&ready.plan);
-    spread_list_is_gated();
-    match placed_trace(alloc, request, ready, spread) {
-        Ok(trace) => Ok(trace_text(alloc, &ready.plan, &trace)?),
-        Err(fault) => match schedule_refusal(alloc, ready.plan.graph(), fault) {
-            Some(refusal) => Err(Stop::Refused(Stage::Placed, Fault::Schedule(refusal))),
-            None => Err(Stop::Memory),
-        },
-    }
-}
-
 /// Mode `cores`.
 pub fn cores_text(alloc: Global, request: &Request) -> Result<Vec<u8>, Stop>
     requires program { length request.now.texts.program.items ≤ MAX_PROGRAM }
@@ -168,5 +145,13 @@ pub fn cores_text(alloc: Global, request: &Request) -> Result<Vec<u8>, Stop>
 {
     let ready = make_ready(alloc, request)?;
     let spread = make_placement(alloc, request, &ready.plan)?;
-    placed_of(alloc, request, &ready, &spread)
+    plan_is_one(&ready.plan);
+    spread_list_is_gated();
+    match placed_trace(alloc, request, &ready, &spread) {
+        Ok(trace) => Ok(trace_text(alloc, &ready.plan, &trace)?),
+        Err(fault) => match schedule_refusal(alloc, ready.plan.graph(), fault) {
+            Some(refusal) => Err(Stop::Refused(Stage::Placed, Fault::Schedule(refusal))),
+            None => Err(Stop::Memory),
+        },
+    }
 }

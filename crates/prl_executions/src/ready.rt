@@ -1,6 +1,6 @@
 //! What the modes that run tasks have in common: all stages up to the rows, and what a run needs.
 
-ghost use Rattle.std.specs.Prelude.{◌≡◌, ◌≤◌, ◌++◌, [], ◌∷◌, length, map};
+ghost use Rattle.std.specs.Prelude.{◌≤◌, ◌++◌, [], ◌∷◌, length, map};
 ghost use Rattle.prl_ast.specs.Trees.{program_tree};
 ghost use Rattle.prl_body.specs.Vocabulary.{body_tree, HaveBodiesOf};
 ghost use Rattle.prl_expand.specs.Expanding.{IsExpanded};
@@ -8,19 +8,18 @@ ghost use Rattle.prl_flow.specs.Uses.{IsOrder};
 ghost use Rattle.prl_graph.specs.TaskGraphs.{IsGraphOf};
 ghost use Rattle.prl_names.specs.Uses.{used_imports};
 ghost use Rattle.prl_types.specs.Typing.{IsTyped};
-ghost use Rattle.prl_stages.specs.Vocabulary.{HasClocks, AreBodies, IsMain, IsProgram, HasWords};
+ghost use Rattle.prl_stages.specs.Vocabulary.{HasClocks, AreBodies, IsMain};
 ghost use Rattle.prl_stages.specs.Vocabulary.{HasRows, HasHorizon, front, graphed, planned, ran};
-ghost use Rattle.prl_calls.specs.Stops.{given_of, Passes, PassesAt};
+ghost use Rattle.prl_calls.specs.Stops.{given_of, Passes};
 ghost use Rattle.prl_executions.specs.Ready.{IsReady};
 
-use prl_ast::Program;
 use prl_body::Bodies;
 use prl_calls::{
     Request, Run, check_types, flat_of, make_graphed, make_horizon, make_planned, read_bodies,
     read_program, run_with,
 };
 use prl_flow::{Clocks, Flat, Order, Sensors};
-use prl_plan::{Horizon, Plan, TaskGraph, Words, plan_is_one};
+use prl_plan::{Horizon, Plan, plan_is_one};
 use prl_stages::{MAX_BODIES, MAX_PROGRAM, Stage, Stop, runs_tell_of_behaviours};
 use prl_types::Typed;
 use std::alloc::Global;

@@ -2,11 +2,10 @@
 
 ghost use Rattle.std.specs.Prelude.{◌≡◌, ◌≤◌, Some, IfSome, length};
 ghost use Rattle.prl_stages.specs.Vocabulary.{schedule_refusal, IsText, stages_after};
-ghost use Rattle.prl_executions.specs.Ready.{IsReady};
-ghost use Rattle.prl_calls.specs.Stops.{given_of, Passes, PassesAt};
+ghost use Rattle.prl_calls.specs.Stops.{given_of, Passes};
 ghost use Rattle.prl_executions.specs.code.Faults.{IsOfTask};
 
-use crate::ready::{Ready, make_ready};
+use crate::ready::make_ready;
 use prl_arguments::Mode;
 use prl_calls::{Request, task_name};
 use prl_plan::TaskGraph;
@@ -34,11 +33,13 @@ pub(crate) fn schedule_refusal(
     }
 }
 
-/// The text of the replay of the schedule.
-fn replay_of(alloc: Global, request: &Request, ready: &Ready) -> Result<Vec<u8>, Stop>
-    requires { IsReady (given_of request.now) ready.now }
-    ensures { PassesAt (given_of request.now) Stage.Schedule (λ text. IsText (given_of request.now) Mode.Replay text.items) result }
+/// Mode `replay`.
+pub fn replayed_text(alloc: Global, request: &Request) -> Result<Vec<u8>, Stop>
+    requires program { length request.now.texts.program.items ≤ MAX_PROGRAM }
+    requires bodies { length request.now.texts.bodies.items ≤ MAX_BODIES }
+    ensures { Passes (given_of request.now) (stages_after Mode.Replay request.now.named) (λ text. IsText (given_of request.now) Mode.Replay text.items) result }
 {
+    let ready = make_ready(alloc, request)?;
     match replay(
         alloc,
         &ready.plan,
@@ -53,14 +54,4 @@ fn replay_of(alloc: Global, request: &Request, ready: &Ready) -> Result<Vec<u8>,
             None => Err(Stop::Memory),
         },
     }
-}
-
-/// Mode `replay`.
-pub fn replayed_text(alloc: Global, request: &Request) -> Result<Vec<u8>, Stop>
-    requires program { length request.now.texts.program.items ≤ MAX_PROGRAM }
-    requires bodies { length request.now.texts.bodies.items ≤ MAX_BODIES }
-    ensures { Passes (given_of request.now) (stages_after Mode.Replay request.now.named) (λ text. IsText (given_of request.now) Mode.Replay text.items) result }
-{
-    let ready = make_ready(alloc, request)?;
-    replay_of(alloc, request, &ready)
 }

@@ -1,6 +1,6 @@
 //! Mode `run`: the tasks of the program run on a board, by one thread or by several.
 
-ghost use Rattle.std.specs.Prelude.{◌≡◌, ◌<◌, ◌≤◌, ◌++◌, IfOk, IfErr, Some, length};
+ghost use Rattle.std.specs.Prelude.{◌≡◌, ◌<◌, ◌≤◌, ◌++◌, IfOk, Some, length};
 ghost use Rattle.prl_exec.specs.Runs.{HasEnded};
 ghost use Rattle.prl_plan.specs.Horizons.{IsHorizon};
 ghost use Rattle.prl_rule.specs.Known.{known};
@@ -25,7 +25,7 @@ use std::sync::ledger::{Blank, Ledger};
 use std::thread::Threads;
 
 /// One thread runs all jobs, and its steps are counted.
-fn run_counted<L: Ledger>(
+pub(crate) fn closed_alone<L: Ledger>(
     alloc: Global,
     ready: &Ready,
     gate: Gate,
@@ -49,18 +49,6 @@ fn run_counted<L: Ledger>(
         gate,
         &mut steps,
     )
-}
-
-/// One thread runs all jobs.
-pub(crate) fn closed_alone(alloc: Global, ready: &Ready, gate: Gate) -> Result<Closed, AllocError>
-    requires horizon { IsHorizon ready.now.plan ready.now.horizon }
-    requires bodies { HaveTaskBodies ready.now.plan.graph ready.now.bodies }
-    requires rows { HaveTypedRows ready.now.plan.graph ready.now.horizon.until ready.now.sensors }
-    ensures known { IfOk result (λ closed. closed.constants ≡ Some (known ready.now.plan ready.now.horizon gate ready.now.sensors ready.now.bodies)) }
-    ensures ended { IfOk result HasEnded }
-{
-    let blank = Blank::new(1);
-    run_counted::<Brand>(alloc, ready, gate, blank)
 }
 
 /// The text of the actuators of a board on which all jobs have ended.
@@ -91,7 +79,8 @@ pub fn run_text(alloc: Global, request: &Request, gate: Gate) -> Result<(Vec<u8>
     ensures { Passes (given_of request.now) (front ++ ran) (λ made. IsRunText (given_of request.now) gate made.0.items made.1) result }
 {
     let ready = make_ready(alloc, request)?;
-    let closed = closed_alone(alloc, &ready, gate)?;
+    let blank = Blank::new(1);
+    let closed = closed_alone::<Brand>(alloc, &ready, gate, blank)?;
     let text = text_of(alloc, request, &ready, gate, &closed)?;
     Ok((text, Ran::Ended(closed)))
 }

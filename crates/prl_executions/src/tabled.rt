@@ -11,7 +11,7 @@ ghost use Rattle.prl_tables.specs.declared.reading.TableFault.TheVariants as che
 ghost use Rattle.prl_tables.specs.Vocabulary.{entries_of};
 ghost use Rattle.prl_values.specs.Fitting.{HaveTaskBodies, HaveTypedRows};
 ghost use Rattle.prl_executions.specs.Ready.{IsReady, IsTextOf};
-ghost use Rattle.prl_calls.specs.Stops.{given_of, StopsAt, Passes, PassesAt};
+ghost use Rattle.prl_calls.specs.Stops.{given_of, StopsAt, Passes};
 ghost use Rattle.prl_executions.specs.code.Faults.{AreOfTask};
 
 use crate::ready::{Ready, make_ready};
@@ -116,26 +116,6 @@ fn driven_text(
     Ok((text, Ran::Ended(closed)))
 }
 
-/// The run by the table that the text tells, where it is good.
-fn cycled(
-    alloc: Global,
-    request: &Request,
-    ready: &Ready,
-    table: &Table,
-) -> Result<(Vec<u8>, Ran), Stop>
-    requires ready { IsReady (given_of request.now) ready.now }
-    requires plan { HasPlan (given_of request.now) ready.now.plan }
-    requires told { entries_of ready.now.plan.graph.hyper request.now.texts.table.items ≡ Ok table.now.entries }
-    ensures { PassesAt (given_of request.now) Stage.Table (λ made. IsCycleText (given_of request.now) made.0.items made.1) result }
-{
-    plan_is_one(&ready.plan);
-    unrolled_table_is_gated();
-    match check_table(alloc, &ready.plan, table) {
-        Ok(checked) => Ok(driven_text(alloc, request, ready, &checked)?),
-        Err(fault) => Err(table_stop(alloc, request, &ready.plan, fault)),
-    }
-}
-
 /// Mode `cycle`.
 pub fn cycle_text(alloc: Global, request: &Request) -> Result<(Vec<u8>, Ran), Stop>
     requires program { length request.now.texts.program.items ≤ MAX_PROGRAM }
@@ -144,5 +124,10 @@ pub fn cycle_text(alloc: Global, request: &Request) -> Result<(Vec<u8>, Ran), St
 {
     let ready = make_ready(alloc, request)?;
     let table = told_table(alloc, request, &ready.plan)?;
-    cycled(alloc, request, &ready, &table)
+    plan_is_one(&ready.plan);
+    unrolled_table_is_gated();
+    match check_table(alloc, &ready.plan, &table) {
+        Ok(checked) => Ok(driven_text(alloc, request, &ready, &checked)?),
+        Err(fault) => Err(table_stop(alloc, request, &ready.plan, fault)),
+    }
 }

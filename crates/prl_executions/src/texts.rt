@@ -2,10 +2,9 @@
 //! (`schedule`, `edf`, `table`).
 
 ghost use Rattle.std.specs.Prelude.{◌≡◌, ◌≤◌, length};
-ghost use Rattle.prl_stages.specs.Vocabulary.{HasPlan, HasHorizon, stages_after};
-ghost use Rattle.prl_stages.specs.Vocabulary.{IsText, make_refusal, HasMadeTable};
-ghost use Rattle.prl_tables.specs.Tables.{IsGood};
-ghost use Rattle.prl_calls.specs.Stops.{given_of, Passes, PassesAt};
+ghost use Rattle.prl_stages.specs.Vocabulary.{HasHorizon, stages_after};
+ghost use Rattle.prl_stages.specs.Vocabulary.{IsText, make_refusal};
+ghost use Rattle.prl_calls.specs.Stops.{given_of, Passes};
 
 use crate::lines::accepted;
 use prl_arguments::Mode;
@@ -92,27 +91,17 @@ fn make_refusal(fault: MakeFault) -> Option<MakeRefusal>
     }
 }
 
-/// The table that is made of the plan.
-fn make_table(alloc: Global, request: &Request, plan: &Plan) -> Result<Table, Stop>
-    requires { HasPlan (given_of request.now) plan.now }
-    ensures { PassesAt (given_of request.now) Stage.Made (λ table. HasMadeTable (given_of request.now) plan.now table.entries × IsGood plan.now table.entries) result }
-{
-    let _ = request;
-    match make(alloc, plan) {
-        Ok(table) => Ok(table),
-        Err(fault) => match make_refusal(fault) {
-            Some(refusal) => Err(Stop::Refused(Stage::Made, Fault::Made(refusal))),
-            None => Err(Stop::Memory),
-        },
-    }
-}
-
 /// Mode `table`.
 pub fn made_text(alloc: Global, request: &Request) -> Result<Vec<u8>, Stop>
     requires program { length request.now.texts.program.items ≤ MAX_PROGRAM }
     ensures { Passes (given_of request.now) (stages_after Mode.Table request.now.named) (λ text. IsText (given_of request.now) Mode.Table text.items) result }
 {
     let plan = planned_program(alloc, request, false)?;
-    let table = make_table(alloc, request, &plan)?;
-    Ok(table_text(alloc, &plan, &table)?)
+    match make(alloc, &plan) {
+        Ok(table) => Ok(table_text(alloc, &plan, &table)?),
+        Err(fault) => match make_refusal(fault) {
+            Some(refusal) => Err(Stop::Refused(Stage::Made, Fault::Made(refusal))),
+            None => Err(Stop::Memory),
+        },
+    }
 }

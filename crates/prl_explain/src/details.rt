@@ -5,7 +5,7 @@ ghost use Rattle.std.specs.Option.{option_copied, option_map};
 ghost use Rattle.prl_stages.specs.declared.sizes.TheConstants.{MAX_PROGRAM};
 ghost use Rattle.prl_track.specs.Machine.{IsOfPlan as IsEventOf};
 ghost use Rattle.prl_base.specs.Decimals.{decimal_of};
-ghost use Rattle.prl_schedules.specs.Vocabulary.{schedule_of, names_of, task_names};
+ghost use Rattle.prl_schedules.specs.Vocabulary.{task_names};
 ghost use Rattle.prl_explain.specs.Details.{IsLeftIn, IsLeftTold, IsOfLine, IsOfSchedule, IsPlacingIn, IsPlacingTold, IsPlanFrom, IsPlanOf};
 ghost use Rattle.prl_explain.specs.Placings.{tasks_text};
 

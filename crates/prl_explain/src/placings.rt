@@ -1,6 +1,6 @@
 //! What is told of the tasks of a plan, and of a line of a text of processors that places none.
 
-ghost use Rattle.std.specs.Prelude.{◌≡◌, ◌++◌, ◌≤◌, ◌<◌, ◌^◌, IfOk, OnOk, length};
+ghost use Rattle.std.specs.Prelude.{◌≡◌, ◌++◌, ◌<◌, ◌^◌, IfOk, OnOk, length};
 ghost use Rattle.std.specs.List.{flat_map};
 ghost use Rattle.prl_cores.specs.Processors.{processor_in};
 ghost use Rattle.prl_schedules.specs.ScheduleTexts.{names_of};

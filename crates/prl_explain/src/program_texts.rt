@@ -1,6 +1,6 @@
 //! What comes of the text of a program alone, on the way to its plan.
 
-ghost use Rattle.std.specs.Prelude.{◌≡◌, ◌<◌, ◌^◌, Ok, IfOk, IfSome, length};
+ghost use Rattle.std.specs.Prelude.{◌<◌, ◌^◌, Ok, IfOk, IfSome, length};
 ghost use Rattle.std.specs.Option.{option_copied};
 ghost use Rattle.prl_ast.specs.Trees.{program_tree};
 ghost use Rattle.prl_syntax.specs.Parsing.{IsParsed};

@@ -1,11 +1,9 @@
 -- What is evaluated, apart from the texts that it came from.
-use Rattle.std.specs.Prelude.{◌≡◌, ℕ, List, [], ◌∷◌, map}
+use Rattle.std.specs.Prelude.{◌≡◌, ℕ, List, map}
 use Rattle.prl_ast.specs.Trees.{ProgramTree}
 use Rattle.prl_base.specs.declared.values.Ty.{Ty}
 use Rattle.prl_body.specs.Checks.{body_tree}
 use Rattle.prl_types.specs.Typing.{IsTyped}
-use Rattle.prl_stages.specs.declared.stages.Stage.{Stage}
-use Rattle.prl_stages.specs.declared.stages.Stage.TheVariants as stages
 use Rattle.prl_stages.specs.Given.{Given}
 use Rattle.prl_stages.specs.Parts.{AreBodies, IsMain}
 use Rattle.prl_stages.specs.Runs.{HasRows}
@@ -22,7 +20,3 @@ pub record IsEvaluated (g : Given) (until : ℕ) (p : ProgramTree) (k : ℕ) (ty
   pub typed : IsTyped p g.node k tys
   pub bodies : AreBodies g (map body_tree run.bodies)
   pub has : HasRowsUntil g until run
-
--- the stages of mode `flows` after the types
-abbrev pub flow_stages : List Stage
-flow_stages = stages.Expansion ∷ stages.Causality ∷ stages.Clocks ∷ stages.Bodies ∷ stages.Rows ∷ stages.Values ∷ []

@@ -1,4 +1,4 @@
-use Rattle.prl_base.proofs.Standard.{◌≡◌, ◌∙◌, ℕ, List, Ok, ap, sym, subst, arith, length, length-map}
+use Rattle.prl_base.proofs.Standard.{◌≡◌, ◌≤◌, ◌∙◌, ℕ, List, Ok, ap, sym, subst, arith, length, length-map, err_from_is_err_and}
 use Rattle.prl_ast.specs.Trees.{program_tree}
 use Rattle.prl_base.specs.declared.operators.Clock.{Clock}
 use Rattle.prl_causal.specs.Behaviours.{state_in}
@@ -7,12 +7,18 @@ use Rattle.prl_flow.specs.Vocabulary.{AreUpTo, actuator_text, HaveBodies, FlatPr
 use Rattle.prl_causal.specs.Conditions.{clocks_in}
 use Rattle.prl_stages.specs.Runs.{IsFlowsText, rows_for}
 use Rattle.prl_stages.specs.Vocabulary.{SolutionLaws}
-use Rattle.prl_stages.proofs.Inputs.{few_outputs}
+use Rattle.prl_evaluation.specs.declared.evaluation.TheConstants.{MAX_VALUES}
+use Rattle.prl_flow.specs.Counts.{values_before}
+use Rattle.prl_sensors.specs.SensorRows.{sensors_of}
+use Rattle.prl_stages.specs.Vocabulary.{text_of, inputs_of, needs_of}
+use Rattle.prl_stages.specs.declared.faults.InputFile.TheVariants as parts
+use Rattle.prl_stages.proofs.Inputs.{enough_rows, few_outputs, typed_rows}
 use Rattle.prl_stages.proofs.Meaning.{one, outs, state_is, up_to}
+use Rattle.prl_executions.proofs.TooMany.{too_many_values}
 use Rattle.prl_executions.proofs.flows.flows_of.Goals as goal
 
-pub values-requires-clause-bodies : goal.values-requires-clause-bodies
-values-requires-clause-bodies c =
+pub evaluate-requires-clause-bodies : goal.evaluate-requires-clause-bodies
+evaluate-requires-clause-bodies c =
     let t = c.args.typed.now in
     let x = c.requires.expanded in
     let (g, is) = c.requires.given in
@@ -20,8 +26,30 @@ values-requires-clause-bodies c =
     (c.runs_tell_of_behaviours.ensures.fitted (program_tree t.program) g.node t.main t.types x.expansion
     c.main-main.ensures.range is.typed x.is c.args.run.now.bodies c.requires.have)
 
-pub values-requires-clause-rows : goal.values-requires-clause-rows
-values-requires-clause-rows c = let (g, is) = c.requires.given in (g, is.has)
+pub evaluate-requires-clause-clocks : goal.evaluate-requires-clause-clocks
+evaluate-requires-clause-clocks c = let (g, is) = c.requires.given in is.has.rows.clocked.only.are
+
+pub evaluate-requires-clause-rows : goal.evaluate-requires-clause-rows
+evaluate-requires-clause-rows c =
+    let run = c.args.run.now in
+    let (g, is) = c.requires.given in
+    let text = text_of g parts.Sensors in
+    enough_rows run.flat run.clocks.of c.args.until c.flows-flows.ensures.well_formed c.rows_are_typed_and_enough.ensures text run.sensors
+    (subst (λ (until : ℕ). sensors_of (inputs_of run.flat) (needs_of run.flat run.clocks.of until) text ≡ Ok run.sensors) is.has.date is.has.rows.read)
+    is.has.rows.clocked.only.are
+
+pub evaluate-requires-clause-types : goal.evaluate-requires-clause-types
+evaluate-requires-clause-types c =
+    let run = c.args.run.now in
+    let (g, is) = c.requires.given in
+    let text = text_of g parts.Sensors in
+    typed_rows run.flat run.clocks.of c.args.until c.flows-flows.ensures.well_formed c.rows_are_typed_and_enough.ensures text run.sensors
+    (subst (λ (until : ℕ). sensors_of (inputs_of run.flat) (needs_of run.flat run.clocks.of until) text ≡ Ok run.sensors) is.has.date is.has.rows.read)
+
+pub returns-in_err-table : goal.returns-in_err-table
+returns-in_err-table c = λ g is.
+    let p = err_from_is_err_and c.from_residual.result c.from_residual.ensures.1 in
+    rw (p.1, p.2) (too_many_values g c.args.until c.args.run.now c.in_err-table.field-0.0 is.has c.in_err-table.ensures.fault)
 
 pub out_flows-requires-clause-few : goal.out_flows-requires-clause-few
 out_flows-requires-clause-few c =
@@ -79,4 +107,6 @@ returns c = λ g is.
           ∙ ap (actuator_text until) told
           ∙ ap (actuator_text until)
           (outs law p asked t.main t.types run.flat is.typed c.requires.expanded formed run.clocks.of only run.bodies run.sensors until table solution);
-    } in (text, (c.in_ok-table.ensures.passes g is.has).1)
+    } in
+    let few = subst (λ (u : ℕ). values_before u run.clocks.of ≤ MAX_VALUES) (sym is.has.date) c.in_ok-table.ensures.few in
+    (text, (run.flat, run.clocks.of, is.has.rows.clocked, few))

@@ -1,8 +1,10 @@
 use Rattle.prl_base.proofs.Standard.{◌++◌, [], ◌∷◌, inl, err_from_is_err_and}
-use Rattle.prl_stages.specs.Vocabulary.{IsCycleText, front, ran}
+use Rattle.prl_stages.specs.Vocabulary.{front, ran}
+use Rattle.prl_stages.specs.Stages.{Holds}
 use Rattle.prl_stages.specs.declared.stages.Stage.TheVariants as stages
 use Rattle.prl_calls.specs.Stops.{given_of}
-use Rattle.prl_calls.proofs.Stops.{passes_last, stops_first, stops_rest}
+use Rattle.prl_calls.proofs.Stops.{both_hold, stops_first, stops_rest}
+use Rattle.prl_executions.proofs.Preparing.{ListLaws, cycle_text_is, has_plan_there}
 use Rattle.prl_executions.proofs.tabled.cycle_text.Goals as goal
 
 pub returns-in_err-ready : goal.returns-in_err-ready
@@ -17,8 +19,20 @@ returns-in_err-table c =
     (stops_rest (given_of c.args.request.now) (front ++ ran) (stages.Table ∷ []) c.in_err-table.field-0.0 c.in_ok-ready.ensures.1
     (inl c.in_err-table.ensures.stop))
 
+pub returns-in-Ok : goal.returns-in-Ok
+returns-in-Ok c =
+    let law : ListLaws = record { gated = c.unrolled_table_is_gated.ensures.gated; complete = c.unrolled_table_is_gated.ensures.complete } in
+    let g = given_of c.args.request.now in
+    let r = c.in_ok-ready.ready in
+    let entries = c.in_ok-table.table.entries in
+    let plan = has_plan_there g r c.in_ok-ready.ensures.0 in
+    let told = c.in_ok-table.ensures.told in
+    let good = c.in-Ok.ensures.good in
+    let holds : Holds g stages.Table = (r.plan, entries, record { has_plan = plan; read = told; good = good }) in (
+      cycle_text_is law g r entries told good c.in_ok-driven_text-in-Ok.field-0.0.items c.in_ok-driven_text-in-Ok.field-0.1 c.in_ok-driven_text-in-Ok.ensures,
+      both_hold g (front ++ ran) (stages.Table ∷ []) c.in_ok-ready.ensures.1 (holds, tt),
+    )
+
 pub returns : goal.returns
 returns c =
-    let g = given_of c.args.request.now in
-    passes_last g (front ++ ran) c.in_ok-ready.ensures.1 (λ made. IsCycleText g made.0.items made.1) (λ made. IsCycleText g made.0.items made.1) (λ made is. is)
-    stages.Table c.cycled.result c.cycled.ensures
+    stops_rest (given_of c.args.request.now) (front ++ ran) (stages.Table ∷ []) c.table_stop.result c.in_ok-ready.ensures.1 (inl c.table_stop.ensures)
