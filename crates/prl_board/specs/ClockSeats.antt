@@ -27,6 +27,15 @@ pub record IsClockOf (b : BoardView) (s : ClockSeatView) (r : ClockPart) : Type 
   pub known : s.view.constants ≡ Some b.known
   pub part : s.view.clock ≡ Some r
 
+-- the seat says the same of the clock beside its view
+pub record IsSaidBy (s : ClockSeatView) (r : ClockPart) : Type 0 where
+  pub now : r.now ≡ s.now
+  pub looks : r.looks ≡ s.looks
+
+-- no job of the horizon that has not been seen to end is due earlier
+abbrev pub AreDueBy : Constants → List ℕ → ℕ → Type 0
+AreDueBy k looks due = (i n : ℕ) → IsJob (run_of k) i n → slice_index looks i ≤ n → due ≤ (run_of k).deadline i n
+
 -- job n of task i is one of the horizon that is due by the next tick, and has not been seen to end
 pub record IsUnseen (k : Constants) (r : ClockPart) (i n : ℕ) : Type 0 where
   pub job : IsJob (run_of k) i n

@@ -1,5 +1,5 @@
 -- Where a task's seat stands, and what its reads answer.
-use Rattle.std.specs.Prelude.{◌≡◌, ◌+◌, ◌/◌, ◌%◌, ◌^◌, ◌<◌, ℕ, zero, suc, nat_le, if◌then◌else◌}
+use Rattle.std.specs.Prelude.{◌≡◌, ◌+◌, ◌/◌, ◌%◌, ◌^◌, ◌<◌, ℕ, zero, suc, nat_le, if◌then◌else◌, Some}
 use Rattle.prl_base.specs.declared.numbers.CellNo.{CellNo}
 use Rattle.prl_base.specs.declared.numbers.EdgeNo.{EdgeNo}
 use Rattle.prl_plan.specs.declared.events.Action.{Action}
@@ -21,7 +21,10 @@ use Rattle.prl_rule.specs.declared.views.Constants.{Constants}
 use Rattle.prl_rule.specs.declared.views.Gate.TheVariants as gates
 use Rattle.prl_rule.specs.Told.{HalfTold, WriteTold}
 use Rattle.prl_seats.specs.JobSeats.{GoesOn, JobSeatView, MayRaise, StaysAt}
-use Rattle.prl_rule.specs.Known.{values_of}
+use Rattle.prl_rule.specs.Known.{job_values_of, values_of}
+use Rattle.prl_base.specs.declared.values.Value.{Value}
+use Rattle.prl_plan.specs.Plans.{edge_at}
+use Rattle.prl_values.specs.JobValues.{value_on}
 
 -- which half of its cell a slot is
 abbrev pub half_at : ℕ → Half
@@ -102,6 +105,8 @@ pub record ReadsHalf (k : Constants) (e : EdgeNo) (m : ℕ) (slot : SlotNo) (bef
   pub word : ℕ
   pub told : HalfTold k before.task.0 before.place e.0 m slot.0 before.view word after.view
   pub answer : AnswersHalf k m slot before after word got
+  -- a value is what the seat's job reads on this edge
+  pub named : (value : Value) → got ≡ gots.Value value → value_on (job_values_of k) (edge_at k.plan.graph e.0) before.job ≡ Some value
 
 abbrev pub AnswersAction : Constants → JobSeatView → JobSeatView → Got → Action → Type 0
 AnswersAction k before after got (actions.ReadConst port value) = (got ≡ gots.Value value) × (after.view ≡ before.view) × GoesOn k before after

@@ -1,6 +1,7 @@
 //! One thread that holds all seats of a board.
 
 ghost use Rattle.std.specs.Prelude.{◌≡◌, ◌+◌, ◌<◌, ℕ, [], length, Some, slice_get, slice_index};
+ghost use Rattle.std.specs.Bool.{OnFalse, OnTrue};
 ghost use Rattle.std.specs.Vec.{vec_items};
 ghost use mathlib.Core.Option.{some};
 ghost use lib.ListN.{get_elem?};
@@ -8,7 +9,7 @@ ghost use Rattle.prl_rule.specs.Vocabulary.{now_word, run_of, bare, LookTold, pa
 ghost use Rattle.prl_rule.specs.declared.views.ClockPart.{ClockPart};
 ghost use Rattle.prl_rule.specs.declared.views.Constants.{Constants};
 ghost use Rattle.prl_rule.specs.declared.views.TaskPart.{TaskPart};
-ghost use Rattle.prl_board.specs.ClockSeats.{IsClockOf};
+ghost use Rattle.prl_board.specs.ClockSeats.{IsAllSeen, IsClockOf, IsUnseen};
 ghost use Rattle.prl_seats.specs.JobSeats.{AnswersRelease, Ends, Follows, IsSeatOf, JobSeatView, StaysAt};
 ghost use Rattle.prl_board.specs.Closings.{KeepsTag};
 ghost use Rattle.prl_board.specs.Lones.{AreSeatsOf, FindsTag, IsClockCall, IsLoneOf, IsPlacedAt, IsReleasedBy, IsTaskCall, IsTicked, IsWhole, LeavesTag, StandAs};
@@ -156,6 +157,34 @@ impl Lone {
         ensures others { (j : ℕ) (p : TaskPart) → (j ≡ i → ⊥) → get_elem? self.old.view.tasks j ≡ some (Some p) → get_elem? self.new.view.tasks j ≡ some (Some p) }
     {
         settle_seat(board, &mut self.whole, &mut self.seats[i]);
+    }
+
+    /// Whether it is known without a look at each task that no horizon job that is due by the next tick is left to be seen.
+    pub fn is_ahead(&self) -> bool
+        requires { (k : Constants) × (self.now.view.constants ≡ Some k) }
+        ensures { OnTrue result ((k : Constants) (r : ClockPart) → self.entry.now.view.constants ≡ Some k → self.entry.now.view.clock ≡ Some r → IsAllSeen k r) }
+    {
+        self.clock.is_ahead()
+    }
+
+    /// Whether a horizon job of the task that is due by the next tick has not been seen to end.
+    pub fn is_due(&self, board: &Board, task: TaskNo) -> bool
+        requires lone { IsLoneOf board.now self.now }
+        requires task { task.0 < (run_of board.now.known).tasks }
+        ensures { OnFalse result ((r : ClockPart) → self.entry.now.view.clock ≡ Some r → (n : ℕ) → IsUnseen board.now.known r task.0 n → ⊥) }
+    {
+        match self.clock.unseen(board, task) {
+            Some(_) => true,
+            None => false,
+        }
+    }
+
+    /// The clock notes when the next job is due that has not been seen to end. Takes no memory.
+    pub fn note_due(&mut self, board: &Board)
+        requires { IsLoneOf board.now self.old }
+        ensures { self.new ≡ self.old }
+    {
+        self.clock.note_due(board);
     }
 
     /// Each task's part stands where its seat does.

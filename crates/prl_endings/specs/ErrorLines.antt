@@ -15,8 +15,8 @@ use Rattle.prl_endings.specs.declared.endings.Ending.{Ending}
 use Rattle.prl_endings.specs.declared.endings.Ending.TheVariants as endings
 use Rattle.prl_stages.specs.declared.faults.GrammarRefusal.{GrammarRefusal}
 use Rattle.prl_stages.specs.declared.faults.GrammarRefusal.TheVariants as bad_grammar
-use Rattle.prl_stages.specs.declared.faults.TypesRefusal.{TypesRefusal}
-use Rattle.prl_stages.specs.declared.faults.TypesRefusal.TheVariants as bad_types
+use Rattle.prl_types.specs.declared.faults.TypeFault.{TypeFault}
+use Rattle.prl_types.specs.declared.faults.TypeFault.TheVariants as bad_types
 use Rattle.prl_stages.specs.declared.faults.ClocksRefusal.{ClocksRefusal}
 use Rattle.prl_stages.specs.declared.faults.ClocksRefusal.TheVariants as bad_clocks
 use Rattle.prl_stages.specs.declared.faults.GraphRefusal.{GraphRefusal}
@@ -72,7 +72,7 @@ mismatch_line at wanted found =
 abbrev pub type_free_line : List ℕ → List ℕ → List ℕ
 type_free_line node name = concat (codes "17 type free " ∷ node ∷ codes "." ∷ name ∷ codes "\n" ∷ [])
 
-abbrev pub types_line : TypesRefusal → List ℕ
+abbrev pub types_line : TypeFault → List ℕ
 types_line (bad_types.Twice name) = named_line (codes "11 twice ") name
 types_line (bad_types.Unknown name) = named_line (codes "10 unknown ") name
 types_line (bad_types.Undefined name) = named_line (codes "15 undefined ") name
@@ -81,6 +81,7 @@ types_line bad_types.NoMain = codes "14 no main\n"
 types_line (bad_types.Arity at) = placed_line (codes "12 arity at ") at
 types_line (bad_types.Mismatch at wanted found) = mismatch_line at wanted found
 types_line (bad_types.TypeFree node name) = type_free_line node name
+types_line bad_types.Memory = codes "\n"
 
 abbrev pub not_whole_line : List ℕ → Fraction → Fraction → List ℕ
 not_whole_line label period start =

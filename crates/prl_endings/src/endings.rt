@@ -30,7 +30,8 @@ pub struct Status {
     /// ran out. 7: a file is absent or too long. 8: the schedule is refused. 9: the sensor rows are refused.
     /// 10: no table is made of the plan, or the text of a table or of processors is refused.
     pub code: u8,
-    /// What was run on a board: the board, closed, at 0 and 4 where the mode runs the tasks, and at 5.
+    /// What was run on a board: the board, closed, at 0 and 4 where the mode runs the tasks, and at 5; and by a table the tick at which
+    /// each job was done.
     pub ran: Ran,
 }
 

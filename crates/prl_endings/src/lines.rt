@@ -16,8 +16,9 @@ use prl_io::Sink;
 use prl_plan::Plan;
 use prl_stages::{
     BodiesRefusal, ClocksRefusal, CoresRefusal, DatesRefusal, Fault, GrammarRefusal, GraphRefusal,
-    InputFile, MakeRefusal, ScheduleRefusal, SensorsRefusal, Stop, TableRefusal, TypesRefusal,
+    InputFile, MakeRefusal, ScheduleRefusal, SensorsRefusal, Stop, TableRefusal,
 };
+use prl_types::TypeFault;
 
 fn label_bytes(label: &Option<Label>) -> &[u8]
     ensures { result.now ≡ unwrap_or label.now [] }
@@ -68,25 +69,27 @@ fn grammar_line<'a>(fault: GrammarRefusal) -> Line<'a>
 }
 
 /// The line of a fault of names or types.
-fn types_line<'a>(fault: &'a TypesRefusal) -> Line<'a>
+fn types_line<'a>(fault: &'a TypeFault) -> Line<'a>
     ensures { line_text result ≡ types_line fault.now }
 {
     match fault {
-        TypesRefusal::Twice(name) => Line::named(b"11 twice ", name.bytes()),
-        TypesRefusal::Unknown(name) => Line::named(b"10 unknown ", name.bytes()),
-        TypesRefusal::Undefined(name) => Line::named(b"15 undefined ", name.bytes()),
-        TypesRefusal::Recursive(name) => Line::named(b"16 recursive ", name.bytes()),
-        TypesRefusal::NoMain => Line::plain(b"14 no main"),
-        TypesRefusal::Arity(at) => Line::numbered(b"12 arity at ", *at as u64),
-        TypesRefusal::Mismatch { at, wanted, found } => Line::three(
+        TypeFault::Twice(name) => Line::named(b"11 twice ", name.bytes()),
+        TypeFault::Unknown(name) => Line::named(b"10 unknown ", name.bytes()),
+        TypeFault::Undefined(name) => Line::named(b"15 undefined ", name.bytes()),
+        TypeFault::Recursive(name) => Line::named(b"16 recursive ", name.bytes()),
+        TypeFault::NoMain => Line::plain(b"14 no main"),
+        TypeFault::Arity(at) => Line::numbered(b"12 arity at ", *at as u64),
+        TypeFault::Mismatch { at, wanted, found } => Line::three(
             Piece::Number(b"13 mismatch at ", *at as u64),
             Piece::Text(b" wanted ", wanted.text().as_bytes()),
             Piece::Text(b" found ", found.text().as_bytes()),
         ),
-        TypesRefusal::TypeFree { node, name } => Line::two(
+        TypeFault::TypeFree { node, name } => Line::two(
             Piece::Text(b"17 type free ", node.bytes()),
             Piece::Text(b".", name.bytes()),
         ),
+        // No program is refused with this.
+        TypeFault::Memory => Line::plain(b""),
     }
 }
 

@@ -5,6 +5,7 @@ pub mod Calls
 pub mod Rounds
 -- For this crate alone.
 mod Holding
+mod Noting
 mod Dealt
 mod Missing
 mod Stopping

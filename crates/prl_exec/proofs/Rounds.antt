@@ -14,11 +14,12 @@ use Rattle.prl_seats.specs.Vocabulary.{IsStage, JobSeatView, BoardView}
 use Rattle.prl_seats.specs.declared.jobs.Stage.{Stage}
 use Rattle.prl_seats.specs.declared.jobs.Stage.TheVariants as stages
 use Rattle.prl_board.specs.Vocabulary.{IsClosed, IsLastState, IsClockCall, IsTicked, IsWhole, LoneView, StandAs, AreFirstSeats, first_clock, place_of}
+use Rattle.prl_board.specs.ClockSeats.{IsUnseen}
 use Rattle.prl_board.specs.declared.clocks.Ticked.{Ticked}
 use Rattle.prl_board.specs.declared.seats.Place.{Place}
 use Rattle.prl_board.specs.declared.clocks.Ticked.TheVariants as ticks
 use Rattle.prl_board.specs.declared.seats.Place.TheVariants as places
-use Rattle.prl_exec.specs.Vocabulary.{HasSeen, RunLaws, StandsIn, act_of, IsLeftOver}
+use Rattle.prl_exec.specs.Vocabulary.{HasSeen, HasSeenDue, RunLaws, StandsIn, act_of, IsLeftOver}
 use Rattle.prl_exec.proofs.Standing.{appended}
 use Rattle.prl_board.proofs.Lists.{seat_there}
 
@@ -47,21 +48,25 @@ module _ (k : Constants) where
   abbrev c : RunConstants
   c = run_of k
 
+  -- a look leaves the tasks
+  stands_looked : (l m : LoneView) (i n : ℕ) (q : ClockPart) (list : List Event) → StandsIn c l q list → IsClockCall l m → LookTold k i q l.view n m.view → StandsIn c m (looked i n q) list
+  stands_looked l m i n q list stands call told = record {
+    tasks = ap length call.seats ∙ stands.tasks;
+    clock = ap (λ (v : View). v.clock) told.view;
+    wide = length-set q.looks i n ∙ stands.wide;
+    now = stands.now;
+    free = stands.free;
+    sound = stands.sound;
+    each = λ j s has. stands.each j s (sym (ap (λ (xs : List JobSeatView). slice_get xs j) call.seats) ∙ has);
+  }
+
   -- a look at task i
   pub looked_at : (l m : LoneView) (i n : ℕ) (q : ClockPart) (list : List Event) → i < c.tasks → StandsIn c l q list → HasSeen l q i → IsClockCall l m → LookTold k i q l.view n m.view →
       ((s : JobSeatView) → slice_get l.seats i ≡ Some s → n ≡ s.job) → (p : ClockPart) × StandsIn c m p list × HasSeen m p (i + 1)
   looked_at l m i n q list inside stands seen call told exact =
       let wide = stands.wide in (
         looked i n q,
-        record {
-          tasks = ap length call.seats ∙ stands.tasks;
-          clock = ap (λ (v : View). v.clock) told.view;
-          wide = length-set q.looks i n ∙ stands.wide;
-          now = stands.now;
-          free = stands.free;
-          sound = stands.sound;
-          each = λ j s has. stands.each j s (sym (ap (λ (xs : List JobSeatView). slice_get xs j) call.seats) ∙ has);
-        },
+        stands_looked l m i n q list stands call told,
         (λ j s below has.
             let was : slice_get l.seats j ≡ Some s = sym (ap (λ (xs : List JobSeatView). slice_get xs j) call.seats) ∙ has in
             elim (cases_eq j i) [
@@ -70,8 +75,35 @@ module _ (k : Constants) where
             ]),
       )
 
+  -- a look at task i where it may have been left behind
+  pub looked_due : (l m : LoneView) (i n : ℕ) (q : ClockPart) (list : List Event) → i < c.tasks → StandsIn c l q list → HasSeenDue k l q i → IsClockCall l m → LookTold k i q l.view n m.view →
+      ((s : JobSeatView) → slice_get l.seats i ≡ Some s → n ≡ s.job) → (p : ClockPart) × StandsIn c m p list × HasSeenDue k m p (i + 1)
+  looked_due l m i n q list inside stands seen call told exact =
+      let wide = stands.wide in (
+        looked i n q,
+        stands_looked l m i n q list stands call told,
+        (λ j s below has.
+            let was : slice_get l.seats j ≡ Some s = sym (ap (λ (xs : List JobSeatView). slice_get xs j) call.seats) ∙ has in
+            elim (cases_eq j i) [
+              | inl same ↦ inl (get_or-set_at q.looks i j n 0 same (omega (arith, wide, inside)) ∙ exact s (ap (slice_get l.seats) (sym same) ∙ was))
+              | inr other ↦
+                  (let same_look = get_or-set_other q.looks i j n 0 other in
+                  elim (seen j s (omega (arith, below, other)) was) [
+                    | inl is ↦ inl (same_look ∙ is)
+                    | inr none ↦ inr (λ w u. none w (record { job = u.job; due = u.due; unseen = (let z = u.unseen in omega (arith, same_look, z)) }))
+                  ])
+            ]),
+      )
+
+  -- where no job of task i that is due is left to be seen
+  pub none_at : (l : LoneView) (r : ClockPart) (i : ℕ) → HasSeenDue k l r i → ((n : ℕ) → IsUnseen k r i n → ⊥) → HasSeenDue k l r (i + 1)
+  none_at l r i seen none j s below has = elim (cases_eq j i) [
+    | inl here ↦ inr (subst (λ (x : ℕ). (n : ℕ) → IsUnseen k r x n → ⊥) (sym here) none)
+    | inr other ↦ seen j s (omega (arith, below, other)) has
+  ]
+
   -- a tick that may come
-  pub ticked_on : (laws : RunLaws c) (l m : LoneView) (q : ClockPart) (list : List Event) (answer : Ticked) → StandsIn c l q list → HasSeen l q c.tasks → IsClockCall l m →
+  pub ticked_on : (laws : RunLaws c) (l m : LoneView) (q : ClockPart) (list : List Event) (answer : Ticked) → StandsIn c l q list → HasSeenDue k l q c.tasks → IsClockCall l m →
       KeepsGated c (reached c list) events.Tick → IsTicked k q l.view m.view answer → (p : ClockPart) × StandsIn c m p (list ++ events.Tick ∷ [])
   ticked_on laws l m q list (ticks.Now now) stands seen call may answer =
       let one = appended c laws list events.Tick stands.free stands.sound may in
@@ -99,15 +131,18 @@ module _ (k : Constants) where
       let inside = behind.job.task in
       let tasks = stands.tasks in
       let there = seat_there l.seats task.0 (omega (arith, inside, tasks)) in
-      let look = seen task.0 there.0 inside there.1 in
-      let is = (stands.each task.0 there.0 there.1).job in
-      let unseen = behind.unseen in
-      let left : IsUnfinished c (reached c list) task.0 job =
-      record { task = inside; job = behind.job.job; unfinished = (let z : slice_index (reached c list).ended task.0 ≤ job = omega (arith, look, is, unseen) in z) } in
-      let late = may.ended task.0 job left in
-      let due = behind.due in
-      let now_is = stands.now in
-      absurd (omega (arith, late, due, now_is))
+      elim (seen task.0 there.0 inside there.1) [
+        | inl look ↦
+            (let is = (stands.each task.0 there.0 there.1).job in
+            let unseen = behind.unseen in
+            let left : IsUnfinished c (reached c list) task.0 job =
+            record { task = inside; job = behind.job.job; unfinished = (let z : slice_index (reached c list).ended task.0 ≤ job = omega (arith, look, is, unseen) in z) } in
+            let late = may.ended task.0 job left in
+            let due = behind.due in
+            let now_is = stands.now in
+            absurd (omega (arith, late, due, now_is)))
+        | inr none ↦ absurd (none job behind)
+      ]
   ticked_on laws l m q list ticks.End stands seen call may answer =
       let within = may.within in let now_is = stands.now in let end = answer.0 in absurd (omega (arith, within, now_is, end))
 

@@ -48,7 +48,7 @@ module _ (c : RunConstants) (laws : RunLaws c) where
   now_stays s i (actions.Write e m slot) = refl
   now_stays s i actions.End = refl
 
-  else_stays : (s : ExecState) (i j : ℕ) (action : Action) → j ≢ i →
+  pub else_stays : (s : ExecState) (i j : ℕ) (action : Action) → j ≢ i →
       (get_or (after_action s i action).ended j 0 ≡ get_or s.ended j 0) × (get_or (after_action s i action).places j 0 ≡ get_or s.places j 0)
   else_stays s i j (actions.ReadConst port value) ne = (refl, get_or-set_other s.places i j (get_or s.places i 0 + 1) 0 ne)
   else_stays s i j (actions.Read port e m slot) ne = (refl, get_or-set_other s.places i j (get_or s.places i 0 + 1) 0 ne)

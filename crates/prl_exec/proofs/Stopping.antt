@@ -133,6 +133,7 @@ module _ (k : Constants) (laws : RunLaws (run_of k))
         let last = is.last.1 in
         record {
           constants = known;
+          is = is;
           gate = is_free k.gate over.free;
           job = subst (IsJob c i) (sym over.job) over.left;
           edge = over.edge.0;
@@ -150,4 +151,9 @@ module _ (k : Constants) (laws : RunLaws (run_of k))
           tag = subst (λ (word : ℕ). missed.found ≤ word / 2 ^ 32) (sym (last.half (low missed.cell.0) low_inside))
               (tag_in (values_of k) (low missed.cell.0) missed.found (slice_index s.tags (low missed.cell.0)) low_tag);
           done = last.done i over.left.task ∙ sym its_job;
+          at = λ seat has.
+              let here = stands_there i over.seat over.has in let end = last.each i seat has in
+              let Here : ℕ × ℕ → Type 0 = λ z. action_at c i z.0 z.1 ≡ actions.Read missed.port over.edge over.instance over.slot in
+              let moved : over.seat.place ≡ seat.place = here.1 ∙ sym end.1 in
+              (over.slot, over.cell, subst Here (λ h. (sym over.job h, moved h)) over.reads);
         }

@@ -1,7 +1,11 @@
 -- What a run has come to.
-use Rattle.std.specs.Prelude.{◌≡◌, ◌+◌, ◌/◌, ◌^◌, ◌<◌, ◌≤◌, ℕ, IsSome, Some, length, slice_index}
+use Rattle.std.specs.Prelude.{◌≡◌, ◌+◌, ◌/◌, ◌^◌, ◌<◌, ◌≤◌, ℕ, IsSome, Some, length, slice_get, slice_index}
 use Rattle.prl_plan.specs.declared.walks.Operand.TheVariants as operands
 use Rattle.prl_plan.specs.Facts.{IsJob}
+use Rattle.prl_plan.specs.declared.events.Action.TheVariants as actions
+use Rattle.prl_plan.specs.declared.events.SlotNo.{SlotNo}
+use Rattle.prl_plan.specs.Runs.{action_at}
+use Rattle.prl_seats.specs.JobSeats.{JobSeatView}
 use Rattle.prl_plan.specs.Operands.{operand_of}
 use Rattle.prl_plan.specs.Plans.{PlanView, cell_of, edge_at, low, place_on}
 use Rattle.prl_plan.specs.Precedence.{ComesFrom}
@@ -11,7 +15,7 @@ use Rattle.prl_rule.specs.declared.views.Constants.{Constants}
 use Rattle.prl_rule.specs.declared.views.Gate.TheVariants as gates
 use Rattle.prl_rule.specs.Agreement.{done_word, slot_word}
 use Rattle.prl_rule.specs.Known.{run_of}
-use Rattle.prl_board.specs.Closings.{ClosedView, IsLastState}
+use Rattle.prl_board.specs.Closings.{ClosedView, IsClosed, IsLastState}
 use Rattle.prl_exec.specs.declared.runs.RunFault.{RunFault}
 use Rattle.prl_exec.specs.declared.runs.RunFault.TheVariants as faults
 use Rattle.prl_exec.specs.declared.runs.Stopped.{Stopped}
@@ -38,6 +42,7 @@ pub record IsGivenTo (k : Constants) (e m : ℕ) (cell : ℕ) : Type 0 where
 -- board was closed there.
 pub record HasStopped (k : Constants) (stopped : Stopped) : Type 0 where
   pub constants : stopped.closed.constants ≡ Some k
+  pub is : IsClosed k stopped.closed.words stopped.closed.seats
   pub gate : k.gate ≡ gates.Free
   pub job : IsJob (run_of k) stopped.task.0 stopped.job
   pub edge : ℕ
@@ -49,6 +54,10 @@ pub record HasStopped (k : Constants) (stopped : Stopped) : Type 0 where
   -- the closed words show it
   pub tag : stopped.found ≤ slice_index stopped.closed.words (slot_word (run_of k) (low stopped.cell.0)) / 2 ^ 32
   pub done : slice_index stopped.closed.words (done_word stopped.task.0) ≡ stopped.job
+  -- the job stands at this read, which it has not done
+  pub at : (seat : JobSeatView) → slice_get stopped.closed.seats stopped.task.0 ≡ Some seat →
+      (slot : SlotNo) × (stopped.cell.0 ≡ slot.0 / 2) ×
+      (action_at (run_of k) stopped.task.0 stopped.job seat.place ≡ actions.Read stopped.port (record { 0 = edge }) instance slot)
 
 -- why a run with these constants did not end; want of memory is free
 abbrev pub IsRunFault : Constants → RunFault → Type 0

@@ -9,9 +9,11 @@ use Rattle.prl_plan.specs.Rules.{ActsReleased, HasJob, IsFree, IsUnfinished, Kee
 use Rattle.prl_plan.specs.Runs.{RunConstants, ExecState, opening, after_event, after_events}
 use Rattle.prl_plan.specs.States.{IsLeastReleased, IsSound}
 use Rattle.prl_rule.specs.declared.views.ClockPart.{ClockPart}
+use Rattle.prl_rule.specs.declared.views.Constants.{Constants}
 use Rattle.prl_rule.specs.Rule.{reached}
 use Rattle.prl_seats.specs.declared.jobs.Stage.TheVariants as stages
 use Rattle.prl_seats.specs.JobSeats.{JobSeatView}
+use Rattle.prl_board.specs.ClockSeats.{IsUnseen}
 use Rattle.prl_board.specs.Lones.{LoneView}
 
 -- the laws of plans on which a run rests
@@ -49,6 +51,11 @@ act_of i = events.Act (record { 0 = i })
 -- the clock has seen how many jobs of each task have ended
 abbrev pub HasSeen : LoneView → ClockPart → ℕ → Type 0
 HasSeen l r tasks = (i : ℕ) (seat : JobSeatView) → i < tasks → slice_get l.seats i ≡ Some seat → slice_index r.looks i ≡ seat.job
+
+-- of each task the clock has seen how many jobs have ended, or no job that is due by the next tick is left to be seen
+abbrev pub HasSeenDue : Constants → LoneView → ClockPart → ℕ → Type 0
+HasSeenDue k l r tasks = (i : ℕ) (seat : JobSeatView) → i < tasks → slice_get l.seats i ≡ Some seat →
+    (slice_index r.looks i ≡ seat.job) ⊎ ((n : ℕ) → IsUnseen k r i n → ⊥)
 
 -- a poll of task i did its next action, or that may not come
 abbrev pub IsPolled : RunConstants → ℕ → LoneView → ClockPart → List Event → Bool → Type 0

@@ -1,6 +1,6 @@
 //! One thread runs a board to its end.
 
-ghost use Rattle.std.specs.Prelude.{◌≡◌, ◌+◌, ◌*◌, ◌<◌, ◌≤◌, ◌++◌, List, [], ◌∷◌, IfOk, Some, length};
+ghost use Rattle.std.specs.Prelude.{◌≡◌, ◌+◌, ◌*◌, ◌<◌, ◌≤◌, ◌++◌, List, [], ◌∷◌, IfErr, IfOk, Some, length, replicate, slice_get};
 ghost use Rattle.std.specs.Bool.{OnFalse, OnTrue};
 ghost use Rattle.prl_plan.specs.Vocabulary.{IsHorizon, KeepsGated};
 ghost use Rattle.prl_plan.specs.declared.events.Event.{Event};
@@ -8,10 +8,11 @@ ghost use Rattle.prl_plan.specs.declared.events.Event.TheVariants as events;
 ghost use Rattle.prl_values.specs.Fitting.{HaveTaskBodies, HaveTypedRows};
 ghost use Rattle.prl_rule.specs.Vocabulary.{known, run_of, reached};
 ghost use Rattle.prl_rule.specs.declared.views.ClockPart.{ClockPart};
+ghost use Rattle.prl_seats.specs.JobSeats.{JobSeatView};
 ghost use Rattle.prl_board.specs.Vocabulary.{IsLoneOf, IsPlacedAt, MayRead};
 ghost use Rattle.prl_exec.specs.Runs.{HasEnded};
-ghost use Rattle.prl_exec.specs.Standing.{HasSeen, StandsIn, TellsPoll};
-ghost use Rattle.prl_exec.specs.code.Alone.{HasActed, HasGoneOn, IsIdle, IsLeftOver, IsOver, MayAct};
+ghost use Rattle.prl_exec.specs.Standing.{HasSeenDue, StandsIn, TellsPoll};
+ghost use Rattle.prl_exec.specs.code.Alone.{AreNoted, HasActed, HasGoneOn, HasRunOn, HasTurned, IsIdle, IsLeftOver, IsOver, KeepsNoted, MayAct, Sweeps};
 
 use crate::laws::run_laws;
 use prl_base::TaskNo;
@@ -19,6 +20,7 @@ use prl_board::{Board, Closed, Gate, Got, Lone, Place, Release, Steps, gather, o
 use prl_body::Bodies;
 use prl_flow::Sensors;
 use prl_plan::{Horizon, Plan, free_list_is_short};
+use prl_seats::zeros;
 use std::alloc::{AllocError, Global};
 use std::sync::ledger::Ledger;
 
@@ -142,28 +144,49 @@ pub(crate) fn is_over(lone: &Lone, board: &Board) -> bool
     true
 }
 
-/// The clock looks at all tasks.
-pub fn look_all<L: Ledger>(lone: &mut Lone, board: &Board, steps: &mut Steps<L>)
+/// The clock looks at a task, where a job of it that is due by the next tick has not been seen to end.
+fn look_at<L: Ledger>(lone: &mut Lone, board: &Board, task: TaskNo, steps: &mut Steps<L>)
+    requires lone { IsLoneOf board.now lone.old }
+    requires task { task.0 < (run_of board.now.known).tasks }
+    ensures lone { IsLoneOf board.now lone.new }
+    ensures seats { lone.new.seats ≡ lone.old.seats }
+    ensures steps { steps.new ≤ steps.old + 1 }
+    ensures told { (r : ClockPart) (list : List Event) → StandsIn (run_of board.now.known) lone.old r list → HasSeenDue board.now.known lone.old r task.0 →
+        (q : ClockPart) × StandsIn (run_of board.now.known) lone.new q list × HasSeenDue board.now.known lone.new q (task.0 + 1) }
+{
+    lone.stands();
+    if !lone.is_due(board, task) {
+        return;
+    }
+    lone.look(board, task, steps);
+}
+
+/// The clock looks at the tasks of which a job that is due by the next tick has not been seen to end.
+pub fn look_due<L: Ledger>(lone: &mut Lone, board: &Board, steps: &mut Steps<L>)
     requires lone { IsLoneOf board.now lone.old }
     ensures lone { IsLoneOf board.now lone.new }
     ensures seats { lone.new.seats ≡ lone.old.seats }
-    ensures steps { steps.new ≡ steps.old + (run_of board.now.known).tasks }
+    ensures steps { steps.new ≤ steps.old + (run_of board.now.known).tasks }
     ensures told { (r : ClockPart) (list : List Event) → StandsIn (run_of board.now.known) lone.old r list →
-        (q : ClockPart) × StandsIn (run_of board.now.known) lone.new q list × HasSeen lone.new q (run_of board.now.known).tasks }
+        (q : ClockPart) × StandsIn (run_of board.now.known) lone.new q list × HasSeenDue board.now.known lone.new q (run_of board.now.known).tasks }
 {
     lone.stands();
-    for i in 0..board.tasks() {
-        lone.look(board, TaskNo(i), steps);
+    if lone.is_ahead() {
+        return;
     }
+    for i in 0..board.tasks() {
+        look_at(lone, board, TaskNo(i), steps);
+    }
+    lone.note_due(board);
 }
 
-/// The clock goes on, where every job that is due has ended and it has looked at all tasks.
+/// The clock goes on, where every job that is due has ended and it has seen that.
 pub fn tick<L: Ledger>(lone: &mut Lone, board: &Board, steps: &mut Steps<L>)
     requires lone { IsLoneOf board.now lone.old }
     ensures lone { IsLoneOf board.now lone.new }
     ensures steps { steps.new ≡ steps.old + 1 }
     ensures told { (r : ClockPart) (list : List Event) → StandsIn (run_of board.now.known) lone.old r list →
-        HasSeen lone.old r (run_of board.now.known).tasks → KeepsGated (run_of board.now.known) (reached (run_of board.now.known) list) events.Tick →
+        HasSeenDue board.now.known lone.old r (run_of board.now.known).tasks → KeepsGated (run_of board.now.known) (reached (run_of board.now.known) list) events.Tick →
         (q : ClockPart) × StandsIn (run_of board.now.known) lone.new q (list ++ events.Tick ∷ []) }
 {
     run_laws(board);
@@ -171,32 +194,190 @@ pub fn tick<L: Ledger>(lone: &mut Lone, board: &Board, steps: &mut Steps<L>)
     let _ = ticked;
 }
 
-/// Does one event, where a horizon job is left.
-fn go_on<L: Ledger>(lone: &mut Lone, board: &Board, steps: &mut Steps<L>) -> bool
+/// How many actions a task does at most before the next one has its turn.
+const TURN: u64 = 1_024;
+
+/// What one thread knows of the tasks that wait for the clock.
+#[derive(Drop)]
+struct Noted {
+    /// By task, a date before which its next job is not released.
+    until: Vec<u64>,
+    /// The least of them, or less.
+    soon: u64,
+}
+
+/// Whether no job of the task is open.
+fn is_shut(lone: &Lone, task: TaskNo) -> bool
+    requires { task.0 < length lone.now.seats }
+{
+    match lone.place(task) {
+        Place::Over => true,
+        Place::Idle => true,
+        Place::Reading(_, _) => false,
+        Place::Writing(_, _) => false,
+        Place::Ending => false,
+    }
+}
+
+/// Does what comes next for a task, one action after another, until its job has ended or the next action may not come. How many
+/// actions were done.
+fn act_long<L: Ledger>(lone: &mut Lone, board: &Board, task: TaskNo, steps: &mut Steps<L>) -> u64
     requires lone { IsLoneOf board.now lone.old }
+    requires task { task.0 < length lone.old.seats }
     ensures lone { IsLoneOf board.now lone.new }
-    ensures steps { steps.new ≤ steps.old + (3 * (run_of board.now.known).tasks + 1) }
-    ensures none { OnFalse result (steps.new ≡ steps.old) }
+    ensures tasks { length lone.new.seats ≡ length lone.old.seats }
+    ensures few { result ≤ 1024 }
+    ensures steps { steps.new ≤ steps.old + 2 * (result + 1) }
     ensures told { (r : ClockPart) (list : List Event) → StandsIn (run_of board.now.known) lone.old r list →
-        HasGoneOn (run_of board.now.known) lone.new list result }
+        HasRunOn (run_of board.now.known) task.0 lone.new r list result }
 {
     run_laws(board);
-    if is_over(lone, board) {
-        return false;
+    for did in 0..TURN {
+        if !poll(lone, board, task, steps) {
+            return did;
+        }
+        if is_shut(lone, task) {
+            return did + 1;
+        }
     }
+    TURN
+}
+
+/// When the task's next job is released, where one is left.
+fn next_release(lone: &Lone, board: &Board, task: TaskNo) -> u64
+    requires lone { IsLoneOf board.now lone.now }
+    requires task { task.0 < length lone.now.seats }
+    ensures { (s : JobSeatView) → slice_get lone.now.seats task.0 ≡ Some s → s.job < (run_of board.now.known).jobs task.0 →
+        result ≡ (run_of board.now.known).release task.0 s.job }
+{
     lone.stands();
-    if act_first(lone, board, steps) {
-        return true;
+    let job = lone.job(task);
+    if job < board.jobs_of(task) {
+        board.release(task, job)
+    } else {
+        u64::MAX
     }
-    look_all(lone, board, steps);
+}
+
+/// A task's turn: does what may come for it, where it is not known to wait for the clock, and notes when its next job is released.
+/// How many actions were done.
+fn turn<L: Ledger>(
+    lone: &mut Lone,
+    board: &Board,
+    until: &mut Vec<u64>,
+    now: u64,
+    task: TaskNo,
+    steps: &mut Steps<L>,
+) -> u64
+    requires lone { IsLoneOf board.now lone.old }
+    requires task { (task.0 < length lone.old.seats) × (task.0 < length until.old.items) }
+    ensures lone { IsLoneOf board.now lone.new }
+    ensures tasks { length lone.new.seats ≡ length lone.old.seats }
+    ensures wide { length until.new.items ≡ length until.old.items }
+    ensures few { result ≤ 1024 }
+    ensures steps { steps.new ≤ steps.old + 2 * (result + 1) }
+    ensures told { (r : ClockPart) (list : List Event) → StandsIn (run_of board.now.known) lone.old r list → now ≡ r.now →
+        AreNoted (run_of board.now.known) until.old.items (reached (run_of board.now.known) list) →
+        HasTurned (run_of board.now.known) task.0 lone.new r list until.old.items until.new.items result }
+{
+    if now < until[task.0 as usize] {
+        return 0;
+    }
+    let did = act_long(lone, board, task, steps);
+    until[task.0 as usize] = next_release(lone, board, task);
+    did
+}
+
+fn lesser(a: u64, b: u64) -> u64
+    ensures { (result ≤ a) × (result ≤ b) }
+{
+    if a < b { a } else { b }
+}
+
+/// Each task has its turn. How many actions were done.
+fn sweep<L: Ledger>(lone: &mut Lone, board: &Board, noted: &mut Noted, steps: &mut Steps<L>) -> u64
+    requires lone { IsLoneOf board.now lone.old }
+    requires wide { length noted.old.until.items ≡ (run_of board.now.known).tasks }
+    ensures lone { IsLoneOf board.now lone.new }
+    ensures wide { length noted.new.until.items ≡ (run_of board.now.known).tasks }
+    ensures few { result ≤ 1024 * (run_of board.now.known).tasks }
+    ensures steps { steps.new ≤ steps.old + 2 * ((run_of board.now.known).tasks + result) }
+    ensures told { (r : ClockPart) (list : List Event) → StandsIn (run_of board.now.known) lone.old r list →
+        AreNoted (run_of board.now.known) noted.old.until.items (reached (run_of board.now.known) list) →
+        Sweeps (run_of board.now.known) lone.new r list noted.new.until.items noted.new.soon result (run_of board.now.known).tasks }
+{
+    run_laws(board);
+    lone.stands();
+    let now = lone.now();
+    let mut did: u64 = 0;
+    noted.soon = u64::MAX;
+    for i in 0..board.tasks() {
+        did += turn(lone, board, &mut noted.until, now, TaskNo(i), steps);
+        noted.soon = lesser(noted.soon, noted.until[i as usize]);
+    }
+    did
+}
+
+/// Does so, where not all tasks are known to wait for the clock.
+fn act_all<L: Ledger>(
+    lone: &mut Lone,
+    board: &Board,
+    noted: &mut Noted,
+    steps: &mut Steps<L>,
+) -> u64
+    requires lone { IsLoneOf board.now lone.old }
+    requires wide { length noted.old.until.items ≡ (run_of board.now.known).tasks }
+    ensures lone { IsLoneOf board.now lone.new }
+    ensures wide { length noted.new.until.items ≡ (run_of board.now.known).tasks }
+    ensures few { result ≤ 1024 * (run_of board.now.known).tasks }
+    ensures steps { steps.new ≤ steps.old + 2 * ((run_of board.now.known).tasks + result) }
+    ensures told { (r : ClockPart) (list : List Event) → StandsIn (run_of board.now.known) lone.old r list →
+        KeepsNoted (run_of board.now.known) noted.old.until.items noted.old.soon (reached (run_of board.now.known) list) →
+        Sweeps (run_of board.now.known) lone.new r list noted.new.until.items noted.new.soon result (run_of board.now.known).tasks }
+{
+    lone.stands();
+    if lone.now() < noted.soon {
+        return 0;
+    }
+    sweep(lone, board, noted, steps)
+}
+
+/// Does one event or more, where a horizon job is left. How many were done.
+fn go_on<L: Ledger>(lone: &mut Lone, board: &Board, noted: &mut Noted, steps: &mut Steps<L>) -> u64
+    requires lone { IsLoneOf board.now lone.old }
+    requires wide { length noted.old.until.items ≡ (run_of board.now.known).tasks }
+    ensures lone { IsLoneOf board.now lone.new }
+    ensures wide { length noted.new.until.items ≡ (run_of board.now.known).tasks }
+    ensures steps { steps.new ≤ steps.old + (3 * (run_of board.now.known).tasks + 1) * result }
+    ensures told { (r : ClockPart) (list : List Event) → StandsIn (run_of board.now.known) lone.old r list →
+        KeepsNoted (run_of board.now.known) noted.old.until.items noted.old.soon (reached (run_of board.now.known) list) →
+        HasGoneOn (run_of board.now.known) lone.new list noted.new.until.items noted.new.soon result }
+{
+    run_laws(board);
+    lone.stands();
+    if is_over(lone, board) {
+        return 0;
+    }
+    let did = act_all(lone, board, noted, steps);
+    if did > 0 {
+        return did;
+    }
+    look_due(lone, board, steps);
     tick(lone, board, steps);
-    true
+    1
 }
 
 /// Does one event after another, until no horizon job is left.
-fn run_to_end<L: Ledger>(lone: &mut Lone, board: &Board, horizon: Horizon, steps: &mut Steps<L>)
+fn run_to_end<L: Ledger>(
+    lone: &mut Lone,
+    board: &Board,
+    horizon: Horizon,
+    noted: &mut Noted,
+    steps: &mut Steps<L>,
+)
     requires lone { IsLoneOf board.now lone.old }
     requires horizon { (horizon ≡ board.now.known.horizon) × IsHorizon board.now.known.plan board.now.known.horizon }
+    requires noted { (noted.old.until.items ≡ replicate (run_of board.now.known).tasks 0) × (noted.old.soon ≡ 0) }
     requires stands { (r : ClockPart) × StandsIn (run_of board.now.known) lone.old r [] }
     ensures lone { IsLoneOf board.now lone.new }
     ensures over { IsOver lone.new }
@@ -204,8 +385,12 @@ fn run_to_end<L: Ledger>(lone: &mut Lone, board: &Board, horizon: Horizon, steps
 {
     free_list_is_short();
     let mut done: u64 = 0;
-    while go_on(lone, board, steps) {
-        done += 1;
+    loop {
+        let did = go_on(lone, board, noted, steps);
+        if did == 0 {
+            return;
+        }
+        done += did;
     }
 }
 
@@ -225,11 +410,16 @@ pub fn run_alone<L: Ledger>(
     ensures known { IfOk result (λ closed. closed.constants ≡ Some (known plan.now horizon gate sensors.now bodies.now)) }
     ensures ended { IfOk result HasEnded }
     ensures steps { steps.new ≤ steps.old + (3 * length plan.now.graph.tasks + 1) * horizon.events }
+    ensures memory { IfErr result (λ _. steps.new ≡ steps.old) }
 {
     let (board, seats, clock) = open_board(alloc, plan, bodies, sensors, horizon, gate)?;
     run_laws(&board);
     let mut lone = gather(&board, seats, clock);
-    run_to_end(&mut lone, &board, horizon, steps);
+    let mut noted = Noted {
+        until: zeros(alloc, board.tasks() as usize)?,
+        soon: 0,
+    };
+    run_to_end(&mut lone, &board, horizon, &mut noted, steps);
     let closed = lone.close(board);
     closed.stands();
     Ok(closed)

@@ -26,6 +26,9 @@ pub(crate) trait Crew: Sync {
     /// The clock's seat is.
     ghost ticks: { Self → ClockSeatView → Type 0 };
 
+    /// A worker beside the one that leads begins.
+    fn begin(&self);
+
     /// Runs the jobs of the tasks whose seats are there.
     fn serve<R: Wait>(&self, rt: &R, seats: Vec<Option<TaskSeat>>) -> Hand
         requires { holds self.now (vec_items seats) }
@@ -96,6 +99,7 @@ pub(crate) fn start<'s, E, S: Crew, R: Wait + Sync>(
             requires { S.holds crew.now (vec_items seats) }
             ensures { S.holds crew.entry.now (vec_items result.seats) × KeepSeats (vec_items seats) (vec_items result.seats) }
         {
+            crew.begin();
             if unserved.load(Ordering::SeqCst) {
                 Hand::new(seats, None)
             } else {

@@ -9,10 +9,11 @@ mod dealing;
 mod laws;
 mod overruns;
 mod polls;
+mod rests;
 mod runs;
 mod waits;
 mod workers;
 
-pub use alone::{look_all, poll, run_alone, tick};
+pub use alone::{look_due, poll, run_alone, tick};
 pub use laws::run_laws;
 pub use runs::{RunFault, Stopped, run_threads};

@@ -12,12 +12,13 @@ ghost use Rattle.prl_exec.specs.code.Alone.{IsOver};
 ghost use Rattle.prl_exec.specs.code.Hands.{AreDealt, AreHeld, HasOwn};
 ghost use Rattle.prl_exec.specs.code.Overruns.{IsOverrunIn};
 
-use crate::alone::{act_first, is_over, look_all, tick};
+use crate::alone::{act_first, is_over, look_due, tick};
 use crate::crews::{Crew, Served, serve_all};
 use crate::dealing::{collected, dealt, put_back};
 use crate::laws::run_laws;
 use crate::overruns::{Missed, first_overrun, overrun_of};
 use crate::polls::Eye;
+use crate::rests::Others;
 use crate::workers::{Hand, lead, work};
 use prl_base::{CellNo, TaskNo};
 use prl_board::{Board, ClockSeat, Closed, Gate, Lone, Steps, TaskSeat, gather, open_board};
@@ -37,6 +38,7 @@ use std::thread::Threads;
 struct BoardCrew<'b, B, P> {
     board: &'b B,
     probe: &'b P,
+    others: Others,
 }
 
 impl<'a, 'b, P: Probe> Crew for BoardCrew<'b, Board<'a>, P> {
@@ -51,6 +53,10 @@ impl<'a, 'b, P: Probe> Crew for BoardCrew<'b, Board<'a>, P> {
 
     ghost ticks = { λ s clock. (r : ClockPart) × IsClockOf s.board.now clock r };
 
+    fn begin(&self) {
+        self.others.begin();
+    }
+
     fn serve<R: Wait>(&self, rt: &R, seats: Vec<Option<TaskSeat>>) -> Hand {
         work(rt, self.board, &Eye { probe: self.probe }, seats)
     }
@@ -61,7 +67,8 @@ impl<'a, 'b, P: Probe> Crew for BoardCrew<'b, Board<'a>, P> {
         seats: Vec<Option<TaskSeat>>,
         clock: ClockSeat,
     ) -> (Hand, ClockSeat) {
-        lead(rt, self.board, &Eye { probe: self.probe }, seats, clock)
+        let eye = Eye { probe: self.probe };
+        lead(rt, self.board, &eye, &self.others, seats, clock)
     }
 
     fn put_back(&self, all: &mut Vec<Option<TaskSeat>>, seats: Vec<Option<TaskSeat>>) {
@@ -140,7 +147,7 @@ fn go_on<L: Ledger>(lone: &mut Lone, board: &Board, steps: &mut Steps<L>) -> Opt
     if let Some(missed) = first_overrun(lone, board, steps) {
         return Some(missed);
     }
-    look_all(lone, board, steps);
+    look_due(lone, board, steps);
     tick(lone, board, steps);
     None
 }
@@ -224,7 +231,11 @@ fn served<R: Threads + Wait + Sync, P: Probe>(
     ensures seats { AreSeatsOf board.entry.now (vec_items result.0) }
     ensures clock { (r : ClockPart) × IsClockOf board.entry.now result.1 r }
 {
-    let crew = BoardCrew { board, probe };
+    let crew = BoardCrew {
+        board,
+        probe,
+        others: Others::new(workers - 1),
+    };
     let (own, hands, room) = dealt;
     let Served { hand, clock } = serve_all(rt, &crew, unserved, workers, hands, own, clock);
     let Hand { seats, overrun } = hand;

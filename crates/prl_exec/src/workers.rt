@@ -9,17 +9,11 @@ ghost use Rattle.prl_exec.specs.code.Hands.{AreHeld, KeepSeats};
 ghost use Rattle.prl_exec.specs.code.Polls.{IsSlotOf, IsSlotPolled};
 
 use crate::polls::{Polled, Watch, poll_awake};
+use crate::rests::{Others, Patience, Rest};
 use crate::waits::Waits;
-use crossbeam_utils::Backoff;
 use prl_base::TaskNo;
 use prl_board::{Board, ClockSeat, Place, TaskSeat, Ticked};
 use std::sync::Wait;
-
-/// How many rounds in which neither a task nor the clock went on a free board waits before it
-/// ticks though a job is due. A clock that ticks as fast as it can overruns nearly every run of
-/// several workers; one that waits so long nearly none, where each worker gets a processor now and
-/// then.
-const PATIENCE: u32 = 1_000;
 
 /// What a round of polls did.
 #[derive(Clone, Copy)]
@@ -138,12 +132,12 @@ pub(crate) fn work<R: Wait, W: Watch>(
     ensures held { AreHeld board.entry.now (vec_items result.seats) }
     ensures kept { KeepSeats (vec_items seats) (vec_items result.seats) }
 {
-    let backoff = Backoff::new();
+    let mut rest = Rest::new();
     let mut waits = Waits::new();
     for _ in rt.forever() {
         waits.begin(None);
         match poll_all(&mut seats, board, probe, &mut waits) {
-            Round::Events => backoff.reset(),
+            Round::Events => rest.reset(),
             Round::Overrun(task) => {
                 return Hand::new(seats, Some(task));
             }
@@ -151,32 +145,38 @@ pub(crate) fn work<R: Wait, W: Watch>(
                 if is_done(&mut seats, board, true) {
                     return Hand::new(seats, None);
                 }
-                backoff.snooze();
+                rest.take(rt);
             }
         }
     }
     unreachable!()
 }
 
-/// Whether a job of the task that is due by the next tick has not been seen to end.
-fn is_due(clock: &mut ClockSeat, board: &Board, task: TaskNo) -> bool
+/// How many jobs of the task have been seen to end, where one more is due by the next tick.
+fn due_of(clock: &mut ClockSeat, board: &Board, task: TaskNo) -> Option<u64>
     requires clock { (r : ClockPart) × IsClockOf board.now clock.old r }
     requires task { task.0 < (run_of board.now.known).tasks }
     ensures { (r : ClockPart) × IsClockOf board.now clock.new r }
 {
     let ended = clock.look(board, task);
-    ended < board.jobs_of(task) && board.deadline(task, ended) - 1 <= clock.now()
+    if ended < board.jobs_of(task) && board.deadline(task, ended) - 1 <= clock.now() {
+        Some(ended)
+    } else {
+        None
+    }
 }
 
-/// Whether a job that is due by the next tick has not been seen to end. It looks at the tasks up
-/// to the first of which there is one.
-fn are_due(clock: &mut ClockSeat, board: &Board) -> bool
+/// Whether a job that is due by the next tick has not been seen to end, and there is patience left
+/// for it. It looks at the tasks up to the first of which there is one.
+fn are_due(clock: &mut ClockSeat, board: &Board, others: &Others, patience: &mut Patience) -> bool
     requires { (r : ClockPart) × IsClockOf board.now clock.old r }
     ensures { (r : ClockPart) × IsClockOf board.now clock.new r }
 {
     for i in 0..board.tasks() {
-        if is_due(clock, board, TaskNo(i)) {
-            return true;
+        if let Some(ended) = due_of(clock, board, TaskNo(i)) {
+            if patience.is_left(others, i as usize, ended) {
+                return true;
+            }
         }
     }
     false
@@ -194,16 +194,16 @@ fn goes_on(clock: &mut ClockSeat, board: &Board) -> bool
     }
 }
 
-/// Ticks, on a free board though jobs are due where there is no patience. Whether the clock went
-/// on. A gated clock knows by itself where a job is due, and looks at the tasks there alone.
-fn tick(clock: &mut ClockSeat, board: &Board, patient: bool) -> bool
+/// Ticks, on a free board though jobs are due where there is no patience left. Whether the clock
+/// went on. A gated clock knows by itself where a job is due, and looks at the tasks there alone.
+fn tick(clock: &mut ClockSeat, board: &Board, others: &Others, patience: &mut Patience) -> bool
     requires { (r : ClockPart) × IsClockOf board.now clock.old r }
     ensures { (r : ClockPart) × IsClockOf board.now clock.new r }
 {
     if board.is_gated() && goes_on(clock, board) {
         return true;
     }
-    if are_due(clock, board) && patient {
+    if are_due(clock, board, others, patience) {
         return false;
     }
     goes_on(clock, board)
@@ -214,6 +214,7 @@ pub(crate) fn lead<R: Wait, W: Watch>(
     rt: &R,
     board: &Board,
     probe: &W,
+    others: &Others,
     mut seats: Vec<Option<TaskSeat>>,
     mut clock: ClockSeat,
 ) -> (Hand, ClockSeat)
@@ -223,30 +224,25 @@ pub(crate) fn lead<R: Wait, W: Watch>(
     ensures kept { KeepSeats (vec_items seats) (vec_items result.0.seats) }
     ensures clock { (r : ClockPart) × IsClockOf board.entry.now result.1 r }
 {
-    let backoff = Backoff::new();
+    let mut rest = Rest::new();
     let mut waits = Waits::new();
-    let mut waited: u32 = 0;
+    let mut patience = Patience::new();
     for _ in rt.forever() {
         waits.begin(Some(clock.now()));
         match poll_all(&mut seats, board, probe, &mut waits) {
-            Round::Events => {
-                backoff.reset();
-                waited = 0;
-            }
+            Round::Events => rest.reset(),
             Round::Overrun(task) => {
                 return (Hand::new(seats, Some(task)), clock);
             }
             Round::Nothing => {
-                if tick(&mut clock, board, waited < PATIENCE) {
-                    backoff.reset();
-                    waited = 0;
+                if tick(&mut clock, board, others, &mut patience) {
+                    rest.reset();
                 } else {
                     let at_end = clock.now() >= board.end();
                     if is_done(&mut seats, board, at_end) {
                         return (Hand::new(seats, None), clock);
                     }
-                    waited = waited.saturating_add(1);
-                    backoff.snooze();
+                    patience.note(rest.take(rt));
                 }
             }
         }

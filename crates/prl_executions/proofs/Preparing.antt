@@ -26,7 +26,9 @@ use Rattle.prl_track.specs.declared.seen.Seen.{Seen}
 use Rattle.prl_tables.specs.Vocabulary.{IsGood, entries_of}
 use Rattle.prl_overlaps.specs.declared.entries.Entry.{Entry}
 use Rattle.prl_executions.specs.declared.ready.Ready.{Ready}
-use Rattle.prl_executions.specs.Ready.{IsReady, IsTextOf, ready_of}
+use Rattle.prl_executions.specs.Ready.{IsDrivenTextOf, IsReady, IsTextOf, ready_of}
+use Rattle.prl_table.specs.Noted.{AreAllNoted}
+use Rattle.prl_tables.specs.Tables.{last_unit}
 
 abbrev parts : PlanView → List CheckedBody → Rows → Horizon → Ready
 parts plan bodies rows horizon = record { plan = plan; bodies = bodies; sensors = rows; horizon = horizon }
@@ -84,6 +86,7 @@ module _ (g : Given) (r : Ready) (ready : IsReady g r) where
     pub board_has_run : HasRun g ready.execution gate closed
     board_has_run = record {
       constants = subst (λ (x : Ready). closed.constants ≡ Some (known_of x gate)) ready.made its;
+      is = subst (λ (x : Ready). IsClosed (known_of x gate) closed.words closed.seats) ready.made is_closed;
       ended = ended;
       shown = subst (λ (x : Ready). AreShown closed x.plan.graph (meant_flows g ready.execution.meaning)) ready.made
           (subst (AreShown closed r.plan.graph) shown_meant shown);
@@ -154,12 +157,17 @@ pub record ListLaws : Type 0 where
   pub complete : (plan : PlanView) (horizon : Horizon) → IsPlan plan → IsHorizon plan horizon → (entries : List Entry) → IsGood plan entries
       → IsComplete (constants_of plan horizon) (after_events (constants_of plan horizon) (opening (constants_of plan horizon)) (list_of plan horizon entries))
 
+same_board : (a b : ClosedView) → runs.Ended a ≡ runs.Ended b → a ≡ b
+same_board a b same = cc
+
 -- a run by the good table that the text tells
 pub cycle_text_is : ListLaws → (g : Given) (r : Ready) (entries : List Entry) → entries_of r.plan.graph.hyper (text_of g files.Table) ≡ Ok entries
-    → IsGood r.plan entries → (text : List ℕ) (done : Ran) → IsTextOf g r gates.Gated text done → IsCycleText g text done
+    → IsGood r.plan entries → (text : List ℕ) (done : Ran) → IsDrivenTextOf g r entries text done → IsCycleText g text done
 cycle_text_is law g r entries read good text done is =
-    let e = is.0 in
-    let plans : r.plan ≡ e.plan = ap (λ (x : Ready). x.plan) is.1 in
+    let e = is.of.0 in
+    let made : r ≡ ready_of g e = is.of.1 in
+    let run = is.of.2 in
+    let plans : r.plan ≡ e.plan = ap (λ (x : Ready). x.plan) made in
     let good : IsGood e.plan entries = subst (λ (p : PlanView). IsGood p entries) plans good in
     let read : entries_of e.plan.graph.hyper (text_of g files.Table) ≡ Ok entries =
     subst (λ (p : PlanView). entries_of p.graph.hyper (text_of g files.Table) ≡ Ok entries) plans read in
@@ -170,5 +178,10 @@ cycle_text_is law g r entries read good text done is =
       has_table = record { has_plan = plan; read = read; good = good };
       gated = law.gated e.plan e.horizon plan.is_plan e.has_horizon.is_horizon entries good;
       complete = law.complete e.plan e.horizon plan.is_plan e.has_horizon.is_horizon entries good;
-      run = is.2;
+      closed = run.closed;
+      ticks = is.ticks;
+      driven = is.driven ∙ ap (λ (board : ClosedView). runs.Driven board is.ticks) (same_board is.closed run.closed run.ended);
+      run = run.run;
+      by = subst (λ (x : Ready). AreAllNoted (constants_of x.plan x.horizon) (last_unit x.plan.graph entries) is.ticks) made is.by;
+      written = run.written;
     }

@@ -2,15 +2,16 @@
 
 ghost use Rattle.std.specs.Prelude.{◌≡◌, ◌≢◌, ◌<◌, ◌≤◌, ◌++◌, Ok, Some, [], ◌∷◌, IfOk, IfErr, IfSome, length};
 ghost use Rattle.prl_exec.specs.Runs.{HasEnded};
-ghost use Rattle.prl_plan.specs.Horizons.{IsHorizon};
+ghost use Rattle.prl_plan.specs.Horizons.{IsHorizon, constants_of};
 ghost use Rattle.prl_rule.specs.Known.{known};
 ghost use Rattle.prl_rule.specs.declared.views.Gate.TheVariants as gates;
 ghost use Rattle.prl_stages.specs.Vocabulary.{HasPlan, IsCycleText, front, ran};
 ghost use Rattle.prl_stages.specs.Vocabulary.{table_refusal, IsTableFault};
 ghost use Rattle.prl_tables.specs.declared.reading.TableFault.TheVariants as checking;
-ghost use Rattle.prl_tables.specs.Vocabulary.{entries_of};
+ghost use Rattle.prl_table.specs.Noted.{AreAllNoted};
+ghost use Rattle.prl_tables.specs.Vocabulary.{entries_of, last_unit};
 ghost use Rattle.prl_values.specs.Fitting.{HaveTaskBodies, HaveTypedRows};
-ghost use Rattle.prl_executions.specs.Ready.{IsReady, IsTextOf};
+ghost use Rattle.prl_executions.specs.Ready.{IsReady, IsDrivenTextOf};
 ghost use Rattle.prl_calls.specs.Stops.{given_of, StopsAt, Passes};
 ghost use Rattle.prl_executions.specs.code.Faults.{AreOfTask};
 
@@ -22,7 +23,7 @@ use prl_calls::{Request, task_name};
 use prl_plan::{Plan, TaskGraph, plan_is_one};
 use prl_stages::{Fault, MAX_BODIES, MAX_PROGRAM, Ran, Stage, Stop, TableRefusal};
 use prl_table::{
-    Checked, Table, TableFault, check_table, drive, read_table, unrolled_table_is_gated,
+    Checked, Noted, Table, TableFault, check_table, drive, read_table, unrolled_table_is_gated,
 };
 use std::alloc::{AllocError, Global};
 use std::marker::Brand;
@@ -71,21 +72,22 @@ fn told_table(alloc: Global, request: &Request, plan: &Plan) -> Result<Table, St
     }
 }
 
-/// One thread runs all jobs by the table, and its steps are counted.
+/// One thread runs all jobs by the table, and its steps are counted; and at which tick each job was done.
 fn driven<L: Ledger>(
     alloc: Global,
     ready: &Ready,
     table: &Checked<'_>,
     blank: Blank,
-) -> Result<Closed, AllocError>
+) -> Result<(Closed, Noted), AllocError>
     requires horizon { IsHorizon ready.now.plan ready.now.horizon }
     requires bodies { HaveTaskBodies ready.now.plan.graph ready.now.bodies }
     requires rows { HaveTypedRows ready.now.plan.graph ready.now.horizon.until ready.now.sensors }
     requires table { table.now.plan ≡ ready.now.plan }
     requires name { blank.name ≡ L.name }
     requires parts { (blank.parts ≡ L.parts) × (0 < blank.parts) }
-    ensures known { IfOk result (λ closed. closed.constants ≡ Some (known ready.now.plan ready.now.horizon gates.Gated ready.now.sensors ready.now.bodies)) }
-    ensures ended { IfOk result HasEnded }
+    ensures known { IfOk result (λ run. run.0.constants ≡ Some (known ready.now.plan ready.now.horizon gates.Gated ready.now.sensors ready.now.bodies)) }
+    ensures ended { IfOk result (λ run. HasEnded run.0) }
+    ensures ticks { IfOk result (λ run. AreAllNoted (constants_of ready.now.plan ready.now.horizon) (last_unit ready.now.plan.graph table.now.entries) run.1) }
 {
     let mut steps = Steps::<L>::new(blank);
     drive(
@@ -108,12 +110,12 @@ fn driven_text(
 ) -> Result<(Vec<u8>, Ran), AllocError>
     requires ready { IsReady (given_of request.now) ready.now }
     requires table { table.now.plan ≡ ready.now.plan }
-    ensures { IfOk result (λ made. IsTextOf (given_of request.now) ready.now gates.Gated made.0.items made.1) }
+    ensures { IfOk result (λ made. IsDrivenTextOf (given_of request.now) ready.now table.now.entries made.0.items made.1) }
 {
     let blank = Blank::new(1);
-    let closed = driven::<Brand>(alloc, ready, table, blank)?;
+    let (closed, noted) = driven::<Brand>(alloc, ready, table, blank)?;
     let text = text_of(alloc, request, ready, Gate::Gated, &closed)?;
-    Ok((text, Ran::Ended(closed)))
+    Ok((text, Ran::Driven(closed, noted)))
 }
 
 /// Mode `cycle`.

@@ -85,10 +85,13 @@ pub(crate) fn range_of(words: &[String], plan: &Plan, rows: &[u32]) -> Option<(u
     Some((from, until))
 }
 
-/// Before which tick jobs are released whose windows are drawn whole: all, where the words tell the end
-/// of the range or name a table, else those of a hyperperiod.
+/// Before which tick jobs are released whose windows are drawn whole: none, where the words tell the end
+/// of the range; all, where they name a table; else those of a hyperperiod.
 pub(crate) fn whole_before(words: &[String], plan: &Plan, from: u64) -> u64 {
-    if value_of(b"--until", words).is_some() || value_of(b"--table", words).is_some() {
+    if value_of(b"--until", words).is_some() {
+        return 0;
+    }
+    if value_of(b"--table", words).is_some() {
         return MAX_UNTIL;
     }
     from.saturating_add(plan.graph().hyper)

@@ -40,6 +40,9 @@ impl Dates {
         ensures { result ≡ window_at self.now i.0 (pos m) }
     {
         let list = self.list(i);
+        if list.len() == 1 {
+            return list[0];
+        }
         list[(m % list.len() as u64) as usize]
     }
 

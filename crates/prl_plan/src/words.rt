@@ -49,6 +49,9 @@ impl Word {
         requires fits { number_at self.now i < 2 ^ 64 }
         ensures { result ≡ number_at self.now i }
     {
+        if self.step_in == 1 {
+            return self.repeat.as_slice()[0] + i * self.step_out;
+        }
         let first = self.repeat.as_slice()[(i % self.step_in) as usize];
         first + i / self.step_in * self.step_out
     }

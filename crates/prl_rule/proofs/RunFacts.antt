@@ -187,6 +187,22 @@ module _ (k : Constants) (plan : IsPlan k.plan)
       let here : IsHorizonJob k.plan.graph k.horizon.until (edge_at k.plan.graph e.0).to.0 n = subst (λ (x : ℕ). IsHorizonJob k.plan.graph k.horizon.until x n) (sym a.1) (horizon i n job) in
       ap type_of (stored_is e.0 n m slot.0 a.0 a.3 a.4) ∙ (value_of_read e.0 n m a.0 here a.3).0
 
+  -- what a job reads on the edge that its action names
+  pub named_read : (i n place port : ℕ) (e : EdgeNo) (m : ℕ) (slot : SlotNo) → IsJob (run_of k) i n → read_at i n place ≡ actions.Read port e m slot →
+      ((edge_at k.plan.graph e.0).to.0 ≡ i) × ((edge_at k.plan.graph e.0).port ≡ port) × (operand_of (edge_at k.plan.graph e.0) n ≡ operands.From m)
+      × (value_on (job_values_of k) (edge_at k.plan.graph e.0) n ≡ Some ((values_of k).stored (slot.0 / 2) m))
+  unfolding values_of
+  named_read i n place port e m slot job is =
+      let a : IsActionOf k.plan i n (actions.Read port e m slot) = subst (IsActionOf k.plan i n) is (each i n place) in
+      let here : IsHorizonJob k.plan.graph k.horizon.until (edge_at k.plan.graph e.0).to.0 n = subst (λ (x : ℕ). IsHorizonJob k.plan.graph k.horizon.until x n) (sym a.1) (horizon i n job) in
+      let t = typed e.0 n a.0 here in
+      let read : t.0 ≡ read_on (job_values_of k) (edge_at k.plan.graph e.0) n = sym (ap (λ (o : Option Value). unwrap_or o (values.Int (pos 0))) t.1) in (
+        a.1,
+        a.2,
+        a.3,
+        t.1 ∙ ap (λ (x : Value). Some x) (read ∙ ((value_of_read e.0 n m a.0 here a.3).1 ∙ sym (stored_is e.0 n m slot.0 a.0 a.3 a.4))),
+      )
+
   -- what stands among the operands at a port
   at_port : (i n place port e : ℕ) → e < length k.plan.graph.edges → (edge_at k.plan.graph e).to.0 ≡ i → (edge_at k.plan.graph e).port ≡ port → IsAtPort port (read_at i n place) →
       slice_get (reads_of_job k.plan.graph (job_values_of k) i n) (operands_before (actions_of k.plan i n) place) ≡ Some (read_on (job_values_of k) (edge_at k.plan.graph e) n)

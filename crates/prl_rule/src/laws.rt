@@ -1,15 +1,20 @@
 //! Laws of halves and words, of what jobs read and give over a run, and of plans, as functions that
 //! do nothing: the contract of each is the law.
 
-ghost use Rattle.std.specs.Prelude.{◌≡◌, ◌/◌, ◌%◌, ◌^◌, ◌<◌, ℕ};
+ghost use Rattle.std.specs.Prelude.{◌≡◌, ◌/◌, ◌%◌, ◌^◌, ◌<◌, ℕ, Some};
 ghost use Rattle.prl_base.specs.Values.{type_of, FitsValue, IsOfType};
 ghost use Rattle.prl_base.specs.declared.values.Ty.{Ty};
 ghost use Rattle.prl_base.specs.declared.values.Value.{Value};
-ghost use Rattle.prl_plan.specs.Plans.{IsPlan};
+ghost use Rattle.prl_base.specs.declared.numbers.EdgeNo.{EdgeNo};
+ghost use Rattle.prl_plan.specs.declared.events.Action.TheVariants as actions;
+ghost use Rattle.prl_plan.specs.declared.events.SlotNo.{SlotNo};
+ghost use Rattle.prl_plan.specs.declared.walks.Operand.TheVariants as operands;
+ghost use Rattle.prl_plan.specs.Vocabulary.{IsJob, IsPlan, action_at, edge_at, operand_of};
+ghost use Rattle.prl_values.specs.JobValues.{value_on};
 ghost use Rattle.prl_values.specs.Fitting.{HaveTaskBodies, HaveTypedRows};
 ghost use Rattle.prl_rule.specs.declared.views.Constants.{Constants};
 ghost use Rattle.prl_rule.specs.Halves.{AreHalves, high_half, low_half, tagged, value_of_halves};
-ghost use Rattle.prl_rule.specs.Known.{run_of, values_of};
+ghost use Rattle.prl_rule.specs.Known.{job_values_of, run_of, values_of};
 ghost use Rattle.prl_rule.specs.RunValues.{HasValueFacts};
 ghost use Rattle.prl_rule.specs.PlanLaws.{PlanLaws};
 
@@ -45,6 +50,22 @@ pub fn words_are_exact()
 pub fn run_values_keep_facts()
     ensures { (k : Constants) → IsPlan k.plan → HaveTaskBodies k.plan.graph k.bodies →
         HaveTypedRows k.plan.graph k.horizon.until k.sensors → HasValueFacts (run_of k) (values_of k) }
+{
+    horizon_jobs_are_counted();
+    actions_are_as_defined();
+    job_values_exist();
+    job_values_are_typed();
+}
+
+/// The half that a job reads is of a cell of the edge that the action names: what is stored there of the instance is what the
+/// job reads on this edge, which leads to this port of its task.
+pub fn reads_are_of_their_edges()
+    ensures { (k : Constants) → IsPlan k.plan → HaveTaskBodies k.plan.graph k.bodies →
+        HaveTypedRows k.plan.graph k.horizon.until k.sensors → (i n place port : ℕ) (e : EdgeNo) (m : ℕ) (slot : SlotNo) →
+        IsJob (run_of k) i n → action_at (run_of k) i n place ≡ actions.Read port e m slot →
+        ((edge_at k.plan.graph e.0).to.0 ≡ i) × ((edge_at k.plan.graph e.0).port ≡ port) ×
+        (operand_of (edge_at k.plan.graph e.0) n ≡ operands.From m) ×
+        (value_on (job_values_of k) (edge_at k.plan.graph e.0) n ≡ Some ((values_of k).stored (slot.0 / 2) m)) }
 {
     horizon_jobs_are_counted();
     actions_are_as_defined();

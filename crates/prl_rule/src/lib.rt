@@ -8,7 +8,9 @@ mod steps;
 mod tagged;
 mod views;
 
-pub use laws::{halves_are_exact, plan_laws, run_values_keep_facts, words_are_exact};
+pub use laws::{
+    halves_are_exact, plan_laws, reads_are_of_their_edges, run_values_keep_facts, words_are_exact,
+};
 pub use steps::{
     bare_seat_may_enter, gated_read_is_never_overrun, join_takes_all_parts, load_of_done_is_kept,
     load_of_half_is_a_read, load_of_now_opens_a_job, load_of_stop_is_kept,

@@ -9,7 +9,9 @@ ghost use Rattle.prl_base.specs.declared.numbers.EdgeNo.{EdgeNo as AnyEdge};
 ghost use Rattle.prl_base.specs.declared.numbers.TaskNo.{TaskNo as AnyTask};
 ghost use Rattle.prl_plan.specs.declared.events.Action.TheVariants as actions;
 ghost use Rattle.prl_plan.specs.Vocabulary.{HasPlanFacts, IsJob, ReadsAt, action_at, IsHorizon};
-ghost use Rattle.prl_plan.specs.Vocabulary.{edge_at};
+ghost use Rattle.prl_plan.specs.Vocabulary.{edge_at, operand_of};
+ghost use Rattle.prl_plan.specs.declared.walks.Operand.TheVariants as operands;
+ghost use Rattle.prl_values.specs.JobValues.{value_on};
 ghost use Rattle.prl_plan.specs.declared.events.SlotNo.{SlotNo as AnySlot};
 ghost use Rattle.std.specs.Bool.{OnTrue, OnFalse};
 ghost use Rattle.prl_seats.specs.Boards.{IsClosing, NamesTask};
@@ -17,7 +19,7 @@ ghost use Rattle.prl_rule.specs.Vocabulary.{slot_word, stop_word, word_count, Is
 ghost use Rattle.prl_rule.specs.Vocabulary.{ClockStopTold, EndTold, HalfTold, IsAt, IsStopFor};
 ghost use Rattle.prl_rule.specs.Vocabulary.{LookTold, NowTold, RaiseTold, StopTold, TickTold};
 ghost use Rattle.prl_rule.specs.Vocabulary.{WriteTold, part_at, part_of, HasValueFacts, word_of};
-ghost use Rattle.prl_rule.specs.Vocabulary.{known, run_of, values_of, Agreed, StandsAt, all_parts};
+ghost use Rattle.prl_rule.specs.Vocabulary.{job_values_of, known, run_of, values_of, Agreed, StandsAt, all_parts};
 ghost use Rattle.prl_rule.specs.Vocabulary.{bare, joined, only_part, without_part};
 ghost use Rattle.prl_rule.specs.declared.views.ClockPart.{ClockPart};
 ghost use Rattle.prl_rule.specs.declared.views.TaskPart.{TaskPart};
@@ -39,7 +41,7 @@ use prl_plan::{
 };
 use prl_rule::{
     About, Gate, Running, View, bare_seat_may_enter, join_takes_all_parts, plan_laws,
-    rule_holds_at_the_opening, run_values_keep_facts,
+    reads_are_of_their_edges, rule_holds_at_the_opening, run_values_keep_facts,
 };
 use prl_track::Routes;
 use prl_values::{Worker, jobs_have_work_laws};
@@ -452,10 +454,16 @@ impl<'a> Board<'a> {
         ensures facts { HasPlanFacts (run_of self.now.known) }
         ensures values { HasValueFacts (run_of self.now.known) (values_of self.now.known) }
         ensures work { HaveWorkLaws self.now.known.plan self.now.known.horizon self.now.known.bodies self.now.known.sensors }
+        ensures named { (i n place port : ℕ) (e : AnyEdge) (m : ℕ) (slot : AnySlot) →
+            IsJob (run_of self.now.known) i n → action_at (run_of self.now.known) i n place ≡ actions.Read port e m slot →
+            ((edge_at self.now.known.plan.graph e.0).to.0 ≡ i) × ((edge_at self.now.known.plan.graph e.0).port ≡ port) ×
+            (operand_of (edge_at self.now.known.plan.graph e.0) n ≡ operands.From m) ×
+            (value_on (job_values_of self.now.known) (edge_at self.now.known.plan.graph e.0) n ≡ Some ((values_of self.now.known).stored (slot.0 / 2) m)) }
     {
         plan_facts(self.plan, self.horizon);
         plan_is_one(self.plan);
         run_values_keep_facts();
+        reads_are_of_their_edges();
         jobs_have_work_laws();
     }
 

@@ -57,9 +57,10 @@ static ROWS: [&str; 25] = [
         Something else has to stand here, or this number is out of range. Look just before the \
         mark for a missing semicolon, bracket or operator. A choice is written `if(c, a, b)`.",
     "24 body name at |\n|\
-        This name is not known here, or is given twice. A body knows the inputs and outputs that \
-        its import declares, and its own registers. It has no other variables: write the \
-        expression out, or a register, which keeps its value for the next job.",
+        This name is not known here, or is given twice. On the left may stand the outputs that \
+        the import declares and the body's registers, on the right its inputs and registers: an \
+        output can not be read. It has no other variables: write the expression out, or a \
+        register, which keeps its value for the next job.",
     "30 cycle |\n|\
         Flow `\x00` needs its own value of the same instant. Delay it somewhere around the loop, \
         as `0 fby x` does, and let the loop go through an imported node; `::` and `tail` do not \

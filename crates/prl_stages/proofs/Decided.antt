@@ -9,15 +9,13 @@ use Rattle.prl_syntax.specs.declared.parsing.ParseFault.TheVariants as parsing
 use Rattle.prl_names.specs.Vocabulary.{names_of, IsNamed, used_imports}
 use Rattle.prl_types.specs.Typing.{IsOutcome}
 use Rattle.prl_types.specs.declared.faults.TypeFault.{TypeFault}
-use Rattle.prl_types.specs.declared.faults.TypeFault.TheVariants as typing
 use Rattle.prl_body.specs.Vocabulary.{BodyTree, checked, TextTree}
 use Rattle.prl_body.specs.declared.faults.BodyFault.{BodyFault}
 use Rattle.prl_body.specs.declared.faults.BodyFault.TheVariants as body_faults
 use Rattle.prl_bodytext.specs.Parsing.{IsParsed as IsParsedBodies}
-use Rattle.prl_stages.specs.Vocabulary.{GrammarRefusal, TypesRefusal, BodiesRefusal, Fault, InputFile, Stage, Given, content_of, text_of, RefusesBodies, grammar_fault, types_fault, bodies_fault}
+use Rattle.prl_stages.specs.Vocabulary.{GrammarRefusal, BodiesRefusal, Fault, InputFile, Stage, Given, content_of, text_of, RefusesBodies, grammar_fault, bodies_fault}
 use Rattle.prl_stages.specs.Vocabulary.{Holds, Comes, IsDecided, AreDecided}
 use Rattle.prl_stages.specs.declared.faults.GrammarRefusal.TheVariants as bad_grammar
-use Rattle.prl_stages.specs.declared.faults.TypesRefusal.TheVariants as bad_types
 use Rattle.prl_stages.specs.declared.faults.BodiesRefusal.TheVariants as bad_bodies
 use Rattle.prl_stages.specs.declared.faults.Fault.TheVariants as faults
 use Rattle.prl_stages.specs.declared.faults.InputFile.TheVariants as parts
@@ -51,17 +49,6 @@ grammar_by g (Err cause) h =
     let t = grammar_refusal g cause h in
     inr (faults.Grammar t.0, (t.0, subst (λ (x : ParseFault). IsParsed (text_of g parts.Program) (Err x)) t.1 h, refl))
 
-types_refusal : (p : ProgramTree) (main : Option (List ℕ)) (cause : TypeFault) → IsOutcome p main (Err cause) → (r : TypesRefusal) × (cause ≡ types_fault r)
-types_refusal p main (typing.Twice name) h = (bad_types.Twice name, refl)
-types_refusal p main (typing.Unknown name) h = (bad_types.Unknown name, refl)
-types_refusal p main (typing.Undefined name) h = (bad_types.Undefined name, refl)
-types_refusal p main (typing.Recursive name) h = (bad_types.Recursive name, refl)
-types_refusal p main typing.NoMain h = (bad_types.NoMain, refl)
-types_refusal p main (typing.Arity at) h = (bad_types.Arity at, refl)
-types_refusal p main (typing.Mismatch at wanted found) h = (bad_types.Mismatch at wanted found, refl)
-types_refusal p main (typing.TypeFree node name) h = (bad_types.TypeFree node name, refl)
-types_refusal p main typing.Memory h = absurd h
-
 bodies_refusal : (cause : BodyFault) → cause ≢ body_faults.Memory → (r : BodiesRefusal) × (cause ≡ bodies_fault r)
 bodies_refusal (body_faults.Syntax at) h = (bad_bodies.Syntax at, refl)
 bodies_refusal (body_faults.Limit limit) h = (bad_bodies.Limit limit, refl)
@@ -94,9 +81,7 @@ module _ (law : Laws) (g : Given) where
       below = (law.names grammar.0 g.node t.0 h.names).main_below;
     },
   )
-  types_by grammar (Err cause) h =
-      let t = types_refusal grammar.0 g.node cause h in
-      inr (faults.Types t.0, (grammar.0, grammar.1, t.0, subst (λ (x : TypeFault). IsOutcome grammar.0 g.node (Err x)) t.1 h, refl))
+  types_by grammar (Err cause) h = inr (faults.Types cause, (grammar.0, grammar.1, cause, h, refl))
 
   pub types_decided : Holds g stages.Grammar → IsDecided g stages.Types
   types_decided grammar = let r = law.types grammar.0 g.node in types_by grammar r.0 r.1

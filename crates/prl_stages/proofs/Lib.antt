@@ -16,6 +16,8 @@ mod DecidedRuns
 mod DecidedPlans
 mod DecidedTables
 mod Commands
+mod LastStates
+mod Ticks
 mod Boards
 mod Replaying
 mod OneDispatch

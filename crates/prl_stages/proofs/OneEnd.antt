@@ -14,15 +14,15 @@ use Rattle.prl_expand.specs.Expansions.{Expansion}
 use Rattle.prl_flow.specs.Vocabulary.{FlatProgram, Rows, HasNoCycle, IsCycleLabel, values_before}
 use Rattle.prl_sensors.specs.declared.faults.SensorFault.{SensorFault}
 use Rattle.prl_stages.specs.declared.faults.InputFile.TheVariants as parts
-use Rattle.prl_stages.specs.Vocabulary.{Fault, Stage, Given, content_of, text_of, IsMain, AreBodies, RefusesBodies, grammar_fault, types_fault, bodies_fault, HasClocks, clock_fault, too_many}
-use Rattle.prl_stages.specs.Vocabulary.{rows_for, sensors_fault, told_parse, told_types, told_clocks, told_body, told_sensors, Holds, Refuses, Comes, FindOne}
+use Rattle.prl_stages.specs.Vocabulary.{Fault, Stage, Given, content_of, text_of, IsMain, AreBodies, RefusesBodies, grammar_fault, bodies_fault, HasClocks, clock_fault, too_many}
+use Rattle.prl_stages.specs.Vocabulary.{rows_for, sensors_fault, told_parse, told_clocks, told_body, told_sensors, Holds, Refuses, Comes, FindOne}
 use Rattle.prl_stages.specs.declared.faults.Fault.TheVariants as faults
 use Rattle.prl_stages.specs.declared.stages.Stage.TheVariants as stages
 use Rattle.prl_stages.proofs.OnePlan.{cells_apart, cells_one, dates_apart, dates_one, graph_apart, graph_one, one_graph, words_apart, words_one}
 use Rattle.prl_stages.proofs.OnePlaced.{cores_apart, cores_one, placed_apart, placed_one}
 use Rattle.prl_stages.proofs.OneTable.{TableLaws, made_apart, made_one, table_apart, table_one}
 use Rattle.prl_stages.proofs.OneRun.{horizon_apart, horizon_one, schedule_apart, schedule_one}
-use Rattle.prl_stages.proofs.Told.{grammar_told, types_told, clocks_told, bodies_told, sensors_told, same_told}
+use Rattle.prl_stages.proofs.Told.{grammar_told, clocks_told, bodies_told, sensors_told, same_told}
 use Rattle.prl_stages.proofs.OneParts as ones
 use Rattle.prl_stages.proofs.OneParts.{ok_ok, ok_err, err_err}
 
@@ -82,7 +82,7 @@ module _ (law : Laws) (g : Given) where
       ok_err (Ok h.0) h.0 fault refl (law.ones.parts.programs (text_of g parts.Program) (Ok h.0) (Err fault) h.1.written k.1)
   apart stages.Types f h k =
       let same = (ones.one_program law.ones.parts g) k.0 h.0 k.1 h.2.program in
-      let fault = types_fault k.2 in
+      let fault = k.2 in
       (ones.typed_is_no_fault law.ones.parts g) h.0 h.1 h.2.types fault h.2.typed (subst (λ (p : ProgramTree). IsFault p g.node fault) same k.3)
   apart stages.Expansion f h k =
       let same = (ones.one_expansion law.ones.parts g) h.1.program h.1.main k.0 k.1 h.1.expanded.expansion k.4.1.expansion h.1.is_main k.2 h.1.expanded.is k.4.1.is in
@@ -127,10 +127,8 @@ module _ (law : Laws) (g : Given) where
       same_told told_parse x y (faults.Grammar h.0) (faults.Grammar k.0) a b same (grammar_told h.0) h.2 (grammar_told k.0) k.2
   one stages.Types a b h k =
       let same = (ones.one_program law.ones.parts g) k.0 h.0 k.1 h.1 in
-      let x = types_fault h.2 in
-      let y = types_fault k.2 in
-      let fault = subst (λ (p : ProgramTree). IsFault p g.node y) same k.3 in
-      same_told told_types x y (faults.Types h.2) (faults.Types k.2) a b ((ones.one_type_fault law.ones.parts g) h.0 x y h.3 fault) (types_told h.2) h.4 (types_told k.2) k.4
+      let there = subst (λ (p : ProgramTree). IsFault p g.node k.2) same k.3 in
+      h.4 ∙ ap faults.Types ((ones.one_type_fault law.ones.parts g) h.0 h.2 k.2 h.3 there) ∙ sym k.4
   one stages.Expansion a b h k = h.5 ∙ ap faults.Limit (h.4.0 ∙ sym k.4.0) ∙ sym k.5
   one stages.Causality a b h k =
       let same = (ones.one_flat law.ones.parts g) k.0 h.0 k.1 h.1 in

@@ -152,7 +152,7 @@ module _ (law : Laws) (g : Given) where
   run_one clock a b ran other h k = h.1.written ∙ meant_one h.0 k.0 ∙ sym k.1.written
 
   pub cycle_one : (a b : List ℕ) (ran other : Ran) → IsCycleText g a ran → IsCycleText g b other → a ≡ b
-  cycle_one a b ran other h k = h.run.written ∙ meant_one h.execution k.execution ∙ sym k.run.written
+  cycle_one a b ran other h k = h.written ∙ meant_one h.execution k.execution ∙ sym k.written
 
   -- the line of a summary, by its plan, its horizon, its reads and its flows
   abbrev line : ℕ → ℕ → PlanView → Horizon → List Seen → List OutFlow → List ℕ

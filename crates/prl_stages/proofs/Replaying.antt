@@ -13,7 +13,9 @@ use Rattle.prl_causal.specs.Vocabulary.{ExactlyOne, clocks_in}
 use Rattle.prl_graph.specs.TaskGraphs.{IsGraphOf}
 use Rattle.prl_core.specs.Cores.{opened, opened_on}
 use Rattle.prl_names.specs.Uses.{used_imports}
-use Rattle.prl_plan.specs.Vocabulary.{HasPlanFacts, Placement, alone, constants_of, constants_on, IsPlan, PlanView, IsComplete, IsLegal, after_events, opening}
+use Rattle.prl_plan.specs.Vocabulary.{HasPlanFacts, Placement, alone, constants_of, constants_on, IsPlan, PlanView, IsComplete, IsGated, IsLegal, after_events, opening}
+use Rattle.prl_board.specs.Closings.{ClosedView}
+use Rattle.prl_tables.specs.Tables.{last_unit}
 use Rattle.prl_plan.specs.declared.events.Event.{Event}
 use Rattle.prl_plan.specs.declared.horizons.Horizon.{Horizon}
 use Rattle.prl_expand.specs.Flats.{flat_of}
@@ -32,7 +34,9 @@ use Rattle.prl_stages.specs.Vocabulary.{Given, text_of, IsFlattened, AreBodies, 
 use Rattle.prl_stages.specs.Vocabulary.{summary_line, Execution, IsReplayText, HasRows, Meaning, meant_flows, rows_for, HasHorizon, IsWhole, HasTable, PartLaws, RunningLaws, WholeLaws}
 use Rattle.prl_stages.specs.declared.ran.Ran.{Ran}
 use Rattle.prl_stages.specs.declared.ran.Ran.TheVariants as runs
-use Rattle.prl_stages.proofs.Boards.{are_shown, board, has_ended}
+use Rattle.prl_stages.proofs.Boards.{are_shown, board, has_ended, is_closed}
+use Rattle.prl_stages.proofs.LastStates.{none_open}
+use Rattle.prl_stages.proofs.Ticks.{all_are_noted, all_ticks}
 use Rattle.prl_stages.proofs.OneParts as ones
 use Rattle.prl_stages.proofs.Running as running
 
@@ -186,32 +190,42 @@ module _ (one : PartLaws) (law : RunningLaws) (whole : WholeLaws) (g : Given) (b
     known_of under = known plan horizon under rows bodies
 
     -- a board on which every job has ended, and which shows main's outputs
-    run_there : (under : Gate) → HasRun g meant under (board (known_of under))
+    gated : IsGated (constants_of plan horizon) (opening (constants_of plan horizon)) dispatched.0
+    gated = whole.gated (constants_of plan horizon) facts dispatched.0 legal
+
+    -- the board that the dispatched list leads to
+    abbrev last : Gate → ClosedView
+    last under = board (known_of under) (after_events (constants_of plan horizon) (opening (constants_of plan horizon)) dispatched.0)
+
+    run_there : (under : Gate) → HasRun g meant under (last under)
     run_there under =
         let core = after_all (opened plan bodies rows horizon) dispatched.0 in
-        let few = whole.few (constants_of plan horizon) facts dispatched.0 (whole.gated (constants_of plan horizon) facts dispatched.0 legal) in
+        let few = whole.few (constants_of plan horizon) facts dispatched.0 gated in
+        let all = ended_all core complete few in
+        let closed = is_closed (known_of under) core.state dispatched.0 gated refl all (none_open (constants_of plan horizon) dispatched.0 gated complete) in
         let values = law.exist plan is_plan bodies rows horizon.until in
-        let shown = are_shown (known_of under) is_plan core.state (whole.counted plan.graph horizon.until)
+        let shown = are_shown (known_of under) core.state is_plan (whole.counted plan.graph horizon.until)
         (whole.typed plan is_plan bodies rows horizon.until (job_values plan.graph bodies rows horizon.until) bodies_serve rows_serve values)
-        (ended_all core complete few) replay.1 replay.2.flows in
+        all replay.1 replay.2.flows in
         running.run_is law g made.program made.main made.is_main.types flat made.is_main.typed made.expanded range formed clocks order.0 order.1 bodies trees have
-        rows has plan is_plan is_graph horizon has_horizon made.is_main under (board (known_of under)) refl (has_ended (known_of under))
-        (subst (AreShown (board (known_of under)) plan.graph) outs_meant shown)
+        rows has plan is_plan is_graph horizon has_horizon made.is_main under (last under) refl closed (has_ended (known_of under) core.state)
+        (subst (AreShown (last under) plan.graph) outs_meant shown)
 
-    run_of_there : (under : Gate) → IsRunOf g meant under (actuator_text g.until (meant_flows g meant.meaning)) (runs.Ended (board (known_of under)))
-    run_of_there under = record { closed = board (known_of under); ended = refl; run = run_there under; written = refl }
+    run_of_there : (under : Gate) → IsRunOf g meant under (actuator_text g.until (meant_flows g meant.meaning)) (runs.Ended (last under))
+    run_of_there under = record { closed = last under; ended = refl; run = run_there under; written = refl }
 
     pub some_run_text : (under : Gate) → (text : List ℕ) × (ran : Ran) × IsRunText g under text ran
-    some_run_text under = (actuator_text g.until (meant_flows g meant.meaning), runs.Ended (board (known_of under)), (meant, run_of_there under))
+    some_run_text under = (actuator_text g.until (meant_flows g meant.meaning), runs.Ended (last under), (meant, run_of_there under))
 
     pub some_cycle_text : (entries : List Entry) → HasTable g plan entries → (text : List ℕ) × (ran : Ran) × IsCycleText g text ran
     some_cycle_text entries table = (
       actuator_text g.until (meant_flows g meant.meaning),
-      runs.Ended (board (known_of gates.Gated)),
+      runs.Driven (last gates.Gated) (all_ticks (constants_of plan horizon) (last_unit plan.graph entries)),
       running.cycle_is law g made.program made.main made.is_main.types flat made.is_main.typed made.expanded range formed clocks order.0 order.1 bodies trees have
           rows has plan is_plan is_graph horizon has_horizon made.is_main entries table
           (whole.table_gated plan horizon is_plan has_horizon.is_horizon entries table.good) (whole.table_complete plan horizon is_plan has_horizon.is_horizon entries table.good)
-          (actuator_text g.until (meant_flows g meant.meaning)) (runs.Ended (board (known_of gates.Gated))) (run_of_there gates.Gated),
+          (last gates.Gated) (run_there gates.Gated) (all_ticks (constants_of plan horizon) (last_unit plan.graph entries))
+          (all_are_noted (constants_of plan horizon) (last_unit plan.graph entries)) (actuator_text g.until (meant_flows g meant.meaning)) refl,
     )
 
     pub some_summary : (seed size : ℕ) → (text : List ℕ) × (ran : Ran) × IsSummary g seed size text ran
@@ -220,8 +234,8 @@ module _ (one : PartLaws) (law : RunningLaws) (whole : WholeLaws) (g : Given) (b
         let trace = subst (IsTrace (opened plan bodies rows horizon) dispatched.0 replay.0) outs_meant replay.2 in
         let text = summary_line seed size (length plan.graph.tasks) (length plan.graph.edges) horizon.jobs (length replay.0) (sum_of outs) in (
           text,
-          runs.Ended (board (known_of gates.Gated)),
+          runs.Ended (last gates.Gated),
           running.summary_is law g made.program made.main made.is_main.types flat made.is_main.typed made.expanded range formed clocks order.0 order.1 bodies trees have
-              rows has plan is_plan is_graph horizon has_horizon made.is_main (board (known_of gates.Gated)) (run_there gates.Gated) dispatched.0 dispatched.1
+              rows has plan is_plan is_graph horizon has_horizon made.is_main (last gates.Gated) (run_there gates.Gated) dispatched.0 dispatched.1
               replay.0 trace seed size text refl,
         )

@@ -25,7 +25,7 @@ use Rattle.prl_plan.specs.declared.events.Event.{Event}
 use Rattle.prl_plan.specs.declared.graphs.Edge.{Edge}
 use Rattle.prl_plan.specs.declared.graphs.TaskGraph.{TaskGraph}
 use Rattle.prl_plan.specs.declared.horizons.Horizon.{Horizon}
-use Rattle.prl_board.specs.Closings.{ClosedView}
+use Rattle.prl_board.specs.Closings.{ClosedView, IsClosed}
 use Rattle.prl_exec.specs.Runs.{HasEnded}
 use Rattle.prl_replay.specs.Shown.{AreShown}
 use Rattle.prl_rule.specs.Known.{known}
@@ -38,12 +38,13 @@ use Rattle.prl_causal.specs.Vocabulary.{AreTypedRows, HaveTypedBodies, clocks_in
 use Rattle.prl_types.specs.Typing.{IsTyped}
 use Rattle.prl_values.specs.Vocabulary.{HaveTaskBodies, HaveTypedRows, AreJobValues, JobValues, job_values, value_on}
 use Rattle.prl_stages.specs.declared.faults.InputFile.TheVariants as parts
-use Rattle.prl_stages.specs.Vocabulary.{Given, text_of, AreBodies, IsMain, HasPlacement, IsCoresText, Lists, HasRun, IsCycleText, IsRunOf, IsSummary, list_of, sum_of, summary_line, Execution}
+use Rattle.prl_stages.specs.Vocabulary.{Given, text_of, AreBodies, IsMain, HasPlacement, IsCoresText, Lists, HasRun, IsCycleText, IsSummary, list_of, sum_of, summary_line, Execution}
 use Rattle.prl_stages.specs.Vocabulary.{IsReplayText, ReadFlows, HasRows, meant_flows, rows_for, HasHorizon, HasTable}
-use Rattle.prl_stages.specs.declared.ran.Ran.{Ran}
 use Rattle.prl_stages.specs.declared.ran.Ran.TheVariants as runs
 use Rattle.prl_causal.specs.Behaviours.{Satisfies, state_in}
 use Rattle.prl_overlaps.specs.declared.entries.Entry.{Entry}
+use Rattle.prl_table.specs.Noted.{AreAllNoted}
+use Rattle.prl_tables.specs.Tables.{last_unit}
 use Rattle.prl_stages.specs.code.Runnings.{RunningLaws}
 use Rattle.prl_stages.proofs.Inputs.{enough_rows, typed_rows}
 use Rattle.prl_stages.proofs.Meaning as meaning
@@ -258,24 +259,33 @@ module _ (law : RunningLaws) (g : Given) (p : ProgramTree) (main : ℕ) (types :
       }
 
       -- a closed board on which every job has ended and which shows main's outputs
-      pub run_is : (under : Gate) (closed : ClosedView) → closed.constants ≡ Some (known plan horizon under rows bodies) → HasEnded closed
+      pub run_is : (under : Gate) (closed : ClosedView) → closed.constants ≡ Some (known plan horizon under rows bodies)
+          → IsClosed (known plan horizon under rows bodies) closed.words closed.seats → HasEnded closed
           → AreShown closed plan.graph (meant_flows g (execution horizon has_horizon is_main).meaning) → HasRun g (execution horizon has_horizon is_main) under closed
       unfolding execution
-      run_is under closed its ended shown = record { constants = its; ended = ended; shown = shown }
+      run_is under closed its is ended shown = record { constants = its; is = is; ended = ended; shown = shown }
 
       -- with the good table by which the tasks have run
       pub cycle_is : (entries : List Entry) → HasTable g plan entries
           → IsGated (constants_of plan horizon) (opening (constants_of plan horizon)) (list_of plan horizon entries)
           → IsComplete (constants_of plan horizon) (after_events (constants_of plan horizon) (opening (constants_of plan horizon)) (list_of plan horizon entries))
-          → (text : List ℕ) (ran : Ran) → IsRunOf g (execution horizon has_horizon is_main) gates.Gated text ran → IsCycleText g text ran
+          → (closed : ClosedView) → HasRun g (execution horizon has_horizon is_main) gates.Gated closed
+          → (ticks : List (List (Option ℕ))) → AreAllNoted (constants_of plan horizon) (last_unit plan.graph entries) ticks
+          → (text : List ℕ) → text ≡ actuator_text g.until (meant_flows g (execution horizon has_horizon is_main).meaning)
+          → IsCycleText g text (runs.Driven closed ticks)
       unfolding execution
-      cycle_is entries table gated complete text ran run = record {
+      cycle_is entries table gated complete closed run ticks by text written = record {
         execution = execution horizon has_horizon is_main;
         entries = entries;
         has_table = table;
         gated = gated;
         complete = complete;
+        closed = closed;
+        ticks = ticks;
+        driven = refl;
         run = run;
+        by = by;
+        written = written;
       }
 
       -- with the replay of the dispatched list

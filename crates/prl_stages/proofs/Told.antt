@@ -1,9 +1,8 @@
 -- Refusals and the faults of the crates below that they tell.
 use Rattle.std.proofs.Common.{◌≡◌, Option, Some, refl, sym, ap, ◌∙◌}
-use Rattle.prl_stages.specs.Vocabulary.{GrammarRefusal, TypesRefusal, ClocksRefusal, GraphRefusal, BodiesRefusal, SensorsRefusal, Fault, grammar_fault, types_fault, bodies_fault, clock_fault}
-use Rattle.prl_stages.specs.Vocabulary.{graph_fault, sensors_fault, told_parse, told_types, told_clocks, told_graph, told_body, told_sensors}
+use Rattle.prl_stages.specs.Vocabulary.{GrammarRefusal, ClocksRefusal, GraphRefusal, BodiesRefusal, SensorsRefusal, Fault, grammar_fault, bodies_fault, clock_fault}
+use Rattle.prl_stages.specs.Vocabulary.{graph_fault, sensors_fault, told_parse, told_clocks, told_graph, told_body, told_sensors}
 use Rattle.prl_stages.specs.declared.faults.GrammarRefusal.TheVariants as bad_grammar
-use Rattle.prl_stages.specs.declared.faults.TypesRefusal.TheVariants as bad_types
 use Rattle.prl_stages.specs.declared.faults.ClocksRefusal.TheVariants as bad_clocks
 use Rattle.prl_stages.specs.declared.faults.GraphRefusal.TheVariants as bad_graph
 use Rattle.prl_stages.specs.declared.faults.BodiesRefusal.TheVariants as bad_bodies
@@ -16,16 +15,6 @@ grammar_told (bad_grammar.BadToken at) = refl
 grammar_told (bad_grammar.Unexpected at) = refl
 grammar_told (bad_grammar.NumberRange at) = refl
 grammar_told (bad_grammar.Limit limit) = refl
-
-pub types_told : (r : TypesRefusal) → told_types (types_fault r) ≡ Some (faults.Types r)
-types_told (bad_types.Twice name) = refl
-types_told (bad_types.Unknown name) = refl
-types_told (bad_types.Undefined name) = refl
-types_told (bad_types.Recursive name) = refl
-types_told bad_types.NoMain = refl
-types_told (bad_types.Arity at) = refl
-types_told (bad_types.Mismatch at wanted found) = refl
-types_told (bad_types.TypeFree node name) = refl
 
 pub clocks_told : (r : ClocksRefusal) → told_clocks (clock_fault r) ≡ Some (faults.Clocks r)
 clocks_told (bad_clocks.Mismatch at) = refl

@@ -6,8 +6,6 @@ use Rattle.prl_syntax.specs.declared.parsing.ParseFault.{ParseFault}
 use Rattle.prl_syntax.specs.declared.parsing.ParseFault.TheVariants as parsing
 use Rattle.prl_syntax.specs.Parsing.{IsParsed}
 use Rattle.prl_names.specs.Uses.{used_imports}
-use Rattle.prl_types.specs.declared.faults.TypeFault.{TypeFault}
-use Rattle.prl_types.specs.declared.faults.TypeFault.TheVariants as typing
 use Rattle.prl_types.specs.Typing.{IsTyped}
 use Rattle.prl_body.specs.declared.faults.BodyFault.{BodyFault}
 use Rattle.prl_body.specs.declared.faults.BodyFault.TheVariants as body_faults
@@ -17,8 +15,6 @@ use Rattle.prl_bodytext.specs.Parsing.{IsParsed as IsParsedBodies}
 use Rattle.prl_stages.specs.declared.faults.InputFile.TheVariants as parts
 use Rattle.prl_stages.specs.declared.faults.GrammarRefusal.{GrammarRefusal}
 use Rattle.prl_stages.specs.declared.faults.GrammarRefusal.TheVariants as bad_grammar
-use Rattle.prl_stages.specs.declared.faults.TypesRefusal.{TypesRefusal}
-use Rattle.prl_stages.specs.declared.faults.TypesRefusal.TheVariants as bad_types
 use Rattle.prl_stages.specs.declared.faults.BodiesRefusal.{BodiesRefusal}
 use Rattle.prl_stages.specs.declared.faults.BodiesRefusal.TheVariants as bad_bodies
 use Rattle.prl_stages.specs.Given.{Given, text_of}
@@ -55,16 +51,6 @@ grammar_fault (bad_grammar.BadToken at) = parsing.BadToken at
 grammar_fault (bad_grammar.Unexpected at) = parsing.Unexpected at
 grammar_fault (bad_grammar.NumberRange at) = parsing.NumberRange at
 grammar_fault (bad_grammar.Limit limit) = parsing.Limit limit
-
-abbrev pub types_fault : TypesRefusal → TypeFault
-types_fault (bad_types.Twice name) = typing.Twice name
-types_fault (bad_types.Unknown name) = typing.Unknown name
-types_fault (bad_types.Undefined name) = typing.Undefined name
-types_fault (bad_types.Recursive name) = typing.Recursive name
-types_fault bad_types.NoMain = typing.NoMain
-types_fault (bad_types.Arity at) = typing.Arity at
-types_fault (bad_types.Mismatch at wanted found) = typing.Mismatch at wanted found
-types_fault (bad_types.TypeFree node name) = typing.TypeFree node name
 
 abbrev pub bodies_fault : BodiesRefusal → BodyFault
 bodies_fault (bad_bodies.Syntax at) = body_faults.Syntax at

@@ -1,5 +1,5 @@
 -- What a command has run: the tasks of the program's plan on a board, and the summary of a generated program's run.
-use Rattle.std.specs.Prelude.{◌≡◌, ◌+ℤ◌, ℕ, ℤ, pos, List, [], ◌∷◌, length, Some, codes, fold}
+use Rattle.std.specs.Prelude.{◌≡◌, ◌+ℤ◌, ℕ, ℤ, pos, List, [], ◌∷◌, length, Option, Some, codes, fold}
 use Rattle.std.specs.List.{concat}
 use Rattle.std.specs.Fmt.{decimal, signed_decimal}
 use Rattle.prl_base.specs.declared.values.Value.{Value}
@@ -7,7 +7,7 @@ use Rattle.prl_base.specs.declared.values.Value.TheVariants as values
 use Rattle.prl_arguments.specs.declared.arguments.Command.{Command}
 use Rattle.prl_arguments.specs.declared.arguments.Mode.{Mode}
 use Rattle.prl_arguments.specs.declared.arguments.Mode.TheVariants as modes
-use Rattle.prl_board.specs.Closings.{ClosedView}
+use Rattle.prl_board.specs.Closings.{ClosedView, IsClosed}
 use Rattle.prl_core.specs.Cores.{opened}
 use Rattle.prl_exec.specs.Runs.{HasEnded, HasStopped}
 use Rattle.prl_exec.specs.declared.runs.Stopped.{Stopped}
@@ -35,6 +35,7 @@ use Rattle.prl_stages.specs.Runs.{meant_flows}
 use Rattle.prl_stages.specs.Stages.{IsText}
 use Rattle.prl_stages.specs.Tabled.{HasTable}
 use Rattle.prl_overlaps.specs.declared.entries.Entry.{Entry}
+use Rattle.prl_table.specs.Noted.{AreAllNoted}
 use Rattle.prl_tables.specs.Tables.{last_unit}
 use Rattle.prl_tables.specs.Unrolled.{unrolled}
 
@@ -42,10 +43,11 @@ use Rattle.prl_tables.specs.Unrolled.{unrolled}
 abbrev pub board_of : (g : Given) → Execution g → Gate → Constants
 board_of g e gate = known e.plan e.horizon gate e.meaning.rows e.meaning.bodies
 
--- The tasks have run on a board with this gate, which is closed: every job of the horizon has ended, and it shows that the
--- actuators got main's outputs.
+-- The tasks have run on a board with this gate, which is closed: it shows a state that the run has come to, in which every job of
+-- the horizon has ended, and that the actuators got main's outputs.
 pub record HasRun (g : Given) (e : Execution g) (gate : Gate) (closed : ClosedView) : Type 0 where
   pub constants : closed.constants ≡ Some (board_of g e gate)
+  pub is : IsClosed (board_of g e gate) closed.words closed.seats
   pub ended : HasEnded closed
   pub shown : AreShown closed e.plan.graph (meant_flows g e.meaning)
 
@@ -64,7 +66,8 @@ abbrev pub list_of : PlanView → Horizon → List Entry → List Event
 list_of plan horizon entries = unrolled (constants_of plan horizon) (last_unit plan.graph entries)
 
 -- The tasks have run by the good table of the text on a gated board: its list is a gated list of the plan in which every job of the
--- horizon ends. The text is that of the actuators.
+-- horizon ends, and what was noted of the run is that each job was done at the beginning of its last unit. The text is that of the
+-- actuators.
 pub record IsCycleText (g : Given) (text : List ℕ) (ran : Ran) : Type 0 where
   pub execution : Execution g
   pub entries : List Entry
@@ -74,7 +77,12 @@ pub record IsCycleText (g : Given) (text : List ℕ) (ran : Ran) : Type 0 where
   pub complete : IsComplete (constants_of execution.plan execution.horizon)
       (after_events (constants_of execution.plan execution.horizon) (opening (constants_of execution.plan execution.horizon))
       (list_of execution.plan execution.horizon entries))
-  pub run : IsRunOf g execution gates.Gated text ran
+  pub closed : ClosedView
+  pub ticks : List (List (Option ℕ))
+  pub driven : ran ≡ runs.Driven closed ticks
+  pub run : HasRun g execution gates.Gated closed
+  pub by : AreAllNoted (constants_of execution.plan execution.horizon) (last_unit execution.plan.graph entries) ticks
+  pub written : text ≡ actuator_text g.until (meant_flows g execution.meaning)
 
 -- a run on the plan with this gate has stopped at a read that was overrun
 pub record HasOverrun (g : Given) (gate : Gate) (plan : PlanView) (stopped : Stopped) : Type 0 where

@@ -3,6 +3,7 @@ use Rattle.std.specs.Prelude.{◌≡◌, ◌⊎◌, ℕ, Bool, true, false, List
 use Rattle.prl_ast.specs.Trees.{ProgramTree}
 use Rattle.prl_syntax.specs.Parsing.{IsParsed}
 use Rattle.prl_types.specs.Typing.{IsFault}
+use Rattle.prl_types.specs.declared.faults.TypeFault.{TypeFault}
 use Rattle.prl_body.specs.Checks.{BodyTree}
 use Rattle.prl_base.specs.declared.operators.Clock.{Clock}
 use Rattle.prl_flow.specs.Programs.{FlatProgram}
@@ -17,7 +18,6 @@ use Rattle.prl_plantext.specs.PlanTexts.{plan_text}
 use Rattle.prl_print.specs.Printing.{printed}
 use Rattle.prl_stages.specs.declared.faults.InputFile.TheVariants as parts
 use Rattle.prl_stages.specs.declared.faults.GrammarRefusal.{GrammarRefusal}
-use Rattle.prl_stages.specs.declared.faults.TypesRefusal.{TypesRefusal}
 use Rattle.prl_stages.specs.declared.faults.BodiesRefusal.{BodiesRefusal}
 use Rattle.prl_stages.specs.declared.faults.Fault.{Fault}
 use Rattle.prl_stages.specs.declared.faults.Fault.TheVariants as faults
@@ -27,7 +27,7 @@ use Rattle.prl_arguments.specs.declared.arguments.Command.{Command}
 use Rattle.prl_arguments.specs.declared.arguments.Mode.{Mode}
 use Rattle.prl_arguments.specs.declared.arguments.Mode.TheVariants as modes
 use Rattle.prl_stages.specs.Given.{Given, content_of, text_of}
-use Rattle.prl_stages.specs.Parts.{IsProgram, IsMain, AreBodies, RefusesBodies, grammar_fault, types_fault, bodies_fault}
+use Rattle.prl_stages.specs.Parts.{IsProgram, IsMain, AreBodies, RefusesBodies, grammar_fault, bodies_fault}
 use Rattle.prl_stages.specs.Feasible.{IsEdfText}
 use Rattle.prl_stages.specs.Flattened.{IsFlattened, IsCausal, HasClocks, RefusesExpansion, RefusesCausality, RefusesClocks}
 use Rattle.prl_stages.specs.Planned.{HasGraph, HasWords, HasDates, HasPlan, RefusesGraph, RefusesWords, RefusesDates, RefusesCells, accepted_line}
@@ -66,7 +66,7 @@ Refuses g (stages.File part) fault = content_of g part ≡ Err fault
 Refuses g stages.Grammar fault =
     (refusal : GrammarRefusal) × IsParsed (text_of g parts.Program) (Err (grammar_fault refusal)) × (fault ≡ faults.Grammar refusal)
 Refuses g stages.Types fault =
-    (p : ProgramTree) × IsProgram g p × (refusal : TypesRefusal) × IsFault p g.node (types_fault refusal) × (fault ≡ faults.Types refusal)
+    (p : ProgramTree) × IsProgram g p × (cause : TypeFault) × IsFault p g.node cause × (fault ≡ faults.Types cause)
 Refuses g stages.Expansion fault = RefusesExpansion g fault
 Refuses g stages.Causality fault = RefusesCausality g fault
 Refuses g stages.Clocks fault = RefusesClocks g fault

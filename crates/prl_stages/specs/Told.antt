@@ -23,7 +23,6 @@ use Rattle.prl_evaluation.specs.declared.evaluation.FlowFault.TheVariants as flo
 use Rattle.prl_sensors.specs.declared.faults.SensorFault.{SensorFault}
 use Rattle.prl_sensors.specs.declared.faults.SensorFault.TheVariants as sensors
 use Rattle.prl_stages.specs.declared.faults.GrammarRefusal.TheVariants as bad_grammar
-use Rattle.prl_stages.specs.declared.faults.TypesRefusal.TheVariants as bad_types
 use Rattle.prl_stages.specs.declared.faults.ClocksRefusal.TheVariants as bad_clocks
 use Rattle.prl_stages.specs.declared.faults.GraphRefusal.TheVariants as bad_graph
 use Rattle.prl_stages.specs.declared.faults.BodiesRefusal.TheVariants as bad_bodies
@@ -47,15 +46,8 @@ told_parse (parsing.Limit limit) = Some (faults.Grammar (bad_grammar.Limit limit
 told_parse parsing.Memory = None
 
 abbrev pub told_types : TypeFault → Option Fault
-told_types (typing.Twice name) = Some (faults.Types (bad_types.Twice name))
-told_types (typing.Unknown name) = Some (faults.Types (bad_types.Unknown name))
-told_types (typing.Undefined name) = Some (faults.Types (bad_types.Undefined name))
-told_types (typing.Recursive name) = Some (faults.Types (bad_types.Recursive name))
-told_types typing.NoMain = Some (faults.Types bad_types.NoMain)
-told_types (typing.Arity at) = Some (faults.Types (bad_types.Arity at))
-told_types (typing.Mismatch at wanted found) = Some (faults.Types (bad_types.Mismatch at wanted found))
-told_types (typing.TypeFree node name) = Some (faults.Types (bad_types.TypeFree node name))
 told_types typing.Memory = None
+told_types fault = Some (faults.Types fault)
 
 abbrev pub told_expand : ExpandFault → Option Fault
 told_expand (expanding.Limit limit) = Some (faults.Limit limit)

@@ -5,7 +5,7 @@ pub use Rattle.prl_stages.specs.Given.{Folder, Given, IsContent, IsGiven, IsGive
 pub use Rattle.prl_stages.specs.Given.{content_of, file_of, generated, read_as, text_of}
 pub use Rattle.prl_stages.specs.Needs.{HoldsBodies}
 pub use Rattle.prl_stages.specs.Parts.{AreBodies, IsMain, IsProgram, RefusesBodies, bodies_fault}
-pub use Rattle.prl_stages.specs.Parts.{grammar_fault, types_fault}
+pub use Rattle.prl_stages.specs.Parts.{grammar_fault}
 pub use Rattle.prl_stages.specs.Placed.{HasPlacement, IsCoresText, IsPlacedRun, Lists, RefusesCores}
 pub use Rattle.prl_stages.specs.Placed.{RefusesPlaced, cores_refusal}
 pub use Rattle.prl_stages.specs.Planned.{HasDates, HasGraph, HasPlan, HasWords, RefusesCells}
@@ -41,5 +41,4 @@ pub use Rattle.prl_stages.specs.declared.faults.MakeRefusal.{MakeRefusal}
 pub use Rattle.prl_stages.specs.declared.faults.ScheduleRefusal.{ScheduleRefusal}
 pub use Rattle.prl_stages.specs.declared.faults.SensorsRefusal.{SensorsRefusal}
 pub use Rattle.prl_stages.specs.declared.faults.TableRefusal.{TableRefusal}
-pub use Rattle.prl_stages.specs.declared.faults.TypesRefusal.{TypesRefusal}
 pub use Rattle.prl_stages.specs.declared.stages.Stage.{Stage}

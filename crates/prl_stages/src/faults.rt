@@ -1,7 +1,8 @@
 //! Why a stage of a command refuses. Want of memory is no refusal, so the faults of the crates below are told here without it.
 
-use prl_base::{EdgeNo, Label, Limit, Name, Ratio, Ty};
+use prl_base::{EdgeNo, Label, Limit, Name, Ratio};
 use prl_plan::Rule;
+use prl_types::TypeFault;
 
 /// A file that a command names.
 #[derive(Clone, Copy)]
@@ -25,27 +26,6 @@ pub enum GrammarRefusal {
     NumberRange(u32),
     /// A count is past its limit.
     Limit(Limit),
-}
-
-/// Why the names, the arity or the types of a program are not right, as `TypeFault` of `prl_types` has it.
-#[derive(Drop)]
-pub enum TypesRefusal {
-    /// A name that is declared or defined a second time.
-    Twice(Name),
-    /// A name that stands for nothing, or an input or output of main without a device.
-    Unknown(Name),
-    /// An output or a local without an equation.
-    Undefined(Name),
-    /// A node that applies itself through a cycle of applications.
-    Recursive(Name),
-    /// No node is there to be main.
-    NoMain,
-    /// What stands here has too few flows, or too many.
-    Arity(u32),
-    /// The rule from here contradicts the earlier ones, which give its two sides these types.
-    Mismatch { at: u32, wanted: Ty, found: Ty },
-    /// A flow of a node whose type the rules leave open.
-    TypeFree { node: Name, name: Name },
 }
 
 /// Why the flows of a program have no clocks, as `ClockFault` of `prl_clock` has it.
@@ -185,7 +165,7 @@ pub enum Fault {
     /// The program is not of the grammar.
     Grammar(GrammarRefusal),
     /// The names or the types of the program are not right.
-    Types(TypesRefusal),
+    Types(TypeFault),
     /// The bodies of imported nodes are not of their grammar, do not fit, or lack one.
     Bodies(BodiesRefusal),
     /// A cycle of flows has no delay or passes through no application: the label of a flow on it.

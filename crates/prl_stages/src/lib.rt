@@ -11,7 +11,7 @@ mod telling;
 
 pub use faults::{
     BodiesRefusal, ClocksRefusal, CoresRefusal, DatesRefusal, Fault, GrammarRefusal, GraphRefusal,
-    InputFile, MakeRefusal, ScheduleRefusal, SensorsRefusal, TableRefusal, TypesRefusal,
+    InputFile, MakeRefusal, ScheduleRefusal, SensorsRefusal, TableRefusal,
 };
 pub use laws::{
     commands_come_to_an_end, commands_have_texts, cycles_are_told_by_name, front_is_decided,

@@ -2,6 +2,7 @@
 
 use prl_board::Closed;
 use prl_exec::Stopped;
+use prl_table::Noted;
 
 /// What a command has run on a board of its plan.
 #[derive(Drop)]
@@ -10,6 +11,8 @@ pub enum Ran {
     Not,
     /// All jobs of the horizon: the board, which is closed.
     Ended(Closed),
+    /// All jobs of the horizon, by a table: the board, which is closed, and at which tick each job was done.
+    Driven(Closed, Noted),
     /// Some of them, until one was to read what was overwritten: where that was, with the board, which is closed.
     Stopped(Stopped),
 }

@@ -5,9 +5,7 @@ ghost use Rattle.std.specs.Prelude.{◌≡◌};
 ghost use Rattle.prl_stages.specs.declared.stages.Stage.TheVariants.{Grammar, Types, Bodies, Expansion, Causality, Clocks, Graph, Words, Cells, Values};
 ghost use Rattle.prl_stages.specs.Told.{stop_of, told_parse, told_types, told_body, told_expand, told_causal, told_clocks, told_graph, told_words, told_cells, told_flow};
 
-use crate::faults::{
-    BodiesRefusal, ClocksRefusal, Fault, GrammarRefusal, GraphRefusal, TypesRefusal,
-};
+use crate::faults::{BodiesRefusal, ClocksRefusal, Fault, GrammarRefusal, GraphRefusal};
 use crate::stages::{Stage, Stop};
 use prl_body::BodyFault;
 use prl_buffers::CellFault;
@@ -38,22 +36,10 @@ impl From<TypeFault> for Stop {
     ghost from_gives = { λ fault stop. stop ≡ stop_of Types (told_types fault) };
 
     fn from(fault: TypeFault) -> Stop {
-        let refusal = match fault {
-            TypeFault::Twice(name) => TypesRefusal::Twice(name),
-            TypeFault::Unknown(name) => TypesRefusal::Unknown(name),
-            TypeFault::Undefined(name) => TypesRefusal::Undefined(name),
-            TypeFault::Recursive(name) => TypesRefusal::Recursive(name),
-            TypeFault::NoMain => TypesRefusal::NoMain,
-            TypeFault::Arity(at) => TypesRefusal::Arity(at),
-            TypeFault::Mismatch { at, wanted, found } => TypesRefusal::Mismatch {
-                at,
-                wanted,
-                found,
-            },
-            TypeFault::TypeFree { node, name } => TypesRefusal::TypeFree { node, name },
-            TypeFault::Memory => return Stop::Memory,
-        };
-        Stop::Refused(Stage::Types, Fault::Types(refusal))
+        match fault {
+            TypeFault::Memory => Stop::Memory,
+            fault => Stop::Refused(Stage::Types, Fault::Types(fault)),
+        }
     }
 }
 

@@ -15,7 +15,7 @@ use Rattle.prl_seats.specs.declared.jobs.Stage.TheVariants as stages
 use Rattle.prl_board.specs.Vocabulary.{LoneView, IsClockCall, IsTicked, IsWhole, first_clock}
 use Rattle.prl_board.specs.declared.clocks.Ticked.{Ticked}
 use Rattle.prl_board.specs.declared.clocks.Ticked.TheVariants as ticks
-use Rattle.prl_exec.specs.Standing.{HasSeen, IsPolled, RunLaws, StandsIn, act_of}
+use Rattle.prl_exec.specs.Standing.{HasSeen, HasSeenDue, IsPolled, RunLaws, StandsIn, act_of}
 use Rattle.prl_board.proofs.Lists.{seat_there}
 use Rattle.prl_exec.proofs.Rounds.{looked_at, ticked_on}
 use Rattle.prl_track.proofs.Places.{slice_get_set_same, slice_get_set_other}
@@ -193,6 +193,16 @@ module _ (k : Constants) (table : CheckedView) (is : IsBoardOf k table) (facts :
         ahead = driven.ahead;
       }
 
+  -- its first unfinished job does not act now
+  pub not_first_now : (l : LoneView) (noted : List (Option ℕ)) (t i : ℕ) → i < length l.seats → (driven : IsDriven k table l noted t i) → (first : Option ℕ) →
+      slice_get noted i ≡ Some first → (first ≡ Some t → ⊥) → get_or (reached (run_of k) driven.list).ended i 0 < (run_of k).jobs i →
+      acts_at k table i (get_or (reached (run_of k) driven.list).ended i 0) ≢ t
+  not_first_now l noted t i inside driven first at other =
+      let tasks = driven.stands.tasks in
+      let noted_is : first ≡ next_act (run_of k) (acts_at k table) i (get_or (reached (run_of k) driven.list).ended i 0) =
+      same_noted first (next_act (run_of k) (acts_at k table) i (get_or (reached (run_of k) driven.list).ended i 0)) (sym at ∙ (driven.ahead i (omega (arith, inside, tasks))).next) in
+      noted_other (run_of k) (acts_at k table) i (get_or (reached (run_of k) driven.list).ended i 0) t (λ e. other (noted_is ∙ e))
+
   -- one whose next job acts now
   pub acts_now : (l : LoneView) (noted : List (Option ℕ)) (t i n : ℕ) → i < length l.seats → IsDriven k table l noted t i → (first : Option ℕ) → slice_get noted i ≡ Some first →
       first ≡ Some t → ((s : JobSeatView) → slice_get l.seats i ≡ Some s → n ≡ s.job) → IsNextJob k table l t i n
@@ -252,8 +262,8 @@ module _ (k : Constants) (table : CheckedView) (is : IsBoardOf k table) (facts :
     tick_leads : unrolling.Leads (run_of k) (reached (run_of k) driven.list) (events.Tick ∷ []) (λ s. HaveActed (run_of k) (acts_at k table) (suc t) 0 0 s)
     tick_leads = unrolling.ticks (run_of k) facts (has_ends (run_of k) is.ends) (acts_at k table) is.placing t before (reached (run_of k) driven.list) driven.acted
 
-    has_seen : HasSeen l driven.part (run_of k).tasks
-    has_seen = λ j s below has. (driven.ahead j below).seen ∙ sym (driven.stands.each j s has).job
+    has_seen : HasSeenDue k l driven.part (run_of k).tasks
+    has_seen = λ j s below has. inl ((driven.ahead j below).seen ∙ sym (driven.stands.each j s has).job)
 
     -- a tick leaves the looks as they are
     same_looks : (m : LoneView) (q : ClockPart) (answer : Ticked) → m.view.clock ≡ Some q → IsTicked k driven.part l.view m.view answer → q.looks ≡ driven.part.looks

@@ -1,3 +1,4 @@
+mod Grown
 mod Units
 mod MadeTables
 mod Edf
@@ -8,4 +9,5 @@ mod MadeCode
 mod OneMake
 mod OneTable
 mod Driven
+mod Noting
 mod SomeMade

@@ -9,13 +9,15 @@ ghost use Rattle.prl_rule.specs.declared.views.Gate.TheVariants as gates;
 ghost use Rattle.prl_rule.specs.Known.{known, run_of};
 ghost use Rattle.prl_board.specs.Lones.{IsLoneOf};
 ghost use Rattle.prl_exec.specs.Runs.{HasEnded};
+ghost use Rattle.prl_table.specs.Noted.{AreAllNoted, AreNoted, HaveRoom};
 ghost use Rattle.prl_table.specs.code.Driving.{next_act, AreFirst, IsBoardOf, IsDriven, IsJobDone, IsNextJob};
 
+use crate::noted::{Driver, Noted, Room};
 use prl_base::TaskNo;
-use prl_board::{Board, Closed, Gate, Lone, Steps, gather, open_board};
+use prl_board::{Board, Closed, Gate, Steps, open_board};
 use prl_body::Bodies;
 use prl_edf::actions_end_once;
-use prl_exec::{poll, run_laws};
+use prl_exec::run_laws;
 use prl_flow::Sensors;
 use prl_plan::{
     Horizon, Plan, horizon_jobs_are_counted, look_ups_fit, plan_is_one, run_of_two_lists,
@@ -65,43 +67,9 @@ fn first_acts(
     Ok(next)
 }
 
-/// Does all acts of a task's next job, which acts now.
-fn do_job<L: Ledger>(
-    lone: &mut Lone,
-    board: &Board,
-    table: &Checked<'_>,
-    next: &Vec<Option<u64>>,
-    now: u64,
-    task: TaskNo,
-    job: u64,
-    steps: &mut Steps<L>,
-)
-    requires lone { IsLoneOf board.now lone.old }
-    requires board { IsBoardOf board.now.known table.now }
-    requires task { task.0 < length lone.old.seats }
-    requires driven { IsDriven board.now.known table.now lone.old next.now.items now task.0 }
-    requires next { IsNextJob board.now.known table.now lone.old now task.0 job }
-    ensures lone { IsLoneOf board.now lone.new }
-    ensures tasks { length lone.new.seats ≡ length lone.old.seats }
-    ensures done { IsJobDone board.now.known table.now lone.new next.now.items now task.0 }
-{
-    board.keeps_facts();
-    run_of_two_lists();
-    let _ = table;
-    let _ = next;
-    let _ = now;
-    for _place in 0..u32::MAX {
-        poll(lone, board, task, steps);
-        if lone.job(task) != job {
-            return;
-        }
-    }
-    unreachable!()
-}
-
 /// The clock sees that a task's job has ended, and notes when the next one acts.
 fn note<L: Ledger>(
-    lone: &mut Lone,
+    driver: &mut Driver,
     board: &Board,
     plan: &Plan,
     horizon: Horizon,
@@ -111,22 +79,23 @@ fn note<L: Ledger>(
     task: TaskNo,
     steps: &mut Steps<L>,
 )
-    requires lone { IsLoneOf board.now lone.old }
+    requires lone { IsLoneOf board.now driver.old.lone }
     requires board { IsBoardOf board.now.known table.now }
     requires plan { plan.now ≡ board.now.known.plan }
     requires horizon { (horizon ≡ board.now.known.horizon) × IsHorizon board.now.known.plan board.now.known.horizon }
-    requires task { task.0 < length lone.old.seats }
+    requires task { task.0 < length driver.old.lone.seats }
     requires noted { length next.old.items ≡ (run_of board.now.known).tasks }
-    requires done { IsJobDone board.now.known table.now lone.old next.old.items now task.0 }
-    ensures lone { IsLoneOf board.now lone.new }
-    ensures tasks { length lone.new.seats ≡ length lone.old.seats }
+    requires done { IsJobDone board.now.known table.now driver.old.lone next.old.items now task.0 }
+    ensures lone { IsLoneOf board.now driver.new.lone }
+    ensures tasks { length driver.new.lone.seats ≡ length driver.old.lone.seats }
     ensures noted { length next.new.items ≡ length next.old.items }
-    ensures driven { IsDriven board.now.known table.now lone.new next.new.items now (task.0 + 1) }
+    ensures driven { IsDriven board.now.known table.now driver.new.lone next.new.items now (task.0 + 1) }
+    ensures same { driver.new.noted ≡ driver.old.noted }
 {
     board.keeps_facts();
     run_of_two_lists();
     let _ = now;
-    let ended = lone.look(board, task, steps);
+    let ended = driver.look(board, task, steps);
     next[task.0 as usize] = next_act(plan, horizon, table, task, ended);
 }
 
@@ -143,7 +112,7 @@ fn is_now(noted: Option<u64>, now: u64) -> bool
 
 /// Does all acts of a task that come now.
 fn act_at<L: Ledger>(
-    lone: &mut Lone,
+    driver: &mut Driver,
     board: &Board,
     plan: &Plan,
     horizon: Horizon,
@@ -153,54 +122,59 @@ fn act_at<L: Ledger>(
     task: TaskNo,
     steps: &mut Steps<L>,
 )
-    requires lone { IsLoneOf board.now lone.old }
+    requires lone { IsLoneOf board.now driver.old.lone }
     requires board { IsBoardOf board.now.known table.now }
     requires plan { plan.now ≡ board.now.known.plan }
     requires horizon { (horizon ≡ board.now.known.horizon) × IsHorizon board.now.known.plan board.now.known.horizon }
-    requires task { task.0 < length lone.old.seats }
+    requires task { task.0 < length driver.old.lone.seats }
     requires noted { length next.old.items ≡ (run_of board.now.known).tasks }
-    requires driven { IsDriven board.now.known table.now lone.old next.old.items now task.0 }
-    ensures lone { IsLoneOf board.now lone.new }
-    ensures tasks { length lone.new.seats ≡ length lone.old.seats }
+    requires driven { IsDriven board.now.known table.now driver.old.lone next.old.items now task.0 }
+    requires room { HaveRoom (run_of board.now.known) driver.old.noted }
+    requires before { AreNoted (run_of board.now.known) (last_unit board.now.known.plan.graph table.now.entries) now task.0 driver.old.noted }
+    ensures lone { IsLoneOf board.now driver.new.lone }
+    ensures tasks { length driver.new.lone.seats ≡ length driver.old.lone.seats }
     ensures noted { length next.new.items ≡ length next.old.items }
-    ensures driven { IsDriven board.now.known table.now lone.new next.new.items now (task.0 + 1) }
+    ensures driven { IsDriven board.now.known table.now driver.new.lone next.new.items now (task.0 + 1) }
+    ensures room { HaveRoom (run_of board.now.known) driver.new.noted }
+    ensures after { AreNoted (run_of board.now.known) (last_unit board.now.known.plan.graph table.now.entries) now (task.0 + 1) driver.new.noted }
 {
     board.keeps_facts();
     run_of_two_lists();
     if is_now(next[task.0 as usize], now) {
-        let job = lone.job(task);
-        do_job(lone, board, table, next, now, task, job, steps);
-        note(lone, board, plan, horizon, table, next, now, task, steps);
+        let job = driver.job(task);
+        driver.do_job(board, table, next, now, task, job, steps);
+        note(driver, board, plan, horizon, table, next, now, task, steps);
     }
 }
 
 /// The tick after all acts that come before it.
 fn go_on<L: Ledger>(
-    lone: &mut Lone,
+    driver: &mut Driver,
     board: &Board,
     table: &Checked<'_>,
     next: &Vec<Option<u64>>,
     now: u64,
     steps: &mut Steps<L>,
 )
-    requires lone { IsLoneOf board.now lone.old }
+    requires lone { IsLoneOf board.now driver.old.lone }
     requires board { IsBoardOf board.now.known table.now }
     requires now { now < (run_of board.now.known).end }
-    requires driven { IsDriven board.now.known table.now lone.old next.now.items now (run_of board.now.known).tasks }
-    ensures lone { IsLoneOf board.now lone.new }
-    ensures driven { IsDriven board.now.known table.now lone.new next.now.items (now + 1) 0 }
+    requires driven { IsDriven board.now.known table.now driver.old.lone next.now.items now (run_of board.now.known).tasks }
+    ensures lone { IsLoneOf board.now driver.new.lone }
+    ensures driven { IsDriven board.now.known table.now driver.new.lone next.now.items (now + 1) 0 }
+    ensures same { driver.new.noted ≡ driver.old.noted }
 {
     run_laws(board);
     let _ = table;
     let _ = next;
     let _ = now;
-    let ticked = lone.tick(board, steps);
+    let ticked = driver.tick(board, steps);
     let _ = ticked;
 }
 
 /// Does all acts that come at a tick, and then the tick.
 fn do_tick<L: Ledger>(
-    lone: &mut Lone,
+    driver: &mut Driver,
     board: &Board,
     plan: &Plan,
     horizon: Horizon,
@@ -209,21 +183,25 @@ fn do_tick<L: Ledger>(
     now: u64,
     steps: &mut Steps<L>,
 )
-    requires lone { IsLoneOf board.now lone.old }
+    requires lone { IsLoneOf board.now driver.old.lone }
     requires board { IsBoardOf board.now.known table.now }
     requires plan { plan.now ≡ board.now.known.plan }
     requires horizon { (horizon ≡ board.now.known.horizon) × IsHorizon board.now.known.plan board.now.known.horizon }
     requires now { now < horizon.end }
     requires noted { length next.old.items ≡ (run_of board.now.known).tasks }
-    requires driven { IsDriven board.now.known table.now lone.old next.old.items now 0 }
-    ensures lone { IsLoneOf board.now lone.new }
+    requires driven { IsDriven board.now.known table.now driver.old.lone next.old.items now 0 }
+    requires room { HaveRoom (run_of board.now.known) driver.old.noted }
+    requires before { AreNoted (run_of board.now.known) (last_unit board.now.known.plan.graph table.now.entries) now 0 driver.old.noted }
+    ensures lone { IsLoneOf board.now driver.new.lone }
     ensures noted { length next.new.items ≡ length next.old.items }
-    ensures driven { IsDriven board.now.known table.now lone.new next.new.items (now + 1) 0 }
+    ensures driven { IsDriven board.now.known table.now driver.new.lone next.new.items (now + 1) 0 }
+    ensures room { HaveRoom (run_of board.now.known) driver.new.noted }
+    ensures after { AreNoted (run_of board.now.known) (last_unit board.now.known.plan.graph table.now.entries) (now + 1) 0 driver.new.noted }
 {
-    lone.stands();
+    driver.stands();
     for i in 0..board.tasks() {
         act_at(
-            lone,
+            driver,
             board,
             plan,
             horizon,
@@ -234,7 +212,7 @@ fn do_tick<L: Ledger>(
             steps,
         );
     }
-    go_on(lone, board, table, next, now, steps);
+    go_on(driver, board, table, next, now, steps);
 }
 
 /// The table places the jobs of the board's run.
@@ -254,7 +232,7 @@ fn table_places(board: &Board, plan: &Plan, horizon: Horizon, table: &Checked<'_
 
 /// Does the whole list.
 fn run_table<L: Ledger>(
-    lone: &mut Lone,
+    driver: &mut Driver,
     board: &Board,
     plan: &Plan,
     horizon: Horizon,
@@ -262,22 +240,24 @@ fn run_table<L: Ledger>(
     next: &mut Vec<Option<u64>>,
     steps: &mut Steps<L>,
 )
-    requires lone { IsLoneOf board.now lone.old }
+    requires lone { IsLoneOf board.now driver.old.lone }
     requires board { IsBoardOf board.now.known table.now }
     requires plan { plan.now ≡ board.now.known.plan }
     requires horizon { (horizon ≡ board.now.known.horizon) × IsHorizon board.now.known.plan board.now.known.horizon }
     requires noted { length next.old.items ≡ (run_of board.now.known).tasks }
-    requires driven { IsDriven board.now.known table.now lone.old next.old.items 0 0 }
-    ensures lone { IsLoneOf board.now lone.new }
-    ensures driven { IsDriven board.now.known table.now lone.new next.new.items horizon.end 0 }
+    requires driven { IsDriven board.now.known table.now driver.old.lone next.old.items 0 0 }
+    requires room { HaveRoom (run_of board.now.known) driver.old.noted }
+    ensures lone { IsLoneOf board.now driver.new.lone }
+    ensures driven { IsDriven board.now.known table.now driver.new.lone next.new.items horizon.end 0 }
+    ensures after { AreNoted (run_of board.now.known) (last_unit board.now.known.plan.graph table.now.entries) horizon.end 0 driver.new.noted }
 {
     for now in 0..horizon.end {
-        do_tick(lone, board, plan, horizon, table, next, now, steps);
+        do_tick(driver, board, plan, horizon, table, next, now, steps);
     }
 }
 
 /// One thread runs all jobs of the horizon by the table, which is a good one of the plan: each job
-/// does all its acts at the beginning of its last unit.
+/// does all its acts at the beginning of its last unit. It is told at which tick each job was done.
 pub fn drive<L: Ledger>(
     alloc: Global,
     plan: &Plan,
@@ -286,22 +266,24 @@ pub fn drive<L: Ledger>(
     horizon: Horizon,
     table: &Checked<'_>,
     steps: &mut Steps<L>,
-) -> Result<Closed, AllocError>
+) -> Result<(Closed, Noted), AllocError>
     requires horizon { IsHorizon plan.now horizon }
     requires bodies { HaveTaskBodies plan.now.graph bodies.now }
     requires rows { HaveTypedRows plan.now.graph horizon.until sensors.now }
     requires table { table.now.plan ≡ plan.now }
-    ensures known { IfOk result (λ closed. closed.constants ≡ Some (known plan.now horizon gates.Gated sensors.now bodies.now)) }
-    ensures ended { IfOk result HasEnded }
+    ensures known { IfOk result (λ run. run.0.constants ≡ Some (known plan.now horizon gates.Gated sensors.now bodies.now)) }
+    ensures ended { IfOk result (λ run. HasEnded run.0) }
+    ensures ticks { IfOk result (λ run. AreAllNoted (constants_of plan.now horizon) (last_unit plan.now.graph table.now.entries) run.1) }
 {
     let mut next = first_acts(alloc, plan, horizon, table)?;
+    let room = Room::new(alloc, plan, horizon)?;
     let (board, seats, clock) = open_board(alloc, plan, bodies, sensors, horizon, Gate::Gated)?;
     run_laws(&board);
     table_places(&board, plan, horizon, table);
-    let mut lone = gather(&board, seats, clock);
-    run_table(&mut lone, &board, plan, horizon, table, &mut next, steps);
-    lone.stands();
-    let closed = lone.close(board);
+    let mut driver = Driver::new(&board, seats, clock, room);
+    run_table(&mut driver, &board, plan, horizon, table, &mut next, steps);
+    driver.stands();
+    let (closed, noted) = driver.close(board);
     closed.stands();
-    Ok(closed)
+    Ok((closed, noted))
 }

@@ -7,6 +7,7 @@
 mod driving;
 mod laws;
 mod making;
+mod noted;
 mod ticks;
 
 pub use driving::drive;
@@ -15,6 +16,7 @@ pub use laws::{
     makes_end_one_way, makes_or_faults_exist,
 };
 pub use making::{MakeFault, make};
+pub use noted::Noted;
 pub use prl_tables::{
     Checked, Entry, Table, TableFault, check_table, checks_end_one_way, class_has_end, classes,
     classes_are_early, four_tests_tell_clashes, good_table_is_placing, pieces_are_short,

@@ -77,6 +77,7 @@ const STOPPED: End = (5, false, true);
 fn end_of(status: &Status) -> End {
     match &status.ran {
         Ran::Ended(closed) => (status.code, closed.ended(), false),
+        Ran::Driven(closed, _) => (status.code, closed.ended(), false),
         Ran::Not => (status.code, false, false),
         Ran::Stopped(_) => (status.code, false, true),
     }
@@ -153,6 +154,42 @@ const SAMPLED: Call = Call {
 #[test]
 fn several_workers_write_the_flows(rt: HostRuntime) -> Result<(), Fail> {
     assert!(rt; told(&rt, rt.alloc(), &SAMPLED, &NoProbe)? == Some(ENDED));
+    Ok(())
+}
+
+const SAMPLED_FREELY: Call = Call {
+    line: "prelude run --program p.prl --bodies p.bod --sensors p.csv --until 60 --workers 4 --clock free",
+    program: SAMPLING,
+    rows: b"i,0,1\ni,1,2\ni,2,3\ni,3,4\ni,4,5\ni,5,6\n",
+    out: b"o,0,0,1\no,1,10,2\no,2,20,3\no,3,30,6\no,4,40,7\no,5,50,8\n",
+    err: b"",
+    other_err: b"",
+};
+
+/// How many calls of this kind are made.
+const CALLS: u32 = 200;
+
+/// How many of them may end otherwise. Nothing is held, so it takes a worker that gets no processor for long.
+const SELDOM: u32 = 4;
+
+/// How many of the calls do not end with all that they are to write.
+fn stopped_of<R: Threads + Wait + Sync>(
+    rt: &R,
+    alloc: Global,
+    call: &Call,
+) -> Result<u32, AllocError> {
+    let mut stopped: u32 = 0;
+    for _ in 0..CALLS {
+        if told(rt, alloc, call, &NoProbe)? != Some(ENDED) {
+            stopped = stopped.saturating_add(1);
+        }
+    }
+    Ok(stopped)
+}
+
+#[test]
+fn runs_with_a_free_clock_seldom_stop(rt: HostRuntime) -> Result<(), Fail> {
+    assert!(rt; stopped_of(&rt, rt.alloc(), &SAMPLED_FREELY)? <= SELDOM);
     Ok(())
 }
 

@@ -1,9 +1,11 @@
-use Rattle.prl_base.proofs.Standard.{◌++◌, [], ◌∷◌, inl, err_from_is_err_and}
+use Rattle.prl_base.proofs.Standard.{◌++◌, List, [], ◌∷◌, inl, subst, err_from_is_err_and}
+use Rattle.prl_overlaps.specs.declared.entries.Entry.{Entry}
 use Rattle.prl_stages.specs.Vocabulary.{front, ran}
 use Rattle.prl_stages.specs.Stages.{Holds}
 use Rattle.prl_stages.specs.declared.stages.Stage.TheVariants as stages
 use Rattle.prl_calls.specs.Stops.{given_of}
 use Rattle.prl_calls.proofs.Stops.{both_hold, stops_first, stops_rest}
+use Rattle.prl_executions.specs.Ready.{IsDrivenTextOf}
 use Rattle.prl_executions.proofs.Preparing.{ListLaws, cycle_text_is, has_plan_there}
 use Rattle.prl_executions.proofs.tabled.cycle_text.Goals as goal
 
@@ -29,7 +31,9 @@ returns-in-Ok c =
     let told = c.in_ok-table.ensures.told in
     let good = c.in-Ok.ensures.good in
     let holds : Holds g stages.Table = (r.plan, entries, record { has_plan = plan; read = told; good = good }) in (
-      cycle_text_is law g r entries told good c.in_ok-driven_text-in-Ok.field-0.0.items c.in_ok-driven_text-in-Ok.field-0.1 c.in_ok-driven_text-in-Ok.ensures,
+      cycle_text_is law g r entries told good c.in_ok-driven_text-in-Ok.field-0.0.items c.in_ok-driven_text-in-Ok.field-0.1
+          (subst (λ (list : List Entry). IsDrivenTextOf g r list c.in_ok-driven_text-in-Ok.field-0.0.items c.in_ok-driven_text-in-Ok.field-0.1) c.in-Ok.ensures.checked.1
+          c.in_ok-driven_text-in-Ok.ensures),
       both_hold g (front ++ ran) (stages.Table ∷ []) c.in_ok-ready.ensures.1 (holds, tt),
     )
 

@@ -25,7 +25,7 @@ returns-clause-driven g c =
     c.next_act.ensures ∙ next_of_board c.args.board.now.known c.args.table.now c.args.plan.now c.args.horizon c.requires.plan c.requires.horizon.0 c.args.task.0 c.look-ended.result in
     let inside : c.args.task.0 < length c.args.next.now.items =
     (let t = c.requires.task in let n = c.requires.done.stands.tasks in let w = c.requires.noted in omega (arith, t, n, w)) in
-    subst (λ (first : Option ℕ). IsDriven c.args.board.now.known c.args.table.now c.look-ended.new.self (set c.args.next.now.items c.args.task.0 first) c.args.now (c.args.task.0 + 1)) (sym now_is)
-    (noted_now c.args.board.now.known c.args.table.now c.requires.board c.keeps_facts.ensures (c.run_of_two_lists.ensures.state (run_of c.args.board.now.known)) c.args.lone.now
-    c.look-ended.new.self c.args.next.now.items c.args.now c.args.task.0 c.look-ended.result c.requires.task inside c.requires.done c.look-ended.ensures.call c.look-ended.ensures.told
+    subst (λ (first : Option ℕ). IsDriven c.args.board.now.known c.args.table.now c.look-ended.new.self.lone (set c.args.next.now.items c.args.task.0 first) c.args.now (c.args.task.0 + 1)) (sym now_is)
+    (noted_now c.args.board.now.known c.args.table.now c.requires.board c.keeps_facts.ensures (c.run_of_two_lists.ensures.state (run_of c.args.board.now.known)) c.args.driver.now.lone
+    c.look-ended.new.self.lone c.args.next.now.items c.args.now c.args.task.0 c.look-ended.result c.requires.task inside c.requires.done c.look-ended.ensures.call c.look-ended.ensures.told
     c.look-ended.ensures.exact)

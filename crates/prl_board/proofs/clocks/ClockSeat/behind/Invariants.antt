@@ -1,7 +1,7 @@
 use Rattle.std.specs.Prelude.{ℕ, ◌≤◌}
 use Rattle.prl_rule.specs.declared.views.ClockPart.{ClockPart}
-use Rattle.prl_board.specs.ClockSeats.{IsClockOf, IsUnseen}
+use Rattle.prl_board.specs.ClockSeats.{IsSaidBy, IsUnseen}
 use Rattle.prl_board.proofs.clocks.ClockSeat.behind.Given as goal
 
 abbrev pub invariant-loop-i : goal.invariant-loop-i
-invariant-loop-i l = (r : ClockPart) → IsClockOf l.board l.self r → (j m : ℕ) → IsUnseen l.board.known r j m → l.i ≤ j
+invariant-loop-i l = (r : ClockPart) → IsSaidBy l.self r → (j m : ℕ) → IsUnseen l.board.known r j m → l.i ≤ j

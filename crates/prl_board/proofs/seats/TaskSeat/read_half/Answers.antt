@@ -1,15 +1,20 @@
-use Rattle.std.proofs.Common.{arith, ◌≡◌, ◌+◌, ◌/◌, ◌^◌, sym, ap, subst, ◌∙◌}
+use Rattle.std.proofs.Common.{Some, arith, ◌≡◌, ◌+◌, ◌/◌, ◌^◌, sym, ap, subst, ◌∙◌}
 use Rattle.prl_board.specs.declared.seats.Got.TheVariants as gots
 use Rattle.prl_rule.specs.Vocabulary.{AreHalves, value_of_halves, values_of}
 use Rattle.prl_seats.specs.JobSeats.{JobSeatView, StaysAt}
-use Rattle.prl_board.specs.TaskSeats.{ReadsHalf}
+use Rattle.prl_board.specs.TaskSeats.{Misses, ReadsHalf}
 use Rattle.prl_seats.proofs.Following.{known_once}
 use Rattle.prl_board.proofs.HalfReads.{finds_half, stands_at, value_here}
 use Rattle.prl_board.proofs.Lows.{low_after_read}
 use Rattle.prl_board.proofs.SeatReads.{Keeps, goes_kept, may_raise, misses_answer, stays_kept}
 use Rattle.prl_board.proofs.Worked.{high_may, high_taken, low_taken}
 use Rattle.prl_board.proofs.Begun.{ready_when, taken_with}
+use Rattle.prl_base.specs.declared.values.Value.{Value}
+use Rattle.prl_board.specs.declared.seats.Got.{Got}
 use Rattle.prl_board.proofs.seats.TaskSeat.read_half.Goals as goal
+
+got_value : {x y : Value} → gots.Value x ≡ gots.Value y → x ≡ y
+got_value is = cc is
 
 pub invariant_of-self : goal.invariant_of-self
 invariant_of-self c =
@@ -33,6 +38,7 @@ returns-then-found-wanted-clause-answer c =
       answer = misses_answer c.args.board.now.known c.args.instance c.args.slot c.self.inside.job c.load-word.new.self c.load-word.result c.cell.result c.tag_read-wanted.result c.unpack-found.result.0 c.missed.result c.missed.ensures
           c.cell.ensures wanted found stays told.told.no_later
           (λ later. may_raise c.args.board.now.known c.self.inside.job c.load-word.new.self c.args.port c.args.edge c.args.instance c.args.slot c.load-word.result at.reads told.told later c.load-word.ensures.same.task stays.place);
+      named = λ v is. absurd (subst (Misses c.cell.result c.tag_read-wanted.result c.unpack-found.result.0) is c.missed.ensures);
     })
 
 pub invariant_of-self-then-is_low : goal.invariant_of-self-then-is_low
@@ -53,6 +59,7 @@ returns-then-is_low-clause-answer c =
       word = c.load-word.result;
       told = told.told;
       answer = (c.if-is_low.ensures.yes, here.tag, here.goes);
+      named = λ v is. absurd (cc is);
     })
 
 pub whole-value-requires : goal.whole-value-requires
@@ -100,4 +107,7 @@ returns-clause-answer c =
       word = c.load-word.result;
       told = told.told;
       answer = (c.if-is_low.ensures.no, here.tag, value, here.goes);
+      named = λ v is.
+          (c.keeps_values.ensures.named c.self.inside.job.task.0 c.self.inside.job.job c.self.inside.job.place c.args.port c.args.edge c.args.instance c.args.slot at.job at.reads.shown.2).3
+          ∙ ap (λ (x : Value). Some x) (sym value ∙ got_value is);
     })

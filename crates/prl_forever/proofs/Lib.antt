@@ -1,0 +1,7 @@
+mod Moved
+mod Dates
+mod Forever
+mod Ticks
+mod TableRuns
+mod Steady
+mod Loads

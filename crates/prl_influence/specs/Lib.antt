@@ -1,0 +1,2 @@
+-- which samples a job's value can show
+pub mod Influence

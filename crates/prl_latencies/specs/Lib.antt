@@ -1,0 +1,2 @@
+-- what the program tells
+pub mod Told
