@@ -1,5 +1,5 @@
 -- Each flat program has its clocks or a fault.
-use Rattle.prl_base.proofs.Standard.{◌≡◌, ◌<◌, ◌++◌, ◌∷◌, ◌⊎◌, inl, inr, ℕ, zero, suc, ℤ, pos, negsuc, nat_abs, ◌≤ℤ◌, List, [], length, map, get_or, Option, Some, None, Result, Ok, Err, refl, sym, ap}
+use Rattle.prl_base.proofs.Standard.{◌≡◌, ◌≢◌, ◌<◌, ◌++◌, ◌∷◌, ◌⊎◌, inl, inr, ℕ, zero, suc, ℤ, pos, negsuc, nat_abs, ◌≤ℤ◌, List, [], length, map, get_or, Option, Some, None, Result, Ok, Err, refl, sym, ap}
 use Rattle.prl_base.proofs.Standard.{◌∙◌, subst, arith, range_with_len, slice_get, cases_lt, get_or-map-range_with_len, length-map-range_with_len, slice_get-get_or, slice_get_within}
 use borrow.Author.Differences.{ints}
 use Rattle.prl_base.specs.Vocabulary.{IsOperatorFor, Fraction}
@@ -159,24 +159,22 @@ built st (suc n) w =
         len (x ∷ xs) = ap suc (len xs)
 
 module _ (p : FlatProgram) (flat : IsFlat p) where
-  stopped_outcome : (e : ClockFault) → IsStopped [] (constraints_of p) e → IsOutcome p (Err e)
-  stopped_outcome (faults.Mismatch at) s = stopped_mismatch (constraints_of p) (faults.Mismatch at) s at refl
-  stopped_outcome (faults.Limit limit) s = stopped_limit (constraints_of p) (faults.Limit limit) s limit refl
-  stopped_outcome (faults.Free label) s = absurd (free s.refusal s.placed.at label (sym s.is))
+  stopped_outcome : (e : ClockFault) → IsStopped [] (constraints_of p) e → e ≢ faults.Memory → IsOutcome p (Err e)
+  stopped_outcome (faults.Mismatch at) s never = stopped_mismatch (constraints_of p) (faults.Mismatch at) s at refl
+  stopped_outcome (faults.Limit limit) s never = stopped_limit (constraints_of p) (faults.Limit limit) s limit refl
+  stopped_outcome (faults.Free label) s never = absurd (free s.refusal s.placed.at label (sym s.is))
     where
       free : (r : Refusal) (at : ℕ) (label : List ℕ) → told r at ≡ faults.Free label → ⊥
       free refusals.Mismatch at label h = cc
       free refusals.Limit at label h = cc
-  stopped_outcome (faults.NotWhole label t u) s = absurd (not_whole s.refusal s.placed.at label t u (sym s.is))
+      free refusals.Memory at label h = cc
+  stopped_outcome (faults.NotWhole label t u) s never = absurd (not_whole s.refusal s.placed.at label t u (sym s.is))
     where
       not_whole : (r : Refusal) (at : ℕ) (label : List ℕ) (t u : Fraction) → told r at ≡ faults.NotWhole label t u → ⊥
       not_whole refusals.Mismatch at label t u h = cc
       not_whole refusals.Limit at label t u h = cc
-  stopped_outcome faults.Memory s = absurd (memory s.refusal s.placed.at (sym s.is))
-    where
-      memory : (r : Refusal) (at : ℕ) → told r at ≡ faults.Memory → ⊥
-      memory refusals.Mismatch at h = cc
-      memory refusals.Limit at h = cc
+      not_whole refusals.Memory at label t u h = cc
+  stopped_outcome faults.Memory s never = absurd (never refl)
 
   found : (i : ℕ) → i < length p.flows → (flow : Flow) × (slice_get p.flows i ≡ Some flow)
   found i h = of (slice_get p.flows i) refl
@@ -223,5 +221,5 @@ module _ (p : FlatProgram) (flat : IsFlat p) where
       elim (steps_total p [] (constraints_of p) (alones n) (record { len = length-map-range_with_len alone 0 n; fine = fine_none (alones n) start; solved = start })
       (good_below p flat n)) [
         | inl r ↦ reached_outcome r.0 r.1
-        | inr e ↦ (Err e.0, stopped_outcome e.0 e.1)
+        | inr e ↦ (Err e.0, stopped_outcome e.0 e.1 e.2)
       ]

@@ -51,10 +51,12 @@ module _ (ds : List Placed) (e : ClockFault) (s : IsStopped [] ds e) where
       place : (r : Refusal) → told r s.placed.at ≡ faults.Mismatch at → s.placed.at ≡ at
       place refusals.Mismatch h = cc
       place refusals.Limit h = absurd (cc h)
+      place refusals.Memory h = absurd (cc h)
 
       refused : (r : Refusal) → told r s.placed.at ≡ faults.Mismatch at → IsRefused (s.done ++ s.placed ∷ []) r → IsConsistent (s.done ++ s.placed ∷ []) → ⊥
       refused refusals.Mismatch h f = f
       refused refusals.Limit h f = absurd (cc h)
+      refused refusals.Memory h f = absurd (cc h)
 
   pub stopped_limit : (limit : Limit) → e ≡ faults.Limit limit → (limit ≡ clock_limit) × IsPastLimit ds
   stopped_limit limit is =
@@ -73,14 +75,17 @@ module _ (ds : List Placed) (e : ClockFault) (s : IsStopped [] ds e) where
           → (limit ≡ clock_limit) × (IsConsistent (s.done ++ s.placed ∷ []) × Passes (s.done ++ s.placed ∷ []))
       refused refusals.Mismatch h f = absurd (cc h)
       refused refusals.Limit h f = (cc, f)
+      refused refusals.Memory h f = absurd (cc h)
 
 other_fault : (r : Refusal) (at : ℕ) (label : List ℕ) → told r at ≡ faults.Free label → ⊥
 other_fault refusals.Mismatch at label h = cc
 other_fault refusals.Limit at label h = cc
+other_fault refusals.Memory at label h = cc
 
 another_fault : (r : Refusal) (at : ℕ) (label : List ℕ) (t u : Fraction) → told r at ≡ faults.NotWhole label t u → ⊥
 another_fault refusals.Mismatch at label t u h = cc
 another_fault refusals.Limit at label t u h = cc
+another_fault refusals.Memory at label t u h = cc
 
 pub fault_of_stop : (p : FlatProgram) (e : ClockFault) → IsStop [] (constraints_of p) e → IsClockFault p e
 fault_of_stop p faults.Memory s = tt

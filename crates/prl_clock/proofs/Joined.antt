@@ -64,7 +64,7 @@ module _ (cs : List Placed) (st : List Standing) (high low : Standing) (w : Timi
       (λ g h k. period low.root g h k) (λ g h k. start low.root g h k)
       w t (small_parts _ m.small) (small_parts _ f.0) m.over f.1 past
 
-  high_within : high.root < length st
+  pub high_within : high.root < length st
   high_within =
       let a = m.joint.standings.low m.joint.first in let b = m.joint.within in
       let e : root_at st m.joint.first ≡ high.root = ap (λ (s : Standing). s.root) m.joint.first_is in omega (arith, a, b, e)

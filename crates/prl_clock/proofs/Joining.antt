@@ -198,18 +198,26 @@ module _ (cs : List Placed) (st : List Standing) (high low : Standing) (w : Timi
             ];
       }
 
-      -- where neither of the two has a clock, all is done
-      pub moved_solved : high.clock ≡ None → low.clock ≡ None → IsSolved cs new
-      moved_solved no_high no_low = record {
+      -- flows over one of the two roots
+      abbrev pub Either : ℕ → Type 0
+      Either x = (root_at st x ≡ high.root) ⊎ (root_at st x ≡ low.root)
+
+      -- where all flows over the two roots have clocks or none has one, all is done
+      pub moved_even : ((x y : ℕ) → Either x → Either y → HasClock st x → HasClock st y) → IsSolved cs new
+      moved_even even = record {
         standings = moved_are;
         joined = joined_new;
         rated = λ x h. has_clock x (k.joint.rated x h);
         shared = λ x y e c.
             elim (split x y e) [
               | inl f ↦ has_clock y (k.joint.shared x y f (had_clock x c))
-              | inr f ↦ absurd (none x f.0 (had_clock x c))
+              | inr f ↦ has_clock y (even x y f.0 f.1 (had_clock x c))
             ];
       }
+
+      -- neither of the two has a clock
+      pub moved_solved : high.clock ≡ None → low.clock ≡ None → IsSolved cs new
+      moved_solved no_high no_low = moved_even (λ x y a b c. absurd (none x a c))
         where
           some_none : {t : Timing} (o : Option Timing) → o ≡ None → o ≡ Some t → ⊥
           some_none o n s = cc

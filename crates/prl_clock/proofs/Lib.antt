@@ -9,6 +9,8 @@ pub mod Passing
 pub mod Merging
 pub mod Joining
 pub mod Joined
+pub mod Evening
+pub mod Listing
 pub mod Relating
 pub mod Related
 pub mod Rating

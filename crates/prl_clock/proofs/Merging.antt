@@ -1,6 +1,6 @@
 -- Constraints one more: who stands where then.
 use Rattle.prl_base.proofs.Standard.{◌≡◌, ◌≢◌, ◌≤◌, ◌<◌, ◌⊎◌, inl, inr, ℕ, List, length, Option, Some, None, refl, sym, ap, ◌∙◌, subst, arith, get_or-eq_default, cases_lt}
-use Rattle.prl_clock.specs.Vocabulary.{Timing, Standing, Assignment, tick, MeetsAll, Connected, Placed, IsOver, IsSmallTiming, IsSolved, IsOpen, IsMoved, IsTimed, AreMoved, AreTimed, HasClock}
+use Rattle.prl_clock.specs.Vocabulary.{Timing, Standing, Assignment, tick, MeetsAll, Connected, Placed, IsOver, IsSmallTiming, AreStandings, IsSolved, IsOpen, IsMoved, IsTimed, AreMoved, AreTimed, HasClock}
 use Rattle.prl_clock.specs.Vocabulary.{standing_at, root_at, alone}
 use Rattle.prl_clock.proofs.Algebra.{composed_of}
 use Rattle.prl_clock.proofs.Terms.{small_parts}
@@ -50,7 +50,7 @@ clock_or_none None = inl refl
 clock_or_none (Some t) = inr (t, refl)
 
 -- a flow over the root gets a clock, or stays as it is
-timed_or_same : (root : ℕ) (clock : Timing) (old new : Standing) → IsTimed root clock old new
+pub timed_or_same : (root : ℕ) (clock : Timing) (old new : Standing) → IsTimed root clock old new
     → ((old.root ≡ root) × (old.clock ≡ None)) ⊎ (new ≡ old)
 timed_or_same root clock old new t =
     elim (decide old.root root) [
@@ -62,10 +62,10 @@ timed_or_same root clock old new t =
     ]
 
 -- Clocks for all flows over `r`.
-module _ (cs : List Placed) (old new : List Standing) (r : ℕ) (clock : Timing) (open_ : IsOpen cs old r) (small : IsSmallTiming clock)
+module _ (cs : List Placed) (old new : List Standing) (r : ℕ) (clock : Timing) (are : AreStandings cs old) (small : IsSmallTiming clock)
     (over : (s : Assignment) → MeetsAll s cs → IsOver clock (s.flow r) (tick s))
     (timed : (x : ℕ) → IsTimed r clock (standing_at old x) (standing_at new x)) where
-  same_over : (x : ℕ) → ((standing_at new x).over ≡ (standing_at old x).over) × (root_at new x ≡ root_at old x)
+  pub same_over : (x : ℕ) → ((standing_at new x).over ≡ (standing_at old x).over) × (root_at new x ≡ root_at old x)
   same_over x =
       elim (timed_or_same r clock _ _ (timed x)) [
         | inl e ↦ let t = (timed x).timed e.0 e.1 in (ap (λ (s : Standing). s.over) t.1.0, ap (λ (s : Standing). s.root) t.1.0)
@@ -83,19 +83,19 @@ module _ (cs : List Placed) (old new : List Standing) (r : ℕ) (clock : Timing)
               u.1.2,
               λ s m.
                   let root : IsOver (standing_at old x).over (s.flow x) (s.flow r) =
-                  let Q : ℕ → Type 0 = λ y. IsOver (standing_at old x).over (s.flow x) (s.flow y) in subst Q e.0 (open_.standings.over s m x) in
-                  composed_of (standing_at old x).over clock u.0 (small_parts _ (open_.standings.small x)) (small_parts _ small) (small_parts _ u.1.2)
+                  let Q : ℕ → Type 0 = λ y. IsOver (standing_at old x).over (s.flow x) (s.flow y) in subst Q e.0 (are.over s m x) in
+                  composed_of (standing_at old x).over clock u.0 (small_parts _ (are.small x)) (small_parts _ small) (small_parts _ u.1.2)
                   (s.flow x) (s.flow r) (tick s) (s.positive x) (s.positive r) s.some root (over s m) u.1.1,
             )
         | inr same ↦
             let k : (standing_at old x).clock ≡ Some t = sym (ap (λ (s : Standing). s.clock) same) ∙ is in
-            (open_.standings.small_clock x t k, λ s m. open_.standings.clock s m x t k)
+            (are.small_clock x t k, λ s m. are.clock s m x t k)
       ]
     where
       some_same : {a b : Timing} → Some a ≡ Some b → a ≡ b
       some_same e = cc
 
-  has_clock : (x : ℕ) → (root_at old x ≡ r) ⊎ HasClock old x → HasClock new x
+  pub has_clock : (x : ℕ) → (root_at old x ≡ r) ⊎ HasClock old x → HasClock new x
   has_clock x h =
       elim (timed_or_same r clock _ _ (timed x)) [
         | inl e ↦ let u = (timed x).timed e.0 e.1 in (u.0, ap (λ (s : Standing). s.clock) u.1.0)
@@ -108,27 +108,39 @@ module _ (cs : List Placed) (old new : List Standing) (r : ℕ) (clock : Timing)
         ]
       ]
 
-  had_clock : (x : ℕ) → root_at old x ≢ r → HasClock new x → HasClock old x
+  pub had_clock : (x : ℕ) → root_at old x ≢ r → HasClock new x → HasClock old x
   had_clock x n c = (c.0, sym (ap (λ (s : Standing). s.clock) ((timed x).kept n)) ∙ c.1)
+
+  pub timed_are : AreStandings cs new
+  timed_are = record {
+    consistent = are.consistent;
+    over = λ s m x.
+        let e = same_over x in
+        let P : Timing → Type 0 = λ o. IsOver o (s.flow x) (s.flow (root_at new x)) in
+        let Q : ℕ → Type 0 = λ y. IsOver (standing_at old x).over (s.flow x) (s.flow y) in
+        subst P (sym e.0) (subst Q (sym e.1) (are.over s m x));
+    clock = λ s m x t is. (new_clock x t is).1 s m;
+    small = λ x. let P : Timing → Type 0 = λ o. IsSmallTiming o in subst P (sym (same_over x).0) (are.small x);
+    small_clock = λ x t is. (new_clock x t is).0;
+    low = λ x. let e = (same_over x).1 in let l = are.low x in omega (arith, e, l);
+    led = λ x. let P : ℕ → Type 0 = λ y. Connected cs x y in subst P (sym (same_over x).1) (are.led x);
+  }
+
+module _ (cs : List Placed) (old new : List Standing) (r : ℕ) (clock : Timing) (open_ : IsOpen cs old r) (small : IsSmallTiming clock)
+    (over : (s : Assignment) → MeetsAll s cs → IsOver clock (s.flow r) (tick s))
+    (timed : (x : ℕ) → IsTimed r clock (standing_at old x) (standing_at new x)) where
+  kept_root : (x : ℕ) → root_at new x ≡ root_at old x
+  kept_root x = (same_over cs old new r clock open_.standings small over timed x).1
+
+  has : (x : ℕ) → (root_at old x ≡ r) ⊎ HasClock old x → HasClock new x
+  has = has_clock cs old new r clock open_.standings small over timed
 
   pub timed_solved : IsSolved cs new
   timed_solved = record {
-    standings = record {
-      consistent = open_.standings.consistent;
-      over = λ s m x.
-          let e = same_over x in
-          let P : Timing → Type 0 = λ o. IsOver o (s.flow x) (s.flow (root_at new x)) in
-          let Q : ℕ → Type 0 = λ y. IsOver (standing_at old x).over (s.flow x) (s.flow y) in
-          subst P (sym e.0) (subst Q (sym e.1) (open_.standings.over s m x));
-      clock = λ s m x t is. (new_clock x t is).1 s m;
-      small = λ x. let P : Timing → Type 0 = λ o. IsSmallTiming o in subst P (sym (same_over x).0) (open_.standings.small x);
-      small_clock = λ x t is. (new_clock x t is).0;
-      low = λ x. let e = (same_over x).1 in let l = open_.standings.low x in omega (arith, e, l);
-      led = λ x. let P : ℕ → Type 0 = λ y. Connected cs x y in subst P (sym (same_over x).1) (open_.standings.led x);
-    };
-    joined = λ x y j. (same_over x).1 ∙ open_.joined x y j ∙ sym (same_over y).1;
-    rated = λ x h. has_clock x (elim (decide (root_at old x) r) [ inl e ↦ inl e | inr n ↦ inr (open_.rated x h n) ]);
+    standings = timed_are cs old new r clock open_.standings small over timed;
+    joined = λ x y j. kept_root x ∙ open_.joined x y j ∙ sym (kept_root y);
+    rated = λ x h. has x (elim (decide (root_at old x) r) [ inl e ↦ inl e | inr n ↦ inr (open_.rated x h n) ]);
     shared = λ x y e c.
-        let f : root_at old x ≡ root_at old y = sym (same_over x).1 ∙ e ∙ (same_over y).1 in
-        has_clock y (elim (decide (root_at old x) r) [ inl g ↦ inl (sym f ∙ g) | inr n ↦ inr (open_.shared x y f n (had_clock x n c)) ]);
+        let f : root_at old x ≡ root_at old y = sym (kept_root x) ∙ e ∙ kept_root y in
+        has y (elim (decide (root_at old x) r) [ inl g ↦ inl (sym f ∙ g) | inr n ↦ inr (open_.shared x y f n (had_clock cs old new r clock open_.standings small over timed x n c)) ]);
   }

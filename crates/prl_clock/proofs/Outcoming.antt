@@ -6,6 +6,7 @@ use Rattle.prl_base.specs.Ratios.{IsSmallFraction}
 use Rattle.prl_flow.specs.Programs.{FlatProgram}
 use Rattle.prl_clock.specs.Vocabulary.{ClockFault, Standing, Refusal, Timing, Assignment, MeetsAll, IsConsistent, Passes, Constraint, rated, related, Placed, HasParts, IsComposed, IsSmallTiming}
 use Rattle.prl_clock.specs.Vocabulary.{IsReached, IsStopped, told, IsSolved, IsMerging, IsLink, IsMoved, IsRefused, IsLowClock, of_low, of_high, of_low_past, of_high_past, standing_at, root_at}
+use Rattle.prl_clock.specs.declared.calculus.ClockFault.TheVariants as faults
 use Rattle.prl_clock.specs.declared.steps.Refusal.TheVariants as refusals
 use Rattle.prl_clock.proofs.Algebra.{numerator}
 use Rattle.prl_clock.proofs.Fine.{reached_more, stopped_one, stopped_later, stopped_within, one, one_meets}
@@ -93,8 +94,24 @@ module _ (cs : List Placed) (st : List Standing) (high low : Standing) (w : Timi
                 subst P (sym (beyond mid x (omega (arith, len, above)))) (record { period = omega arith; start = omega arith })
           ]
 
+-- a refusal that has a cause
+abbrev IsCause : List Placed → Refusal → Type 0
+IsCause cs refusals.Mismatch = IsConsistent cs → ⊥
+IsCause cs refusals.Limit = IsConsistent cs × Passes cs
+IsCause cs refusals.Memory = ⊥
+
+cause_refused : (cs : List Placed) (r : Refusal) → IsCause cs r → IsRefused cs r
+cause_refused cs refusals.Mismatch c = c
+cause_refused cs refusals.Limit c = c
+cause_refused cs refusals.Memory c = tt
+
+cause_told : (cs : List Placed) (r : Refusal) (at : ℕ) → IsCause cs r → told r at ≢ faults.Memory
+cause_told cs refusals.Mismatch at c e = cc
+cause_told cs refusals.Limit at c e = cc
+cause_told cs refusals.Memory at c e = c
+
 abbrev Answer : List Placed → List Standing → Type 0
-Answer cs st = ((new : List Standing) × (length new ≡ length st) × IsSolved cs new) ⊎ ((r : Refusal) × IsRefused cs r)
+Answer cs st = ((new : List Standing) × (length new ≡ length st) × IsSolved cs new) ⊎ ((r : Refusal) × IsCause cs r)
 
 module _ (cs : List Placed) (st : List Standing) (solved : IsSolved cs st) where
   relate_total : (x y : ℕ) (link : Timing) → IsLink link → (at : ℕ) → x < length st → y < length st → Answer (cs ++ (record { constraint = related x y link; at = at }) ∷ []) st
@@ -188,13 +205,17 @@ step_total cs st n len solved c at (good_rate x q h is lowest) = rate_total cs s
 step_total cs st n len solved c at (good_link x y q h k is) = relate_total cs st solved x y q is at (omega (arith, h, len)) (omega (arith, k, len))
 
 pub steps_total : (p : FlatProgram) (cs ds : List Placed) (st : List Standing) → IsReached p cs st → AreGood (length p.flows) ds
-    → ((new : List Standing) × IsReached p (cs ++ ds) new) ⊎ ((e : ClockFault) × IsStopped cs ds e)
+    → ((new : List Standing) × IsReached p (cs ++ ds) new) ⊎ ((e : ClockFault) × IsStopped cs ds e × (e ≢ faults.Memory))
 steps_total p cs [] st r good = let P : List Placed → Type 0 = λ t. IsReached p t st in inl (st, subst P (sym (append-nil cs)) r)
 steps_total p cs (d ∷ ds) st r good =
     elim (step_total cs st (length p.flows) r.len r.solved d.constraint d.at good.0) [
-      | inr x ↦ inr (told x.0 d.at, stopped_within cs (d ∷ []) ds _ (stopped_one cs d x.0 _ r.fine x.1 refl))
+      | inr x ↦ inr (
+        told x.0 d.at,
+        stopped_within cs (d ∷ []) ds _ (stopped_one cs d x.0 _ r.fine (cause_refused (cs ++ d ∷ []) x.0 x.1) refl),
+        cause_told (cs ++ d ∷ []) x.0 d.at x.1,
+      )
       | inl x ↦ elim (steps_total p (cs ++ d ∷ []) ds x.0 (reached_more p cs d st x.0 r x.1 x.2) good.1) [
         | inl y ↦ let P : List Placed → Type 0 = λ t. IsReached p t y.0 in inl (y.0, subst P (append_assoc cs (d ∷ []) ds) y.1)
-        | inr y ↦ inr (y.0, stopped_later cs (d ∷ []) ds y.0 y.1)
+        | inr y ↦ inr (y.0, stopped_later cs (d ∷ []) ds y.0 y.1, y.2)
       ]
     ]

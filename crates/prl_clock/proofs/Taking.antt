@@ -1,6 +1,6 @@
 -- Lists of constraints, taken from their front.
 use Rattle.prl_base.proofs.Standard.{◌≡◌, ◌≤◌, ◌<◌, ◌+◌, ◌++◌, ◌∷◌, inl, inr, ℕ, zero, suc, List, [], length, map, take, drop, get_or, Option, Some, Result, Ok, Err, refl, sym, ap, ◌∙◌, subst, arith}
-use Rattle.prl_base.proofs.Standard.{append_assoc, add-one, slice_get_read, IfErr, IsErrAnd, OnOk, slice_get, cases_lt, append-nil, take-append_seam}
+use Rattle.prl_base.proofs.Standard.{append_assoc, add-one, slice_get_read, IfErr, IsErrAnd, OnOk, slice_get, cases_lt, append-nil}
 use Rattle.prl_flow.specs.Programs.{FlatProgram}
 use Rattle.prl_flow.specs.declared.programs.App.{App}
 use Rattle.prl_flow.specs.declared.programs.Flow.{Flow}
@@ -105,13 +105,9 @@ stop_of cs ds (faults.Free label) s = s
 stop_of cs ds (faults.NotWhole label period start) s = s
 stop_of cs ds faults.Memory s = tt
 
-pub reached_below : (p : FlatProgram) (x : ℕ) (n : ℕ) (st : List Standing) (new : List Standing) → length st ≡ n
-    → IsReached p (constraints_below p x ++ flow_constraints p x (slice_get p.flows x)) st → IsReached p (constraints_below p (x + 1)) (take n (st ++ new))
-reached_below p x n st new len r =
-    let P : List Standing → Type 0 = λ t. IsReached p (constraints_below p (suc x)) t in
-    let Q : ℕ → Type 0 = λ k. IsReached p (constraints_below p k) (take n (st ++ new)) in
-    let R : ℕ → Type 0 = λ k. take k (st ++ new) ≡ st in
-    subst Q (sym (add-one x)) (subst P (sym (subst R len (take-append_seam st new))) r)
+pub reached_below : (p : FlatProgram) (x : ℕ) (st : List Standing) → IsReached p (constraints_below p x ++ flow_constraints p x (slice_get p.flows x)) st
+    → IsReached p (constraints_below p (x + 1)) st
+reached_below p x st r = let Q : ℕ → Type 0 = λ k. IsReached p (constraints_below p k) st in subst Q (sym (add-one x)) r
 
 pub reached_end : (p : FlatProgram) (x : ℕ) (st : List Standing) → x ≡ length p.flows → IsReached p (constraints_below p x) st → IsReached p (constraints_of p) st
 reached_end p x st e r = let P : ℕ → Type 0 = λ n. IsReached p (constraints_below p n) st in subst P e r

@@ -19,9 +19,11 @@ pub use Rattle.prl_clock.specs.code.Composition.{IsPastTerms, IsProduct, IsSmall
 pub use Rattle.prl_clock.specs.code.Composition.{composed_period, composed_start, over_period}
 pub use Rattle.prl_clock.specs.code.Composition.{over_start}
 pub use Rattle.prl_clock.specs.code.Finishing.{IsLabelOf, IsWholeClock}
+pub use Rattle.prl_clock.specs.code.Listed.{AreListed, joint_list, listed_at}
 pub use Rattle.prl_clock.specs.code.Progress.{IsReached, IsStop, IsStopped, told}
 pub use Rattle.prl_clock.specs.code.Rates.{IsReducedTiming, IsTimingPast}
-pub use Rattle.prl_clock.specs.code.Standings.{AreMoved, AreStandings, AreTimed, HasRate}
+pub use Rattle.prl_clock.specs.code.Standings.{AreChanged, AreMoved, AreStandings, AreTimed}
+pub use Rattle.prl_clock.specs.code.Standings.{HasRate, HaveChanged, IsEven, IsStuck, IsTold}
 pub use Rattle.prl_clock.specs.code.Standings.{IsJoint, IsLink, IsLowClock, IsLowClockPast}
 pub use Rattle.prl_clock.specs.code.Standings.{IsMerging, IsMoved, IsOnePast, IsOpen, IsRated}
 pub use Rattle.prl_clock.specs.code.Standings.{IsRefused, IsSolved, IsTimed, LowClock}

@@ -11,11 +11,11 @@ ghost use Rattle.prl_clock.specs.code.Standings.{IsLink};
 
 use crate::calculus::ClockFault;
 use crate::rates::{rate_flow, same_clock, timing_of_operator};
-use crate::standings::alone;
+use crate::standings::Standings;
 use crate::steps::{Refusal, relate};
 use prl_ast::Rate;
 use prl_base::{Limit, What};
-use prl_flow::{Arg, Def, Flat, Standing, Timing};
+use prl_flow::{Arg, Def, Flat, Timing};
 use std::alloc::Global;
 
 /// The refusal of a constraint at this byte of the source text.
@@ -28,13 +28,15 @@ fn told(refusal: Refusal, at: u32) -> ClockFault
             what: What::Clock,
             found: 2_147_483_648,
         }),
+        Refusal::Memory => ClockFault::Memory,
     }
 }
 
 /// Takes the constraint that flow `x` is `link` over flow `y`.
 fn relate_at(
+    alloc: Global,
     flat: &Flat,
-    standings: &mut [Standing],
+    standings: &mut Standings,
     x: usize,
     y: usize,
     link: &Timing,
@@ -49,7 +51,7 @@ fn relate_at(
     ensures stopped { (cs : List Placed) → IsReached flat.now cs standings.old
         → IfErr result (IsStopped cs (record { constraint = related x y link.now; at = at } ∷ [])) }
 {
-    match relate(standings, x, y, link) {
+    match relate(alloc, standings, x, y, link) {
         Ok(()) => Ok(()),
         Err(refusal) => Err(told(refusal, at)),
     }
@@ -58,7 +60,7 @@ fn relate_at(
 /// Takes the constraint that flow `x` has the rate.
 fn rate_at(
     flat: &Flat,
-    standings: &mut [Standing],
+    standings: &mut Standings,
     x: usize,
     rate: &Rate,
     at: u32,
@@ -79,8 +81,9 @@ fn rate_at(
 
 /// Takes the constraints that flow `x` has the clock of each argument.
 fn relate_arguments(
+    alloc: Global,
     flat: &Flat,
-    standings: &mut [Standing],
+    standings: &mut Standings,
     x: usize,
     args: &[Arg],
 ) -> Result<(), ClockFault>
@@ -94,15 +97,24 @@ fn relate_arguments(
 {
     let same = same_clock();
     for arg in args {
-        relate_at(flat, standings, x, arg.flow.0 as usize, &same, arg.at.at)?;
+        relate_at(
+            alloc,
+            flat,
+            standings,
+            x,
+            arg.flow.0 as usize,
+            &same,
+            arg.at.at,
+        )?;
     }
     Ok(())
 }
 
 /// Takes the constraints of a flow that is this output of the application.
 fn constrain_output(
+    alloc: Global,
     flat: &Flat,
-    standings: &mut [Standing],
+    standings: &mut Standings,
     x: usize,
     at: u32,
     app: u32,
@@ -118,17 +130,17 @@ fn constrain_output(
 {
     let app = &flat.apps()[app as usize];
     if out == 0 {
-        relate_arguments(flat, standings, x, app.args.as_slice())
+        relate_arguments(alloc, flat, standings, x, app.args.as_slice())
     } else {
         let first = app.outs.as_slice()[0].0 as usize;
-        relate_at(flat, standings, x, first, &same_clock(), at)
+        relate_at(alloc, flat, standings, x, first, &same_clock(), at)
     }
 }
 
 /// Takes the constraint of a flow's rate, where it has one.
 fn constrain_rate(
     flat: &Flat,
-    standings: &mut [Standing],
+    standings: &mut Standings,
     x: usize,
     at: u32,
     rate: &Option<Rate>,
@@ -149,8 +161,9 @@ fn constrain_rate(
 
 /// Takes the constraints of a flow's definition.
 fn constrain_definition(
+    alloc: Global,
     flat: &Flat,
-    standings: &mut [Standing],
+    standings: &mut Standings,
     x: usize,
     at: u32,
     def: &Def,
@@ -166,10 +179,11 @@ fn constrain_definition(
     match def {
         Def::Sensor(_) => Ok(()),
         Def::Const(_) => Ok(()),
-        Def::Copy(of) => relate_at(flat, standings, x, of.0 as usize, &same_clock(), at),
-        Def::Apply { app, out } => constrain_output(flat, standings, x, at, *app, *out),
+        Def::Copy(of) => relate_at(alloc, flat, standings, x, of.0 as usize, &same_clock(), at),
+        Def::Apply { app, out } => constrain_output(alloc, flat, standings, x, at, *app, *out),
         Def::Op { op, of } => {
             relate_at(
+                alloc,
                 flat,
                 standings,
                 x,
@@ -182,7 +196,12 @@ fn constrain_definition(
 }
 
 /// Takes the constraints of a flow.
-fn constrain_flow(flat: &Flat, standings: &mut [Standing], x: usize) -> Result<(), ClockFault>
+fn constrain_flow(
+    alloc: Global,
+    flat: &Flat,
+    standings: &mut Standings,
+    x: usize,
+) -> Result<(), ClockFault>
     requires reached { (cs : List Placed) × IsReached flat.now cs standings.old }
     requires x { x < length flat.now.flows }
     ensures reached { (cs : List Placed) → IsReached flat.now cs standings.old
@@ -192,18 +211,18 @@ fn constrain_flow(flat: &Flat, standings: &mut [Standing], x: usize) -> Result<(
 {
     let flow = &flat.flows()[x];
     constrain_rate(flat, standings, x, flow.at.at, &flow.rate)?;
-    constrain_definition(flat, standings, x, flow.at.at, &flow.def)
+    constrain_definition(alloc, flat, standings, x, flow.at.at, &flow.def)
 }
 
 /// Where the flows stand after all constraints, or the first constraint that is refused.
-pub fn solve(alloc: Global, flat: &Flat) -> Result<Vec<Standing>, ClockFault>
-    ensures reached { IfOk result (λ standings. IsReached flat.now (constraints_of flat.now) standings.items) }
+pub fn solve(alloc: Global, flat: &Flat) -> Result<Standings, ClockFault>
+    ensures reached { IfOk result (λ standings. IsReached flat.now (constraints_of flat.now) standings) }
     ensures stopped { IfErr result (IsStop [] (constraints_of flat.now)) }
 {
     let count = flat.flows().len();
-    let mut standings = alone(alloc, count)?;
+    let mut standings = Standings::alone(alloc, count)?;
     for x in 0..count {
-        constrain_flow(flat, standings.as_mut_slice(), x)?;
+        constrain_flow(alloc, flat, &mut standings, x)?;
     }
     Ok(standings)
 }

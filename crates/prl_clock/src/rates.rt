@@ -10,12 +10,12 @@ ghost use Rattle.prl_flow.specs.Standings.{over_one, same_clock};
 ghost use Rattle.prl_clock.specs.code.Rates.{IsReducedTiming, IsTimingPast};
 ghost use Rattle.prl_clock.specs.code.Standings.{IsLink, IsRefused, IsSolved};
 
-use crate::standings::time_all;
+use crate::standings::Standings;
 use crate::steps::Refusal;
 use crate::timings::over;
 use prl_ast::Rate;
 use prl_base::{Op, Past, Ratio};
-use prl_flow::{Standing, Timing};
+use prl_flow::Timing;
 
 /// A whole number as a ratio.
 fn whole(number: u32) -> Ratio
@@ -64,16 +64,17 @@ fn has_rate(rate: &Rate, clock: Timing) -> bool
 }
 
 /// Takes the constraint that flow `x` has the rate.
-pub fn rate_flow(standings: &mut [Standing], x: usize, rate: &Rate) -> Result<(), Refusal>
+pub fn rate_flow(standings: &mut Standings, x: usize, rate: &Rate) -> Result<(), Refusal>
     requires solved { (cs : List Placed) × IsSolved cs standings.old }
     requires rate { IsRate rate.now }
     requires x { x < length standings.old }
+    ensures count { OnOk result (length standings.new ≡ length standings.old) }
     ensures solved { (cs : List Placed) (at : ℕ) → IsSolved cs standings.old
         → OnOk result (IsSolved (cs ++ record { constraint = rated x (timing_of_rate rate.now); at = at } ∷ []) standings.new) }
     ensures refused { (cs : List Placed) (at : ℕ) → IsSolved cs standings.old
         → IfErr result (IsRefused (cs ++ record { constraint = rated x (timing_of_rate rate.now); at = at } ∷ [])) }
 {
-    let standing = standings[x];
+    let standing = standings.at(x);
     match standing.clock {
         Some(known) => {
             if has_rate(rate, known) {
@@ -85,7 +86,7 @@ pub fn rate_flow(standings: &mut [Standing], x: usize, rate: &Rate) -> Result<()
         None => {
             let clock = clock_of(rate)?;
             let root = over(clock, standing.over)?;
-            time_all(standings, standing.root, &root)?;
+            standings.time(standing.root, &root)?;
             Ok(())
         }
     }

@@ -20,6 +20,7 @@ pub record IsReached (p : FlatProgram) (cs : List Placed) (st : List Standing) :
 abbrev pub told : Refusal → ℕ → ClockFault
 told refusals.Mismatch at = faults.Mismatch at
 told refusals.Limit at = faults.Limit clock_limit
+told refusals.Memory at = faults.Memory
 
 -- after the first constraints, one of these further ones is refused
 pub record IsStopped (cs ds : List Placed) (e : ClockFault) : Type 0 where

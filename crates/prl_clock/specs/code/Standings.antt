@@ -1,5 +1,5 @@
 -- Where each flow stands after some constraints: the lowest flow that is connected with it, what it is over that, and its clock where it has one.
-use Rattle.std.specs.Prelude.{◌≡◌, ◌≢◌, ◌≤◌, ◌<◌, ◌⊎◌, ℕ, pos, List, [], ◌∷◌, length, Option, Some, None}
+use Rattle.std.specs.Prelude.{◌≡◌, ◌≢◌, ◌≤◌, ◌<◌, ◌⊎◌, ℕ, pos, Contains, List, [], ◌∷◌, length, Option, Some, None}
 use Rattle.prl_clock.specs.Assignments.{Assignment, tick, MeetsAll, IsConsistent, Joins, Connected, Passes}
 use Rattle.prl_clock.specs.Constraints.{Constraint, rated, related, Placed}
 use Rattle.prl_clock.specs.Timings.{IsOver}
@@ -71,6 +71,14 @@ AreMoved high low shift old new = (x : ℕ) → x < length old → IsMoved high 
 abbrev pub AreTimed : ℕ → Timing → List Standing → List Standing → Type 0
 AreTimed root clock old new = (x : ℕ) → x < length old → IsTimed root clock (standing_at old x) (standing_at new x)
 
+-- each flow has changed so, or stays
+abbrev pub AreChanged : (Standing → Standing → Type 0) → List Standing → List Standing → Type 0
+AreChanged R old new = (x : ℕ) → R (standing_at old x) (standing_at new x) ⊎ (standing_at new x ≡ standing_at old x)
+
+-- each of these flows has changed so
+abbrev pub HaveChanged : (Standing → Standing → Type 0) → List ℕ → List Standing → List Standing → Type 0
+HaveChanged R xs old new = (x : ℕ) → Contains xs x → R (standing_at old x) (standing_at new x)
+
 -- a flow over `root` is past the limit, by what `root` is
 pub record IsOnePast (root : ℕ) (q : Timing) (st : List Standing) : Type 0 where
   pub flow : ℕ
@@ -100,6 +108,20 @@ pub record IsMerging (cs : List Placed) (st : List Standing) (high low : Standin
   pub small : IsSmallTiming w
   pub over : (s : Assignment) → MeetsAll s cs → IsOver w (s.flow joint.first) (s.flow low.root)
 
+-- it has a clock
+abbrev pub IsTold : Standing → Type 0
+IsTold s = (t : Timing) × (s.clock ≡ Some t)
+
+-- The same, after flows got clocks: those over both roots have one, or none of them has. `above` and `below` are where the two flows stand now.
+pub record IsEven (cs : List Placed) (st : List Standing) (high low : Standing) (w : Timing) : Type 0 where
+  pub above : Standing
+  pub below : Standing
+  pub merging : IsMerging cs st above below w
+  pub over : above.over ≡ high.over
+  pub high_root : above.root ≡ high.root
+  pub low_root : below.root ≡ low.root
+  pub clocks : (IsTold above × IsTold below) ⊎ ((above.clock ≡ None) × (below.clock ≡ None))
+
 -- what the lower root is in ticks, by the clock of one of the two flows
 pub data IsLowClock (high low : Standing) (w c : Timing) : Type 0 where
   of_low : (t : Timing) → low.clock ≡ Some t → IsComposed low.over c t → IsLowClock high low w c
@@ -114,7 +136,14 @@ pub data IsLowClockPast (high low : Standing) (w : Timing) : Type 0 where
   of_low_past : (t : Timing) → low.clock ≡ Some t → IsOverPast low.over t → IsLowClockPast high low w
   of_high_past : (t : Timing) → high.clock ≡ Some t → IsOverPast w t → IsLowClockPast high low w
 
--- why a constraint is refused after others
+-- why a constraint is refused after others; want of memory has no cause
 abbrev pub IsRefused : List Placed → Refusal → Type 0
 IsRefused cs refusals.Mismatch = IsConsistent cs → ⊥
 IsRefused cs refusals.Limit = IsConsistent cs × Passes cs
+IsRefused cs refusals.Memory = Unit {0}
+
+-- why two components do not become one: this is past the limit, or memory ran out
+abbrev pub IsStuck : Type 0 → Refusal → Type 0
+IsStuck past refusals.Mismatch = ⊥
+IsStuck past refusals.Limit = past
+IsStuck past refusals.Memory = Unit {0}

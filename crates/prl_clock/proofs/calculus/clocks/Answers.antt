@@ -11,7 +11,7 @@ returns-in_err-standings-clause-fault c =
 pub returns-in-Some-clause-fault : goal.returns-in-Some-clause-fault
 returns-in-Some-clause-fault c =
     let P : List Standing → Type 0 = λ st. IsFirstFree st c.in-Some.flow in
-    free_is c.args.flat.now c.in_ok-standings.standings.items c.in_ok-standings.ensures.reached c.in-Some.flow c.in_ok-label_of.field-0
+    free_is c.args.flat.now c.in_ok-standings.standings c.in_ok-standings.ensures.reached c.in-Some.flow c.in_ok-label_of.field-0
     (subst P c.as_slice.ensures.value c.in-Some.ensures) c.in_ok-label_of.ensures
 
 pub whole_clocks-requires-clause-timed : goal.whole_clocks-requires-clause-timed
