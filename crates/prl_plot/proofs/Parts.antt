@@ -48,3 +48,10 @@ not_first names name at is some first =
 pub one_kept : (names : List ℕ) (flows : List FlowView) (flow : FlowView)
     → filter (λ (f : FlowView). is_named names f.name) (flows ++ flow ∷ []) ≡ filter (λ (f : FlowView). is_named names f.name) flows ++ cond (is_named names flow.name) (flow ∷ []) []
 one_kept names flows flow = filter-append (λ (f : FlowView). is_named names f.name) flows (flow ∷ [])
+
+-- one more flow, where it is told whether it is named
+pub kept_more : (names : List ℕ) (flows kept more : List FlowView) (flow : FlowView) (b : Bool) → kept ≡ filter (λ (f : FlowView). is_named names f.name) flows → is_named names flow.name ≡ b
+    → more ≡ kept ++ cond b (flow ∷ []) [] → more ≡ filter (λ (f : FlowView). is_named names f.name) (flows ++ flow ∷ [])
+kept_more names flows kept more flow b had told is =
+    is ∙ ap (λ (k : List FlowView). k ++ cond b (flow ∷ []) []) had
+    ∙ ap (λ (c : Bool). filter (λ (f : FlowView). is_named names f.name) flows ++ cond c (flow ∷ []) []) (sym told) ∙ sym (one_kept names flows flow)

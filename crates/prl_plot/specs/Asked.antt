@@ -5,12 +5,10 @@ use Rattle.prl_base.specs.Decimals.{decimal_of}
 use Rattle.prl_io.specs.Faults.{Folder}
 use Rattle.prl_io.specs.Pairs.{value_of}
 use Rattle.prl_drawing.specs.declared.scales.Scale.{Scale}
-use Rattle.prl_plan.specs.Plans.{PlanView}
-use Rattle.prl_stages.specs.Planned.{HasPlan}
 use Rattle.prl_stages.specs.PlansAlone.{program_alone}
 use Rattle.prl_steps.specs.Flows.{FlowView}
 use Rattle.prl_plot.specs.declared.forms.Form.{Form}
-use Rattle.prl_plot.specs.Inputs.{inputs_of}
+use Rattle.prl_plot.specs.Inputs.{AreInputsOf}
 use Rattle.prl_plot.specs.Rows.{flows_of}
 
 -- the flows are those of the rows in the file of this name
@@ -18,14 +16,11 @@ abbrev pub AreFlows : Folder → Form → List FlowView → List ℕ → Type 0
 AreFlows folder form flows name =
     (source : List ℕ) × IfSome folder (λ files. files name ≡ Some source) × (flows_of form source ≡ Ok flows)
 
--- the plan of the program in the file that the words name, whose main is the node that they name
-abbrev pub IsPlanAsked : Folder → List (List ℕ) → PlanView → Type 0
-IsPlanAsked folder words plan =
+-- the form of the rows of the sensors of the program in the file that the words name, whose main is the node that they name
+abbrev pub IsFormAsked : Folder → List (List ℕ) → Form → Type 0
+IsFormAsked folder words form =
     (name source : List ℕ) × (value_of (codes "--program") words ≡ Some name) × IfSome folder (λ files. files name ≡ Some source)
-    × HasPlan (program_alone source (value_of (codes "--node") words)) plan
-
-abbrev pub timed_form : PlanView → Form
-timed_form plan = record { dated = false; inputs = inputs_of plan.graph }
+    × (form.dated ≡ false) × AreInputsOf (program_alone source (value_of (codes "--node") words)) form.inputs
 
 abbrev pub dated_form : Form
 dated_form = record { dated = true; inputs = [] }
@@ -33,7 +28,7 @@ dated_form = record { dated = true; inputs = [] }
 -- the flows of sensors, of which rows have no dates: these are those of the program's clocks
 abbrev pub AreSensors : Folder → List (List ℕ) → List FlowView → List ℕ → Type 0
 AreSensors folder words flows name =
-    (plan : PlanView) × IsPlanAsked folder words plan × AreFlows folder (timed_form plan) flows name
+    (form : Form) × IsFormAsked folder words form × AreFlows folder form flows name
 
 -- the flows that the words ask for, of sensors and of actuators; none where they name no file of them
 pub record AreAsked (folder : Folder) (words : List (List ℕ)) (sensors actuators : List FlowView) : Type 0 where

@@ -1,21 +1,24 @@
--- The sensors of a plan.
-use Rattle.std.specs.Prelude.{List, [], ◌∷◌}
-use Rattle.std.specs.List.{flat_map}
-use Rattle.prl_plan.specs.declared.graphs.Kind.{Kind}
-use Rattle.prl_plan.specs.declared.graphs.Kind.TheVariants as kinds
-use Rattle.prl_plan.specs.declared.graphs.Task.{Task}
-use Rattle.prl_plan.specs.declared.graphs.TaskGraph.{TaskGraph}
+-- The sensors of a program.
+use Rattle.std.specs.Prelude.{◌≡◌, ℕ, List, length, map, slice_index_or}
+use Rattle.std.specs.List.{range_with_len}
+use Rattle.prl_base.specs.declared.operators.Clock.{Clock}
+use Rattle.prl_flow.specs.Programs.{FlatProgram, name_of}
+use Rattle.prl_flow.specs.Solutions.{clock_of}
+use Rattle.prl_stages.specs.Given.{Given}
+use Rattle.prl_stages.specs.Flattened.{HasClocks}
 use Rattle.prl_plot.specs.declared.forms.Input.{Input}
 
-abbrev pub input_by : Kind → Task → List Input
-input_by (kinds.Sensor k) task = record { name = task.name; clock = task.clock } ∷ []
-input_by (kinds.Node k) task = []
-input_by (kinds.Actuator k) task = []
+-- the sensor of main's input `k`: the name of the input, and the clock of its flow
+abbrev pub input_of : FlatProgram → List Clock → ℕ → Input
+input_of flat clocks k = record {
+  name = name_of flat.in_devices k;
+  clock = clock_of clocks (slice_index_or flat.ins k (record { 0 = 0 })).0;
+}
 
--- the sensor that a task reads, if it reads one
-abbrev pub input_of : Task → List Input
-input_of task = input_by task.kind task
+-- the sensors of main's inputs, in order
+abbrev pub inputs_of : FlatProgram → List Clock → List Input
+inputs_of flat clocks = map (input_of flat clocks) (range_with_len 0 (length flat.ins))
 
--- the sensors of the tasks of a graph, in order, each on the clock of its task
-abbrev pub inputs_of : TaskGraph → List Input
-inputs_of graph = flat_map input_of graph.tasks
+-- the sensors of the program that is given
+abbrev pub AreInputsOf : Given → List Input → Type 0
+AreInputsOf g inputs = (flat : FlatProgram) × (clocks : List Clock) × HasClocks g flat clocks × (inputs ≡ inputs_of flat clocks)

@@ -6,3 +6,5 @@ pub mod Asked
 pub mod Answers
 -- the rows of flows
 pub mod Rows
+-- tables by name
+pub mod Places

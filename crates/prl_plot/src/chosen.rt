@@ -1,15 +1,16 @@
 //! The flows that the words choose.
 
-ghost use Rattle.std.specs.Prelude.{◌≡◌, ◌<◌, ◌≤◌, ◌+◌, IfOk, drop, length, map};
+ghost use Rattle.std.specs.Prelude.{◌≡◌, ◌<◌, ◌+◌, IfOk, drop, length, map};
 ghost use Rattle.std.specs.List.{filter};
 ghost use Rattle.std.specs.String.{string_bytes};
 ghost use Rattle.prl_plot.specs.Asked.{AreChosen, is_named};
+ghost use Rattle.prl_plot.specs.Places.{AreNames};
 
-use crate::rows::place_of;
 use prl_base::len_before;
 use prl_io::{Fault, unfit_for, value_of};
 use prl_steps::Flow;
 use std::alloc::{AllocError, Global};
+use std::collections::BTreeMap;
 
 /// What stands behind the byte at a place.
 fn behind(text: &[u8], at: usize) -> &[u8]
@@ -19,29 +20,53 @@ fn behind(text: &[u8], at: usize) -> &[u8]
     &text[at + 1..]
 }
 
-/// Whether a name is one of a list with commas.
-#[tactic(auto, using(crate::proofs::Parts::one_part))]
-fn is_named(names: &[u8], name: &[u8]) -> bool
-    ensures { result ≡ is_named names.now name.now }
+/// The names of a list with commas.
+fn names_in(alloc: Global, names: &[u8]) -> Result<BTreeMap<&[u8], ()>, AllocError>
+    ensures { IfOk result (AreNames names.now) }
 {
-    let at = len_before(names, b',');
-    if at >= names.len() {
-        return names == name;
+    let mut table = BTreeMap::new(alloc);
+    let mut rest = names;
+    loop {
+        let at = len_before(rest, b',');
+        table.insert(&rest[..at], ())?;
+        if at >= rest.len() {
+            return Ok(table);
+        }
+        rest = behind(rest, at);
     }
-    &names[..at] == name || is_named(behind(names, at), name)
 }
 
-/// The first name of a list with commas that no flow has.
-fn unknown<'a>(names: &'a [u8], flows: &[Flow]) -> Option<&'a [u8]> {
-    let at = len_before(names, b',');
-    let name = &names[..at];
-    if place_of(flows, name) >= flows.len() {
-        return Some(name);
+/// The names of flows.
+fn names_of(alloc: Global, flows: &[Flow]) -> Result<BTreeMap<&[u8], ()>, AllocError> {
+    let mut table = BTreeMap::new(alloc);
+    for flow in flows {
+        table.insert(flow.name(), ())?;
     }
-    if at >= names.len() {
-        None
-    } else {
-        unknown(behind(names, at), flows)
+    Ok(table)
+}
+
+/// The first name of a list with commas that is not in the table.
+fn unknown<'a>(names: &'a [u8], known: &BTreeMap<&[u8], ()>) -> Option<&'a [u8]> {
+    let mut rest = names;
+    loop {
+        let at = len_before(rest, b',');
+        let name = &rest[..at];
+        if !known.contains_key(name) {
+            return Some(name);
+        }
+        if at >= rest.len() {
+            return None;
+        }
+        rest = behind(rest, at);
+    }
+}
+
+/// Says so where a name of a list with commas is that of no flow.
+fn all_known(alloc: Global, names: &[u8], flows: &[Flow]) -> Result<(), Fault> {
+    let known = names_of(alloc, flows)?;
+    match unknown(names, &known) {
+        None => Ok(()),
+        Some(name) => Err(no_row(alloc, name)),
     }
 }
 
@@ -50,9 +75,10 @@ fn unknown<'a>(names: &'a [u8], flows: &[Flow]) -> Option<&'a [u8]> {
 fn kept(alloc: Global, flows: Vec<Flow>, names: &[u8]) -> Result<Vec<Flow>, AllocError>
     ensures { IfOk result (λ kept. kept.items ≡ filter (λ flow. is_named names.now flow.name) flows.items) }
 {
+    let named = names_in(alloc, names)?;
     let mut kept = Vec::new(alloc);
     for flow in flows {
-        if is_named(names, flow.name()) {
+        if named.contains_key(flow.name()) {
             kept.push(flow)?;
         }
     }
@@ -75,8 +101,6 @@ pub(crate) fn chosen(alloc: Global, words: &[String], flows: Vec<Flow>) -> Resul
     let Some(names) = value_of(b"--flow", words) else {
         return Ok(flows);
     };
-    if let Some(name) = unknown(names, &flows) {
-        return Err(no_row(alloc, name));
-    }
+    all_known(alloc, names, &flows)?;
     Ok(kept(alloc, flows, names)?)
 }

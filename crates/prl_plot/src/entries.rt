@@ -5,10 +5,10 @@ ghost use Rattle.std.specs.Option.{option_and_then, option_map};
 ghost use Rattle.csv.specs.Records.{fields_of};
 ghost use Rattle.prl_base.specs.Vocabulary.{GivesBut, decimal_of, integer_of};
 ghost use Rattle.prl_base.specs.declared.values.Value.TheVariants as values;
-ghost use Rattle.prl_plot.specs.Rows.{clock_of, date_on, dated_entry, entry_of, on_clock, timed_entry, value_of, with_date};
+ghost use Rattle.prl_plot.specs.Rows.{date_on, dated_entry, entry_of, on_clock, timed_entry, value_of, with_date};
 ghost use Rattle.prl_sensors.specs.SensorRows.{truth_of};
 
-use crate::forms::{Form, Input};
+use crate::readings::Reading;
 use crate::records::{Four, four};
 use crate::row_faults::RowFault;
 use csv::ByteRecord;
@@ -25,22 +25,6 @@ fn value_of(text: &[u8]) -> Option<Value>
     match truth_of(text) {
         Some(truth) => Some(Value::Bool(truth)),
         None => int_of(text),
-    }
-}
-
-/// The clock of the first input of this name.
-fn clock_of(inputs: &[Input], name: &[u8]) -> Option<Clock>
-    ensures { result ≡ clock_of inputs.now name.now }
-{
-    match inputs {
-        [] => None,
-        [input, rest @ ..] => {
-            if input.name.bytes() == name {
-                Some(input.clock)
-            } else {
-                clock_of(rest, name)
-            }
-        }
     }
 }
 
@@ -78,17 +62,17 @@ fn instance_date(clock: Clock, instance: &[u8]) -> Option<u64>
 
 /// The entry of a sensor's row.
 fn timed_entry<'a>(
-    inputs: &[Input],
+    reading: &Reading<'_>,
     number: u64,
     fields: Option<Fields<'a>>,
 ) -> Result<Entry<'a>, RowFault>
     ensures { GivesBut RowFault.Memory (λ e. (e.0.now, e.1, e.2)) result
-        (timed_entry inputs.now number (option_map (λ f. (f.0.now, f.1.now, f.2.now)) fields.entry)) }
+        (timed_entry reading.now.inputs number (option_map (λ f. (f.0.now, f.1.now, f.2.now)) fields.entry)) }
 {
     let Some((name, instance, value)) = fields else {
         return Err(RowFault::Row(number));
     };
-    match clock_of(inputs, name) {
+    match reading.clock_of(name) {
         None => Err(RowFault::NoSensor(number)),
         Some(clock) => with_date(number, name, instance_date(clock, instance), value),
     }
@@ -107,15 +91,15 @@ fn dated_entry(number: u64, fields: Option<Four<'_>>) -> Result<Entry<'_>, RowFa
 
 /// The entry of a record of this number.
 pub(crate) fn entry_of<'a>(
-    form: &Form,
+    reading: &Reading<'_>,
     number: u64,
     fields: &'a ByteRecord,
 ) -> Result<Entry<'a>, RowFault>
-    ensures { GivesBut RowFault.Memory (λ e. (e.0.now, e.1, e.2)) result (entry_of form.now number (fields_of fields.now)) }
+    ensures { GivesBut RowFault.Memory (λ e. (e.0.now, e.1, e.2)) result (entry_of reading.now number (fields_of fields.now)) }
 {
-    if form.dated {
+    if reading.is_dated() {
         dated_entry(number, four(fields))
     } else {
-        timed_entry(form.inputs.as_slice(), number, three(fields))
+        timed_entry(reading, number, three(fields))
     }
 }

@@ -1,45 +1,41 @@
-//! The sensors of a plan.
+//! The sensors of a program.
 
-ghost use Rattle.std.specs.Prelude.{◌≡◌, ◌++◌, IfOk, OnOk};
-ghost use Rattle.std.specs.List.{flat_map};
+ghost use Rattle.std.specs.Prelude.{◌≡◌, ◌≤◌, ◌<◌, IfOk, length};
+ghost use Rattle.prl_flow.specs.Solutions.{AreClocks};
 ghost use Rattle.prl_plot.specs.Inputs.{input_of, inputs_of};
 
 use crate::forms::Input;
 use prl_base::Label;
-use prl_plan::{Kind, Plan, Task};
+use prl_flow::{Clocks, Flat};
 use std::alloc::{AllocError, Global};
 
-/// Adds the sensor that a task reads, if it reads one.
-fn push_input(alloc: Global, inputs: &mut Vec<Input>, task: &Task) -> Result<(), AllocError>
-    ensures { OnOk result (inputs.new.items ≡ inputs.old.items ++ input_of task.now) }
+/// The sensor of main's input `k`, on the clock of its flow.
+fn input_of(alloc: Global, flat: &Flat, clocks: &Clocks, k: u32) -> Result<Input, AllocError>
+    requires clocks { AreClocks flat.now clocks.now.of }
+    requires within { k < length flat.now.ins }
+    ensures { IfOk result (λ input. input ≡ input_of flat.now clocks.now.of k) }
 {
-    match task.kind {
-        Kind::Sensor(_) => {
-            inputs.push(Input {
-                name: Label::new(alloc, task.name.bytes())?,
-                clock: task.clock,
-            })?;
-            Ok(())
-        }
-        Kind::Node(_) => Ok(()),
-        Kind::Actuator(_) => Ok(()),
-    }
+    let _flows = flat.flows();
+    let flow = flat.ins()[k as usize];
+    Ok(Input {
+        name: Label::new(alloc, flat.in_name(k).bytes())?,
+        clock: clocks.of.as_slice()[flow.0 as usize],
+    })
 }
 
-/// The sensors that these tasks read, each on the clock of its task.
-fn inputs_among(alloc: Global, tasks: &[Task]) -> Result<Vec<Input>, AllocError>
-    ensures { IfOk result (λ inputs. inputs.items ≡ flat_map input_of tasks.now) }
+/// The sensors of a flat program, each on the clock of its flow.
+pub(crate) fn inputs_of(
+    alloc: Global,
+    flat: &Flat,
+    clocks: &Clocks,
+) -> Result<Vec<Input>, AllocError>
+    requires clocks { AreClocks flat.now clocks.now.of }
+    requires few { length flat.now.ins ≤ 4096 }
+    ensures { IfOk result (λ inputs. inputs.items ≡ inputs_of flat.now clocks.now.of) }
 {
     let mut inputs = Vec::new(alloc);
-    for task in tasks {
-        push_input(alloc, &mut inputs, task)?;
+    for k in 0..flat.ins().len() {
+        inputs.push(input_of(alloc, flat, clocks, k as u32)?)?;
     }
     Ok(inputs)
-}
-
-/// The sensors of a plan, each on the clock of its task.
-pub(crate) fn inputs_of(alloc: Global, plan: &Plan) -> Result<Vec<Input>, AllocError>
-    ensures { IfOk result (λ inputs. inputs.items ≡ inputs_of plan.now.graph) }
-{
-    inputs_among(alloc, plan.graph().tasks.as_slice())
 }

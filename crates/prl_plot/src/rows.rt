@@ -1,12 +1,14 @@
 //! The flows of a text of rows.
 
-ghost use Rattle.std.specs.Prelude.{◌≡◌, ◌<◌, ◌≤◌, ◌++◌, ◌∷◌, [], OnOk, length, option_copied, slice_get};
+ghost use Rattle.std.specs.Prelude.{◌≡◌, ◌<◌, ◌++◌, ◌∷◌, [], None, OnOk, length, option_copied, slice_get};
 ghost use Rattle.csv.specs.Records.{fields_of};
 ghost use Rattle.prl_base.specs.Reading.{GivesBut};
-ghost use Rattle.prl_plot.specs.Rows.{added, added_at, begun, flows_of, is_after, is_of, place_of, with_record, with_row};
+ghost use Rattle.prl_plot.specs.Places.{ArePlaces, IsNoted, at_name};
+ghost use Rattle.prl_plot.specs.Rows.{added, added_at, begun, flows_of, is_after, is_of, with_record, with_row};
 
 use crate::entries::{Entry, entry_of};
 use crate::forms::Form;
+use crate::readings::Reading;
 use crate::records::is_header;
 use crate::row_faults::RowFault;
 use csv::ByteRecord;
@@ -14,6 +16,7 @@ use prl_base::{Name, NameFault, Ty, Value};
 use prl_sensors::{read_record, reader_of};
 use prl_steps::{Flow, Sample, level_of};
 use std::alloc::{AllocError, Global};
+use std::collections::BTreeMap;
 
 /// Whether a value is of this type.
 fn is_of(ty: Ty, value: Value) -> bool
@@ -37,17 +40,18 @@ fn is_after(last: Option<&Sample>, date: u64) -> bool
     }
 }
 
-/// Where the flow of a name stands; behind the last where it has no row yet.
-pub fn place_of(flows: &[Flow], name: &[u8]) -> usize
-    ensures exact { result ≡ place_of flows.now name.now }
-    ensures within { result ≤ length flows.now }
+/// The flows of the rows so far, and where the one of each name stands.
+#[derive(Drop)]
+struct Found {
+    flows: Vec<Flow>,
+    places: BTreeMap<Vec<u8>, usize>,
+}
+
+/// Where the flow of a name stands, where it has a row.
+fn place_in(places: &BTreeMap<Vec<u8>, usize>, name: &[u8]) -> Option<usize>
+    ensures { result ≡ at_name places.now name.now }
 {
-    for (i, flow) in flows.iter().enumerate() {
-        if flow.name() == name {
-            return i;
-        }
-    }
-    flows.len()
+    places.get(name).copied()
 }
 
 /// One more flow, with one sample.
@@ -116,30 +120,59 @@ fn go_on(
     Ok(())
 }
 
-/// Adds the row of an entry.
-fn add(alloc: Global, flows: &mut Vec<Flow>, number: u64, entry: Entry<'_>) -> Result<(), RowFault>
-    ensures { GivesBut RowFault.Memory (λ _. flows.new.items) result (added number flows.old.items (entry.entry.0.now, entry.entry.1, entry.entry.2)) }
+/// Notes where the flow of a name stands.
+fn note(
+    alloc: Global,
+    places: &mut BTreeMap<Vec<u8>, usize>,
+    name: &[u8],
+    place: usize,
+) -> Result<(), AllocError>
+    ensures { OnOk result (IsNoted places.old name.now place places.new) }
 {
-    let k = place_of(flows, entry.0);
-    if k < flows.len() {
-        go_on(flows, k, number, entry.0, entry.1, entry.2)
-    } else {
-        begin(alloc, flows, number, entry)
+    places.insert(Vec::from_slice(alloc, name)?, place)?;
+    Ok(())
+}
+
+/// A flow begins with the row of an entry, at a place that is noted.
+fn start(alloc: Global, found: &mut Found, number: u64, entry: Entry<'_>) -> Result<(), RowFault>
+    requires places { ArePlaces found.old.places found.old.flows.items }
+    requires new { at_name found.old.places entry.0.now ≡ None }
+    ensures exact { GivesBut RowFault.Memory (λ _. found.new.flows.items) result (begun number found.old.flows.items (entry.entry.0.now, entry.entry.1, entry.entry.2)) }
+    ensures places { OnOk result (ArePlaces found.new.places found.new.flows.items) }
+{
+    let place = found.flows.len();
+    match begin(alloc, &mut found.flows, number, entry) {
+        Ok(()) => Ok(note(alloc, &mut found.places, entry.0, place)?),
+        Err(fault) => Err(fault),
+    }
+}
+
+/// Adds the row of an entry.
+fn add(alloc: Global, found: &mut Found, number: u64, entry: Entry<'_>) -> Result<(), RowFault>
+    requires { ArePlaces found.old.places found.old.flows.items }
+    ensures exact { GivesBut RowFault.Memory (λ _. found.new.flows.items) result (added number found.old.flows.items (entry.entry.0.now, entry.entry.1, entry.entry.2)) }
+    ensures places { OnOk result (ArePlaces found.new.places found.new.flows.items) }
+{
+    match place_in(&found.places, entry.0) {
+        Some(k) => go_on(&mut found.flows, k, number, entry.0, entry.1, entry.2),
+        None => start(alloc, found, number, entry),
     }
 }
 
 /// Adds the row that the record of this number is.
 fn push_row(
     alloc: Global,
-    form: &Form,
+    reading: &Reading<'_>,
     number: u64,
-    flows: &mut Vec<Flow>,
+    found: &mut Found,
     fields: &ByteRecord,
 ) -> Result<(), RowFault>
-    ensures { GivesBut RowFault.Memory (λ _. flows.new.items) result (with_row form.now number flows.old.items (fields_of fields.now)) }
+    requires { ArePlaces found.old.places found.old.flows.items }
+    ensures exact { GivesBut RowFault.Memory (λ _. found.new.flows.items) result (with_row reading.now number found.old.flows.items (fields_of fields.now)) }
+    ensures places { OnOk result (ArePlaces found.new.places found.new.flows.items) }
 {
-    match entry_of(form, number, fields) {
-        Ok(entry) => add(alloc, flows, number, entry),
+    match entry_of(reading, number, fields) {
+        Ok(entry) => add(alloc, found, number, entry),
         Err(fault) => Err(fault),
     }
 }
@@ -148,31 +181,45 @@ fn push_row(
 #[tactic(auto, unfolding(crate::specs::Rows::with_record))]
 fn push_record(
     alloc: Global,
-    form: &Form,
+    reading: &Reading<'_>,
     number: u64,
-    flows: &mut Vec<Flow>,
+    found: &mut Found,
     fields: &ByteRecord,
 ) -> Result<(), RowFault>
-    ensures { GivesBut RowFault.Memory (λ _. flows.new.items) result (with_record form.now number flows.old.items (fields_of fields.now)) }
+    requires { ArePlaces found.old.places found.old.flows.items }
+    ensures exact { GivesBut RowFault.Memory (λ _. found.new.flows.items) result (with_record reading.now number found.old.flows.items (fields_of fields.now)) }
+    ensures places { OnOk result (ArePlaces found.new.places found.new.flows.items) }
 {
     if number == 1 && is_header(fields) {
         return Ok(());
     }
-    push_row(alloc, form, number, flows, fields)
+    push_row(alloc, reading, number, found, fields)
+}
+
+/// No flows.
+fn none_found(alloc: Global) -> Found
+    ensures flows { result.flows.items ≡ [] }
+    ensures places { ArePlaces result.places result.flows.items }
+{
+    Found {
+        flows: Vec::new(alloc),
+        places: BTreeMap::new(alloc),
+    }
 }
 
 /// The flows of the rows of a text, in the order of their first rows; or the first row that is none.
 pub fn read_flows(alloc: Global, form: &Form, text: &[u8]) -> Result<Vec<Flow>, RowFault>
     ensures { GivesBut RowFault.Memory (λ flows. flows.items) result (flows_of form.now text.now) }
 {
-    let mut flows = Vec::new(alloc);
+    let reading = Reading::new(alloc, form)?;
+    let mut found = none_found(alloc);
     let mut reader = reader_of(alloc, text);
     let mut fields = ByteRecord::new(alloc);
     for number in 1..u64::MAX {
         if !read_record(&mut reader, &mut fields)? {
-            return Ok(flows);
+            return Ok(found.flows);
         }
-        push_record(alloc, form, number, &mut flows, &fields)?;
+        push_record(alloc, &reading, number, &mut found, &fields)?;
     }
     Err(RowFault::Memory)
 }
