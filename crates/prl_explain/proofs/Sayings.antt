@@ -1,5 +1,5 @@
 -- What is told, from its parts.
-use Rattle.std.proofs.Common.{◌≡◌, ◌++◌, ◌∙◌, ℕ, ℤ, List, [], Option, Some, None, ap, inl, inr, refl}
+use Rattle.std.proofs.Common.{◌≡◌, ◌++◌, ◌∙◌, ℕ, ℤ, List, [], Option, Some, None, ap, inl, inr, refl, true}
 use Rattle.prl_base.specs.Decimals.{decimal_of}
 use Rattle.prl_flow.specs.Programs.{FlatProgram}
 use Rattle.prl_plan.specs.Vocabulary.{Job, PlanView}
@@ -8,6 +8,7 @@ use Rattle.prl_clashes.specs.declared.clashes.Clash.{Clash}
 use Rattle.prl_clashes.specs.ClashTexts.{clash_text}
 use Rattle.prl_clashes.specs.ClockWays.{IsClash}
 use Rattle.prl_spots.specs.Counted.{IsCounted}
+use Rattle.prl_shown.specs.Shown.{shown}
 use Rattle.prl_ways.specs.declared.chains.Chain.{Chain}
 use Rattle.prl_ways.specs.declared.rounds.Round.{Round}
 use Rattle.prl_ways.specs.Chains.{IsChainTo, IsCircle}
@@ -77,13 +78,15 @@ pub of_kind_is : (words : List (List ℕ)) (command : Option (List (List ℕ))) 
     → IsOfKind words command texts kind line text
 of_kind_is words command texts kind line front detail text is_front is_detail is = (front, is_front, detail, is_detail, is)
 
-pub explained : (folder : Folder) (words : List (List ℕ)) (command : Option (List (List ℕ))) (line : List ℕ) (kind : Kind) (texts : Texts) (text : List ℕ)
-    → IsLineOf kind line → AreNamed folder words texts → IsOfKind words command texts kind line text → IsExplanation folder words command line text
-explained folder words command line kind texts text is_line are_named is_text = record {
+pub explained : (folder : Folder) (words : List (List ℕ)) (command : Option (List (List ℕ))) (line : List ℕ) (kind : Kind) (texts : Texts) (told text : List ℕ)
+    → IsLineOf kind line → AreNamed folder words texts → IsOfKind words command texts kind line told → text ≡ shown true told → IsExplanation folder words command line text
+explained folder words command line kind texts told text is_line are_named is_told is_text = record {
   kind = kind;
   is_line = is_line;
   texts = texts;
   are_named = are_named;
+  told = told;
+  is_told = is_told;
   is_text = is_text;
 }
 

@@ -1,5 +1,5 @@
 -- The explanation of a line of `prelude`.
-use Rattle.std.specs.Prelude.{◌≡◌, ◌++◌, ℕ, Bool, false, List, [], ◌∷◌, Option, Some, None, Result, IfOk, IfErr, codes, decimal}
+use Rattle.std.specs.Prelude.{◌≡◌, ◌++◌, ℕ, Bool, false, true, List, [], ◌∷◌, Option, Some, None, Result, IfOk, IfErr, codes, decimal}
 use Rattle.std.specs.Bool.{OnFalse}
 use Rattle.std.specs.Str.{bytes_eq}
 use Rattle.prl_base.specs.Decimals.{decimal_of}
@@ -23,6 +23,7 @@ use Rattle.prl_sentences.specs.Sentences.{sentence_text, word_at}
 use Rattle.prl_explain.specs.declared.texts.Texts.{Texts}
 use Rattle.prl_explain.specs.Details.{IsLeftIn, IsOfSchedule, IsPlacingIn, IsPlanFrom}
 use Rattle.prl_spots.specs.Places.{lead, line_front, line_rest, place_of}
+use Rattle.prl_shown.specs.Shown.{shown}
 use Rattle.prl_explain.specs.Placings.{tasks_text}
 use Rattle.prl_spots.specs.Spots.{IsSpot, byte_at}
 use Rattle.prl_explain.specs.Texts.{AreNamed, Folder, IsStopOfFile, option_of, text_in}
@@ -51,10 +52,13 @@ abbrev pub place_text : List ℕ → List ℕ → ℕ → List ℕ
 place_text name source at =
     name ++ codes ":" ++ decimal (place_of source at).line ++ codes ":" ++ decimal (place_of source at).column ++ codes "\n"
 
+-- a line that begins so, as it is shown, and goes on so, and below it a mark under what goes on
+abbrev pub marked_line : List ℕ → List ℕ → List ℕ
+marked_line front rest = front ++ shown true rest ++ codes "\n" ++ lead front ++ codes "^\n"
+
 -- the line of a byte, and below it a mark under the byte
 abbrev pub marked : List ℕ → ℕ → List ℕ
-marked source at =
-    line_front source at ++ line_rest source at ++ codes "\n" ++ lead (line_front source at) ++ codes "^\n"
+marked source at = marked_line (shown true (line_front source at)) (line_rest source at)
 
 -- the line, its place in a file, and what is said of it
 abbrev pub shown_text : Kind → List ℕ → List ℕ → List ℕ → ℕ → List ℕ
@@ -153,13 +157,15 @@ IsOfKind words command texts kind line text =
     × (detail : List ℕ) × IsDetail texts command kind.detail (rest_of kind line) detail
     × (text ≡ front ++ detail)
 
--- the explanation of a line, by the files that the words name and by those of the command that was refused
+-- the explanation of a line, by the files that the words name and by those of the command that was refused, as a terminal may show it
 pub record IsExplanation (folder : Folder) (words : List (List ℕ)) (command : Option (List (List ℕ))) (line text : List ℕ) : Type 0 where
   pub kind : Kind
   pub is_line : IsLineOf kind line
   pub texts : Texts
   pub are_named : AreNamed folder words texts
-  pub is_text : IsOfKind words command texts kind line text
+  pub told : List ℕ
+  pub is_told : IsOfKind words command texts kind line told
+  pub is_text : text ≡ shown true told
 
 -- why there is no explanation
 abbrev pub IsStop : FolderView → FolderView → List (List ℕ) → Stop → Type 0

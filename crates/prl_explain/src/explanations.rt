@@ -7,7 +7,8 @@ ghost use Rattle.std.specs.Bool.{OnFalse};
 ghost use Rattle.std.specs.String.{string_bytes};
 ghost use Rattle.prl_sentences.specs.Kinds.{IsLineOf};
 ghost use Rattle.prl_sentences.specs.Sentences.{sentence_text};
-ghost use Rattle.prl_explain.specs.Explanations.{Answers, asks_help, IsByFile, IsByNamed, IsByPart, IsExplanation, IsFront, IsOfKind, IsStop, marked, part_of, place_text, shown_text};
+ghost use Rattle.prl_explain.specs.Explanations.{Answers, asks_help, IsByFile, IsByNamed, IsByPart, IsExplanation, IsFront, IsOfKind, IsStop, marked, marked_line, part_of, place_text, shown_text};
+ghost use Rattle.prl_shown.specs.Shown.{shown};
 ghost use Rattle.prl_explain.specs.Texts.{AreFew, IsStopOfFile};
 
 use crate::texts::{Texts, option_of, read_texts, text_in};
@@ -16,6 +17,7 @@ use prl_arguments::{before_dashes, from_dashes};
 use prl_base::push_number;
 use prl_io::{Files, Sink, Stop, after_name, are_pairs, finish, value_of};
 use prl_sentences::{Kind, Part, Target, argument_of, line_kind, push_sentence, rest_of};
+use prl_shown::{push_shown, shown};
 use prl_spots::{line_front, line_rest, place_of, push_lead, spot_of};
 use std::alloc::{AllocError, Global};
 
@@ -91,17 +93,29 @@ fn push_place(text: &mut Vec<u8>, name: &[u8], source: &[u8], at: usize) -> Resu
     Ok(())
 }
 
-/// Appends the line in which a byte of a file stands, and below it a mark under the byte.
-fn push_marked(text: &mut Vec<u8>, source: &[u8], at: usize) -> Result<(), AllocError>
-    requires { at ≤ length source.now }
-    ensures { OnOk result (text.new.items ≡ text.old.items ++ marked source.now at) }
+/// Appends a line, which begins so and goes on so, and below it a mark under what goes on.
+fn push_marked_line(text: &mut Vec<u8>, front: &[u8], rest: &[u8]) -> Result<(), AllocError>
+    ensures { OnOk result (text.new.items ≡ text.old.items ++ marked_line front.now rest.now) }
 {
-    let front = line_front(source, at);
     text.extend_from_slice(front)?;
-    text.extend_from_slice(line_rest(source, at))?;
+    push_shown(text, true, rest)?;
     text.push(b'\n')?;
     push_lead(text, front)?;
     text.extend_from_slice(b"^\n")
+}
+
+/// Appends the line in which a byte of a file stands, and below it a mark under the byte.
+fn push_marked(
+    alloc: Global,
+    text: &mut Vec<u8>,
+    source: &[u8],
+    at: usize,
+) -> Result<(), AllocError>
+    requires { at ≤ length source.now }
+    ensures { OnOk result (text.new.items ≡ text.old.items ++ marked source.now at) }
+{
+    let front = shown(alloc, true, line_front(source, at))?;
+    push_marked_line(text, &front, line_rest(source, at))
 }
 
 /// The explanation with the place of a byte of a file.
@@ -118,7 +132,7 @@ fn with_place(
 {
     let mut text = Vec::from_slice(alloc, line)?;
     push_place(&mut text, name, source, at)?;
-    push_marked(&mut text, source, at)?;
+    push_marked(alloc, &mut text, source, at)?;
     push_sentence(&mut text, kind, line)?;
     Ok(text)
 }
@@ -239,7 +253,8 @@ fn by_words<F: Files>(
     ensures kept { (F.seen files.new).folder ≡ (F.seen files.old).folder }
 {
     let texts = read_texts(alloc, files, words)?;
-    Ok(of_kind(alloc, words, command, &texts, kind, line)?)
+    let text = of_kind(alloc, words, command, &texts, kind, line)?;
+    Ok(shown(alloc, true, &text)?)
 }
 
 /// The explanation of a line, by the files that the words name and by those of the command that was refused.

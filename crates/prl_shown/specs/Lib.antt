@@ -1,0 +1,2 @@
+-- bytes as a terminal may show them
+pub mod Shown
