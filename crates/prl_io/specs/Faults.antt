@@ -1,7 +1,8 @@
 -- How a call ends where something may not fit.
-use Rattle.std.specs.Prelude.{◌≡◌, ℕ, List, [], ◌∷◌, Option, Result, Ok, Err, IfOk, codes, decimal}
+use Rattle.std.specs.Prelude.{◌≡◌, ℕ, false, List, [], ◌∷◌, Option, Result, Ok, Err, IfOk, codes, decimal}
 use Rattle.std.specs.Bool.{OnFalse}
 use Rattle.std.specs.List.{concat}
+use Rattle.prl_shown.specs.Shown.{shown}
 use Rattle.prl_io.specs.Views.{FolderView, SinkView}
 use Rattle.prl_io.specs.Endings.{Ends, IsTold}
 use Rattle.prl_io.specs.Pairs.{asks_help}
@@ -20,10 +21,10 @@ abbrev pub piece_text : Piece → List ℕ
 piece_text (pieces.Text text) = text.now
 piece_text (pieces.Number number) = decimal number
 
--- what a name stands for does not fit, for this reason; or memory ran out
+-- what a name stands for does not fit, for this reason, both as a terminal may show them; or memory ran out
 abbrev pub IsUnfit : List ℕ → List ℕ → Fault → Type 0
 IsUnfit name why (faults.Stop stop) = stop ≡ stops.Memory
-IsUnfit name why (faults.Unfit label line) = (label ≡ name) × (line.items ≡ why)
+IsUnfit name why (faults.Unfit label line) = (label ≡ shown false name) × (line.items ≡ shown false why)
 
 -- The text is in out, or a front of it; or nothing, at the status of the stop, or at status 1 where something does not fit. A text is
 -- seen by `view`.

@@ -1,5 +1,6 @@
 -- The files that the words name.
-use Rattle.std.specs.Prelude.{◌≡◌, ◌<◌, ◌++◌, ℕ, List, [], ◌∷◌, length, Some, None, IfSome}
+use Rattle.std.specs.Prelude.{◌≡◌, ◌<◌, ◌++◌, ℕ, false, List, [], ◌∷◌, length, Some, None, IfSome}
+use Rattle.prl_shown.specs.Shown.{shown}
 use Rattle.prl_io.specs.Views.{FolderView}
 use Rattle.prl_io.specs.declared.endings.Stop.{Stop}
 use Rattle.prl_io.specs.declared.endings.Stop.TheVariants as stops
@@ -8,12 +9,12 @@ use Rattle.prl_io.specs.declared.endings.Stop.TheVariants as stops
 -- ran out
 abbrev pub IsFileStop : FolderView → FolderView → List ℕ → ℕ → Stop → Type 0
 IsFileStop old new name most (stops.Absent file) =
-    (file ≡ name) × IfSome old.folder (λ folder. folder name ≡ None) × (new.failed ≡ old.failed)
+    (file ≡ shown false name) × IfSome old.folder (λ folder. folder name ≡ None) × (new.failed ≡ old.failed)
 IsFileStop old new name most (stops.TooLong file) =
-    (file ≡ name)
+    (file ≡ shown false name)
     × IfSome old.folder (λ folder. (bytes : List ℕ) × (folder name ≡ Some bytes) × (most < length bytes))
     × (new.failed ≡ old.failed)
-IsFileStop old new name most (stops.Unread file) = (file ≡ name) × (new.failed ≡ old.failed ++ name ∷ [])
+IsFileStop old new name most (stops.Unread file) = (file ≡ shown false name) × (new.failed ≡ old.failed ++ name ∷ [])
 IsFileStop old new name most stops.Memory = new.failed ≡ old.failed
 IsFileStop old new name most (stops.Words form) = ⊥
 IsFileStop old new name most (stops.Refused what) = ⊥

@@ -1,7 +1,8 @@
 //! How a call ends where something that its words name may not fit, and why there is no text then.
 
-ghost use Rattle.std.specs.Prelude.{◌≡◌, ◌++◌, IfOk, IfErr, OnOk, decimal, vec_items};
+ghost use Rattle.std.specs.Prelude.{◌≡◌, ◌++◌, IfOk, IfErr, OnOk, decimal, false, vec_items};
 ghost use Rattle.std.specs.List.{flat_map};
+ghost use Rattle.prl_shown.specs.Shown.{shown};
 ghost use Rattle.prl_io.specs.Endings.{IsTold};
 ghost use Rattle.prl_io.specs.Faults.{EndsSo, IsUnfit, piece_text, unfit_line};
 ghost use Rattle.prl_io.specs.declared.endings.Stop.TheVariants.{Memory};
@@ -10,6 +11,7 @@ ghost use Rattle.prl_io.specs.declared.faults.Fault.TheVariants as faults;
 use crate::endings::{Stop, finish};
 use crate::writing::{Sink, write_pieces};
 use prl_base::{Label, push_number};
+use prl_shown::shown;
 use std::alloc::{AllocError, Global};
 
 /// Why there is no text.
@@ -73,6 +75,14 @@ pub fn why_of(alloc: Global, front: &str, number: u64) -> Result<Vec<u8>, AllocE
     why_with(alloc, &[front, Piece::Number(number)])
 }
 
+/// A name as a terminal may show it.
+pub(crate) fn shown_label(alloc: Global, name: &[u8]) -> Result<Label, AllocError>
+    ensures { IfOk result (λ label. label ≡ shown false name.now) }
+{
+    let text = shown(alloc, false, name)?;
+    Label::new(alloc, text.as_slice())
+}
+
 /// What this name stands for does not fit: the line of this front and this number tells why. Or memory
 /// ran out.
 pub fn unfit(alloc: Global, name: &[u8], front: &str, number: u64) -> Fault
@@ -86,7 +96,10 @@ pub fn unfit_for(alloc: Global, name: &[u8], why: Result<Vec<u8>, AllocError>) -
     ensures told { IfOk why (λ line. IsUnfit name.now line.items result) }
     ensures memory { IfErr why (λ _. result ≡ faults.Stop Memory) }
 {
-    match (Label::new(alloc, name), why) {
+    let Ok(why) = why else {
+        return Fault::Stop(Stop::Memory);
+    };
+    match (shown_label(alloc, name), shown(alloc, false, &why)) {
         (Ok(label), Ok(why)) => Fault::Unfit(label, why),
         _ => Fault::Stop(Stop::Memory),
     }

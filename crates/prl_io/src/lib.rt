@@ -2,7 +2,7 @@
 //! that look on. Each is a trait whose contract says what its answers mean, with an implementation
 //! in memory, which is exact, and one over the host, which tells no contents; and the words of a
 //! process. And what the programs beside `prelude` have in common: their words, which are pairs of an
-//! option and its value, the files that these name, and how a call ends. It stands on `prl_base`.
+//! option and its value, the files that these name, and how a call ends. It stands on `prl_base` and `prl_shown`.
 #![tactic(auto)]
 
 mod endings;

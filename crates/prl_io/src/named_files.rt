@@ -5,6 +5,7 @@ ghost use Rattle.prl_io.specs.Files.{IsFileStop};
 ghost use Rattle.prl_io.specs.declared.endings.Stop.TheVariants.{Memory};
 
 use crate::endings::Stop;
+use crate::faults::shown_label;
 use crate::reading::{FileFault, Files};
 use prl_base::Label;
 use std::alloc::{AllocError, Global};
@@ -31,11 +32,12 @@ pub fn read_named<F: Files>(
     ensures kept { (F.seen files.new).folder ≡ (F.seen files.old).folder }
 {
     let label = Label::new(alloc, name)?;
+    let told = shown_label(alloc, name)?;
     match files.read(alloc, &label, most) {
         Ok(bytes) => Ok(bytes),
-        Err(FileFault::Absent) => Err(Stop::Absent(label)),
-        Err(FileFault::TooLong) => Err(Stop::TooLong(label)),
-        Err(FileFault::Failed) => Err(Stop::Unread(label)),
+        Err(FileFault::Absent) => Err(Stop::Absent(told)),
+        Err(FileFault::TooLong) => Err(Stop::TooLong(told)),
+        Err(FileFault::Failed) => Err(Stop::Unread(told)),
         Err(FileFault::Memory) => Err(Stop::Memory),
     }
 }
