@@ -1,7 +1,6 @@
 -- Chains taken apart at their last job, and made longer there.
 use Rattle.std.proofs.Common.{◌≡◌, ◌+◌, ◌<◌, ℕ, List, [], ◌∷◌, length, refl, subst, arith}
-use Rattle.prl_plan.specs.Vocabulary.{Job, task_at, Precedes, PrecedesAlong, IsWellFormed, IsChain, last_of, wcets_of}
-use Rattle.prl_plan.specs.declared.graphs.Edge.{Edge}
+use Rattle.prl_plan.specs.Vocabulary.{Job, task_at, Precedes, IsWellFormed, IsChain, last_of, wcets_of}
 use Rattle.prl_plan.specs.declared.graphs.TaskGraph.{TaskGraph}
 use Rattle.prl_plan.proofs.RoundLaws.{source_inside}
 

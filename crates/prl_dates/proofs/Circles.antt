@@ -3,7 +3,7 @@
 use Rattle.prl_base.proofs.Standard.{◌≡◌, ◌+◌, ◌-◌, ◌*◌, ◌/◌, ◌<◌, ◌≤◌, ◌⊎◌, ◌++◌, ℕ, zero, suc, Bool, true, false, List, [], ◌∷◌, length, map, inl, inr, refl, sym, ◌∙◌, ap, subst, arith, eqb, ◌||◌}
 use Rattle.prl_base.proofs.Standard.{ℤ, pos, negsuc, ◌+ℤ◌, ◌-ℤ◌, ◌≤ℤ◌, ◌<ℤ◌, list_any, IsDistinct, AllByRecursion, mod-add-div', mod-eq_of_lt, mul-le-mul_left, nat_tests, ints}
 use Rattle.prl_base.proofs.Standard.{length-le_from_distinct_below}
-use Rattle.prl_plan.specs.Vocabulary.{IsChain, last_of, wcets_of, needs_of, EndsIn, place_in, IsWellFormed, jobs_in_hyperperiod, Job, task_at, release_of, deadline_of, preceding, Precedes}
+use Rattle.prl_plan.specs.Vocabulary.{IsChain, last_of, wcets_of, needs_of, place_in, IsWellFormed, jobs_in_hyperperiod, Job, task_at, release_of, deadline_of, preceding, Precedes}
 use Rattle.prl_plan.specs.Vocabulary.{PrecedesAlong}
 use Rattle.prl_plan.specs.declared.graphs.Edge.{Edge}
 use Rattle.prl_plan.specs.declared.graphs.TaskGraph.{TaskGraph}

@@ -19,3 +19,6 @@ mod SpreadRounds
 mod SpreadDates
 mod Circles
 mod TurnSteps
+mod ExitLists
+mod Rises
+mod Repeats

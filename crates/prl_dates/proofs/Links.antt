@@ -1,6 +1,6 @@
 -- Links over all whole job numbers.
-use Rattle.prl_base.proofs.Standard.{◌≡◌, ◌*◌, ◌<◌, ◌≤◌, ℕ, length, refl, sym, ◌∙◌, ap, subst, arith, ℤ, pos, ◌+ℤ◌, ◌-ℤ◌, ints}
-use Rattle.prl_plan.specs.Vocabulary.{place_in, task_at, preceding, Precedes, IsWellFormed, IsEdge}
+use Rattle.prl_base.proofs.Standard.{◌≡◌, ◌<◌, ◌≤◌, ℕ, length, refl, sym, ◌∙◌, ap, subst, arith, ℤ, pos, ◌+ℤ◌, ◌-ℤ◌, ints}
+use Rattle.prl_plan.specs.Vocabulary.{place_in, preceding, Precedes, IsWellFormed, IsEdge}
 use Rattle.prl_plan.specs.declared.graphs.Edge.{Edge}
 use Rattle.prl_plan.specs.declared.graphs.TaskGraph.{TaskGraph}
 use Rattle.prl_plan.proofs.Periods.{everywhere}

@@ -1,9 +1,9 @@
 -- One lane more of a round, and what holds when all have asked.
-use Rattle.prl_base.proofs.Standard.{◌≡◌, ◌+◌, ◌<◌, ◌≤◌, ◌^◌, ℕ, Bool, List, length, Some, inl, inr, refl, ◌∙◌, ap, subst, arith, slice_get, slice_index, cases_lt, slice_get_within}
+use Rattle.prl_base.proofs.Standard.{◌≡◌, ◌+◌, ◌<◌, ◌≤◌, ◌^◌, ℕ, List, length, Some, inl, inr, refl, ◌∙◌, ap, subst, arith, slice_get, slice_index, cases_lt}
 use Rattle.prl_plan.specs.Vocabulary.{place_in, task_at, IsWellFormed, jobs_in_hyperperiod}
 use Rattle.prl_plan.specs.declared.graphs.TaskGraph.{TaskGraph}
 use Rattle.prl_plan.proofs.RoundPeriods.{task_is}
-use Rattle.prl_dates.specs.Vocabulary.{Lane, jobs_of, index_of, link_at, IsLane, AreEachLane, Leaves, Meets, AreRaised, AreRound, AreSettled, AreMarked, AreWithin}
+use Rattle.prl_dates.specs.Vocabulary.{Lane, jobs_of, link_at, IsLane, AreEachLane, Leaves, Meets, AreRaised, AreRound, AreWithin}
 use Rattle.prl_dates.proofs.Indices.{before_rises, before_all, index_below, place_below, some_jobs}
 
 same_lane : (lanes : List Lane) (l : ℕ) (a b : Lane) → slice_get lanes l ≡ Some a → slice_get lanes l ≡ Some b → a ≡ b
@@ -43,16 +43,6 @@ module _ (graph : TaskGraph) (lanes : List Lane) (l : ℕ) (lane : Lane) (stands
         ];
   }
 
-  -- a lane that asks for no later date
-  pub round_same : ((k : ℕ) → k < length lane.links → Leaves lane (task_at graph lane.to.0).wcet now now k) → AreRound graph lanes (l + 1) now next
-  round_same settled = record {
-    long = round.long;
-    up = round.up;
-    asks = lane_more (λ (x : Lane). (k : ℕ) → k < length x.links → Leaves x (task_at graph x.to.0).wcet now next k) lanes l lane stands round.asks
-        (λ k inside. omega (arith, settled k inside, round.up (lane.first + k)));
-    only = round.only;
-  }
-
 pub round_begins : (graph : TaskGraph) (lanes : List Lane) (now : List ℕ) → AreRound graph lanes 0 now now
 round_begins graph lanes now = record {
   long = refl;
@@ -83,14 +73,3 @@ module _ (graph : TaskGraph) (good : IsWellFormed graph) where
               (let e : slice_index next q ≡ slice_index next (by.1.first + by.3) = ap (λ (x : ℕ). slice_index next x) by.5 in
               omega (arith, within (link_at by.1 by.3).from, (task_is graph good by.1.to.0 (are by.0 by.1 by.2).to).wcet.1, by.6, e))
         ]
-
-    -- what a task that did not rise asks for is done
-    pub next_settled : (rose : List Bool) → AreMarked graph (length graph.tasks) rose now next → AreSettled graph lanes rose next
-    next_settled rose marked l lane stands unmarked k inside =
-        let is = are l lane stands in
-        let a : Leaves lane (task_at graph lane.to.0).wcet now next k = round.asks l lane (slice_get_within lanes l lane stands) stands k inside in
-        let link = is.links k (omega (arith, is.long, inside)) in
-        let below : place_in link.0 (jobs_of graph lane.from.0) < jobs_of graph lane.from.0 =
-        place_below (jobs_of graph lane.from.0) (some_jobs graph good lane.from.0 is.from) link.0 in
-        let y : slice_index now (index_of graph lane.from.0 link.0) ≡ slice_index now (link_at lane k).from = ap (λ (q : ℕ). slice_index now q) link.1.index in
-        omega (arith, a, marked lane.from.0 (place_in link.0 (jobs_of graph lane.from.0)) is.from unmarked below, ap (λ (q : ℕ). slice_index next q) link.1.index, y)

@@ -1,5 +1,5 @@
 -- The first bests, and what the last ones show.
-use Rattle.prl_base.proofs.Standard.{◌≡◌, ◌+◌, ◌-◌, ◌*◌, ◌<◌, ◌≤◌, ◌^◌, ◌⊎◌, ℕ, true, false, List, [], ◌∷◌, length, get_or, replicate, inl, inr, refl, sym, ◌∙◌, ap, subst, arith, ℤ, pos, ◌+ℤ◌, ◌*ℤ◌}
+use Rattle.prl_base.proofs.Standard.{◌≡◌, ◌+◌, ◌-◌, ◌*◌, ◌<◌, ◌≤◌, ◌^◌, ◌⊎◌, ℕ, List, [], ◌∷◌, length, get_or, inl, inr, refl, sym, ◌∙◌, ap, subst, arith, ℤ, pos, ◌+ℤ◌}
 use Rattle.prl_base.proofs.Standard.{◌≤ℤ◌, ◌<ℤ◌, slice_index, *ℤ_comm, cases_lt, ints}
 use Rattle.prl_base.specs.declared.numbers.TaskNo.{TaskNo}
 use Rattle.prl_plan.specs.Vocabulary.{needs_of, EndsIn, IsBest, place_in, IsWellFormed, jobs_in_hyperperiod, Job, task_at, release_of, deadline_of}
@@ -10,12 +10,11 @@ use Rattle.prl_plan.proofs.Floors.{mono}
 use Rattle.prl_plan.proofs.RoundPeriods.{task_is}
 use Rattle.prl_dates.specs.declared.bests.First.TheVariants as firsts
 use Rattle.prl_dates.specs.declared.faults.DateFault.TheVariants as faults
-use Rattle.prl_dates.specs.Vocabulary.{Lane, jobs_of, IsOfPeriod, IsLate, EndsLoop, NoneOfPeriod, IsSomehowLate, IsDateFault, AreBests, AreLanes, AreEachLane, jobs_before, dates_of, AreRound}
-use Rattle.prl_dates.specs.Vocabulary.{AreSettled, IsFirstTable, IsNowhereAbove, IsFirstAbove}
+use Rattle.prl_dates.specs.Vocabulary.{Lane, jobs_of, IsOfPeriod, IsLate, EndsLoop, NoneOfPeriod, IsSomehowLate, IsDateFault, AreBests, AreLanes, jobs_before, dates_of, AreRound}
+use Rattle.prl_dates.specs.Vocabulary.{IsFirstTable, IsNowhereAbove, IsFirstAbove}
 use Rattle.prl_dates.proofs.BestRounds.{next_bests}
 use Rattle.prl_dates.proofs.Indices.{place_below, place_self, some_jobs, index_below}
 use Rattle.prl_dates.proofs.LaneSteps.{date_small}
-use Rattle.prl_dates.proofs.FirstTables.{get_same}
 use Rattle.prl_dates.proofs.Readings.{task_read}
 use Rattle.prl_dates.proofs.TableRounds.{round_of_tables}
 
@@ -93,11 +92,6 @@ module _ (graph : TaskGraph) (good : IsWellFormed graph) where
       alone job first [] ends date is =
           subst (λ (j : Job). needs_of graph j [] ≤ℤ date) (sym ends.last) (omega (arith, ints, is))
       alone job first (next ∷ rest) ends date is = absurd (let f = ends.few in omega (arith, f))
-
-  -- where all tasks are marked, nothing is claimed of lanes
-  pub first_settled : (lanes : List Lane) → AreEachLane graph lanes → (now : List ℕ) → AreSettled graph lanes (replicate (length graph.tasks) true) now
-  first_settled lanes are now l lane stands unmarked k inside =
-      absurd (let s = get_same (length graph.tasks) lane.from.0 true false (are l lane stands).from in cc)
 
   module _ (most : ℕ) (is : most ≡ jobs_in_hyperperiod graph - 1) (now : List ℕ) (bests : AreBests graph most (dates_of graph now)) where
     -- the best over chains of at most a hyperperiod's jobs

@@ -3,7 +3,7 @@ use Rattle.prl_base.proofs.Standard.{◌≡◌, ◌+◌, ◌<◌, ◌⊎◌, ℕ
 use Rattle.prl_plan.specs.Vocabulary.{place_in, Job, task_at, release_of, ComesFrom, Precedes, PrecedesAlong, IsWellFormed}
 use Rattle.prl_plan.specs.declared.graphs.Edge.{Edge}
 use Rattle.prl_plan.specs.declared.graphs.TaskGraph.{TaskGraph}
-use Rattle.prl_dates.specs.Vocabulary.{Lane, jobs_of, IsRound, jobs_before, index_of, dates_of, Joins, link_at, IsLink, IsLane, AreLanes, Leaves, Meets, AreRound}
+use Rattle.prl_dates.specs.Vocabulary.{Lane, jobs_of, IsRound, jobs_before, index_of, dates_of, Joins, IsLink, IsLane, AreLanes, Leaves, Meets, AreRound}
 use Rattle.prl_dates.proofs.Links.{link_to, link_precedes}
 use Rattle.prl_dates.proofs.Indices.{one_index, place_below, some_jobs}
 

@@ -7,3 +7,5 @@ pub mod Windows
 pub mod Runs
 pub mod Turns
 pub mod Spreads
+pub mod Exits
+pub mod Leaps

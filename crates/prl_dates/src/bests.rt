@@ -9,12 +9,13 @@ ghost use Rattle.prl_dates.specs.Faults.{jobs_of, IsDateFault};
 ghost use Rattle.prl_dates.specs.code.Families.{AreBests};
 ghost use Rattle.prl_dates.specs.code.Lanes.{AreLanes};
 ghost use Rattle.prl_dates.specs.code.Indices.{jobs_before, dates_of};
-ghost use Rattle.prl_dates.specs.code.Tables.{AreSettled, AreWithin, IsFirstTable, first_of, IsFirstAbove, IsNowhereAbove, AreFinal};
+ghost use Rattle.prl_dates.specs.code.Tables.{AreWithin, IsFirstTable, first_of, IsFirstAbove, IsNowhereAbove, AreFinal};
 
 use crate::DateFault;
 use crate::lanes::Lane;
+use crate::leaps::rounds;
 use crate::numbers::{jobs_before, jobs_of};
-use crate::rounds::{round, rounds};
+use crate::rounds::round;
 use crate::runs::push_times;
 use prl_base::TaskNo;
 use prl_deadlines::above_in;
@@ -101,31 +102,29 @@ fn narrow(graph: &TaskGraph, bests: &[u64], task: TaskNo, n: u64) -> DateFault
 
 /// Raises the bests until a round changes nothing, where none comes above the dues.
 fn settle(
+    alloc: Global,
     graph: &TaskGraph,
     lanes: &[Lane],
     dues: &[u64],
     now: &mut [u64],
     next: &mut [u64],
-    rose: &mut [bool],
 ) -> Result<(), DateFault>
     requires well { IsWellFormed graph.now }
     requires lanes { AreLanes graph.now lanes.now }
     requires dues { IsFirstTable graph.now First.Due (length graph.now.tasks) dues.now }
-    requires marks { length rose.old ≡ length graph.now.tasks }
     requires wcets { IsFirstTable graph.now First.Wcet (length graph.now.tasks) now.old }
-    requires settled { AreSettled graph.now lanes.now rose.old now.old }
     requires copy { next.old ≡ now.old }
     ensures { MatchResult result (λ done. AreFinal graph.now lanes.now now.new) (IsDateFault graph.now) }
 {
     let most = (now.len() as u64).saturating_sub(1);
-    let still = rounds(graph, lanes, now, next, rose, most);
+    let still = rounds(alloc, graph, lanes, now, next, most)?;
     if let Some((task, n)) = first_above(graph, now, dues) {
         return Err(narrow(graph, now, task, n));
     }
     if still {
         return Ok(());
     }
-    round(graph, lanes, rose, now, next);
+    round(graph, lanes, now, next);
     if let Some((task, n)) = first_above(graph, next, now) {
         return Err(DateFault::Loop {
             task,
@@ -149,14 +148,13 @@ pub(crate) fn bests(
 {
     let mut now = first_table(alloc, graph, First::Wcet)?;
     let mut next = first_table(alloc, graph, First::Wcet)?;
-    let mut rose = vec![in alloc; true; graph.tasks.len()]?;
     settle(
+        alloc,
         graph,
         lanes,
         dues,
         now.as_mut_slice(),
         next.as_mut_slice(),
-        rose.as_mut_slice(),
     )?;
     Ok(now)
 }

@@ -4,10 +4,12 @@
 
 mod bests;
 mod encoding;
+mod exits;
 mod faults;
 mod lanes;
 mod latest;
 mod laws;
+mod leaps;
 mod numbers;
 mod rounds;
 mod runs;

@@ -1,17 +1,42 @@
 //! Rounds: each lets the bests of the round before reach one job further.
 
-ghost use Rattle.std.specs.Prelude.{◌≡◌, ◌+◌, ◌*◌, ◌<◌, ◌≤◌, ◌^◌, ℕ, length, true, false, slice_index};
+ghost use Rattle.std.specs.Prelude.{◌≡◌, ◌+◌, ◌*◌, ◌<◌, ◌≤◌, ◌^◌, [], ℕ, length, true, false, IfOk, OnOk};
 ghost use Rattle.prl_plan.specs.Graphs.{IsWellFormed, jobs_in_hyperperiod};
-ghost use Rattle.prl_plan.specs.declared.limits.TheConstants.{MAX_PERIOD_JOBS};
-ghost use Rattle.prl_dates.specs.code.Families.{AreBests};
-ghost use Rattle.prl_dates.specs.code.Indices.{dates_of};
-ghost use Rattle.prl_dates.specs.code.Lanes.{link_at, IsLane, AreLanes, AreEachLane};
-ghost use Rattle.prl_dates.specs.code.Tables.{AreRaised, AreRound, AreSettled, AreMarked, AreWithin};
+ghost use Rattle.prl_dates.specs.code.Lanes.{link_at, IsLane, AreEachLane};
+ghost use Rattle.prl_dates.specs.code.Exits.{AreExits};
+ghost use Rattle.prl_dates.specs.code.Tables.{AreRaised, AreRound, AreSettled, AreWithin, AreBelow, IsListed, ListsRisen};
 
+use crate::exits::{Exits, round_after};
 use crate::lanes::Lane;
-use crate::numbers::{jobs_before, jobs_of, wcet_of};
-use prl_base::TaskNo;
+use crate::numbers::wcet_of;
 use prl_plan::TaskGraph;
+use std::alloc::{AllocError, Global};
+use std::mem;
+
+/// A round in which one job in so many rises goes over whole lanes, and not job by job.
+pub(crate) const MANY: usize = 16;
+
+/// The indices of the jobs that rose in the last round, and room for those of the next one.
+#[derive(Drop)]
+pub(crate) struct Rises {
+    pub last: Vec<usize>,
+    pub next: Vec<usize>,
+}
+
+/// All jobs as risen.
+pub(crate) fn all_rise(alloc: Global, jobs: usize) -> Result<Rises, AllocError>
+    ensures all { IfOk result (λ rises. (q : ℕ) → q < jobs → IsListed rises.last.items q) }
+    ensures below { IfOk result (λ rises. AreBelow rises.last.items jobs) }
+{
+    let mut last = Vec::with_capacity(alloc, jobs)?;
+    for job in 0..jobs {
+        last.push(job)?;
+    }
+    Ok(Rises {
+        last,
+        next: Vec::new(alloc),
+    })
+}
 
 /// Raises the bests of the lane's later task to what the bests of its earlier one ask for.
 pub(crate) fn raise(lane: &Lane, wcet: u32, now: &[u64], next: &mut [u64])
@@ -31,91 +56,100 @@ pub(crate) fn raise(lane: &Lane, wcet: u32, now: &[u64], next: &mut [u64])
     }
 }
 
-/// One round, over the lanes from the tasks that are marked.
-pub(crate) fn round(graph: &TaskGraph, lanes: &[Lane], rose: &[bool], now: &[u64], next: &mut [u64])
+/// One round, over all lanes.
+pub(crate) fn round(graph: &TaskGraph, lanes: &[Lane], now: &[u64], next: &mut [u64])
     requires well { IsWellFormed graph.now }
     requires lanes { AreEachLane graph.now lanes.now }
-    requires marks { length rose.now ≡ length graph.now.tasks }
     requires long { length now.now ≡ jobs_in_hyperperiod graph.now }
     requires small { AreWithin now.now (2 ^ 62) }
-    requires settled { AreSettled graph.now lanes.now rose.now now.now }
     requires copy { next.old ≡ now.now }
     ensures { AreRound graph.now lanes.now (length lanes.now) now.now next.new }
 {
     for l in 0..lanes.len() {
         let lane = &lanes[l];
-        let from = lane.from.0 as usize;
-        let wcet = wcet_of(graph, lane.to);
-        if rose[from] {
-            raise(lane, wcet, now, next);
-        }
+        raise(lane, wcet_of(graph, lane.to), now, next);
     }
 }
 
-/// Whether the tables differ in one of `count` indices from `first` on.
-fn differ(now: &[u64], next: &[u64], first: u64, count: u64) -> bool
-    requires now { first + count ≤ length now.now }
-    requires next { first + count ≤ length next.now }
-    ensures { result ≡ false → (p : ℕ) → p < count → slice_index next.now (first + p) ≡ slice_index now.now (first + p) }
-{
-    for p in 0..count {
-        let index = (first + p) as usize;
-        if now[index] != next[index] {
-            return true;
-        }
-    }
-    false
-}
-
-/// Marks the tasks whose bests differ.
-pub(crate) fn mark(graph: &TaskGraph, now: &[u64], next: &[u64], rose: &mut [bool])
-    requires well { IsWellFormed graph.now }
-    requires marks { length rose.old ≡ length graph.now.tasks }
-    requires long { length now.now ≡ jobs_in_hyperperiod graph.now }
+/// Lists the indices at which the tables differ.
+fn list_risen(now: &[u64], next: &[u64], rises: &mut Vec<usize>) -> Result<(), AllocError>
     requires same { length next.now ≡ length now.now }
-    ensures marks { length rose.new ≡ length rose.old }
-    ensures marked { AreMarked graph.now (length graph.now.tasks) rose.new now.now next.now }
+    requires none { rises.old.items ≡ [] }
+    ensures { OnOk result (ListsRisen now.now next.now rises.new.items) }
 {
-    for i in 0..rose.len() {
-        let first = jobs_before(graph, i as u32);
-        let count = jobs_of(graph, TaskNo(i as u32));
-        rose[i] = differ(now, next, first, count);
+    for job in 0..now.len() {
+        if next[job] != now[job] {
+            rises.push(job)?;
+        }
     }
+    Ok(())
 }
 
-/// Rounds until one changes nothing, at most so many; whether one changed nothing.
-pub(crate) fn rounds(
+/// One round, and the indices that rose in it.
+fn round_listed(
     graph: &TaskGraph,
     lanes: &[Lane],
+    exits: &Exits,
+    risen: &[usize],
+    now: &[u64],
+    next: &mut [u64],
+    rises: &mut Vec<usize>,
+) -> Result<(), AllocError>
+    requires well { IsWellFormed graph.now }
+    requires lanes { AreEachLane graph.now lanes.now }
+    requires exits { AreExits graph.now lanes.now exits.now }
+    requires long { length now.now ≡ jobs_in_hyperperiod graph.now }
+    requires small { AreWithin now.now (2 ^ 62) }
+    requires settled { AreSettled graph.now lanes.now risen.now now.now }
+    requires copy { next.old ≡ now.now }
+    requires none { rises.old.items ≡ [] }
+    ensures round { OnOk result (AreRound graph.now lanes.now (length lanes.now) now.now next.new) }
+    ensures lists { OnOk result (ListsRisen now.now next.new rises.new.items) }
+{
+    if risen.len() < now.len() / MANY {
+        return round_after(graph, lanes, exits, risen, now, next, rises);
+    }
+    round(graph, lanes, now, next);
+    list_risen(now, next, rises)
+}
+
+/// Takes over the dates that rose.
+fn take_over(now: &mut [u64], next: &[u64], rises: &[usize])
+    requires same { length next.now ≡ length now.old }
+    requires lists { ListsRisen now.old next.now rises.now }
+    ensures { now.new ≡ next.now }
+{
+    for job in rises {
+        now[*job] = next[*job];
+    }
+}
+
+/// Goes on by one round; whether nothing rose.
+pub(crate) fn advance(
+    graph: &TaskGraph,
+    lanes: &[Lane],
+    exits: &Exits,
+    rises: &mut Rises,
     now: &mut [u64],
     next: &mut [u64],
-    rose: &mut [bool],
-    most: u64,
-) -> bool
+) -> Result<bool, AllocError>
     requires well { IsWellFormed graph.now }
-    requires lanes { AreLanes graph.now lanes.now }
-    requires marks { length rose.old ≡ length graph.now.tasks }
+    requires lanes { AreEachLane graph.now lanes.now }
+    requires exits { AreExits graph.now lanes.now exits.now }
     requires long { length now.old ≡ jobs_in_hyperperiod graph.now }
-    requires few { most ≤ MAX_PERIOD_JOBS }
-    requires within { AreWithin now.old (2 ^ 31) }
-    requires settled { AreSettled graph.now lanes.now rose.old now.old }
+    requires small { AreWithin now.old (2 ^ 62) }
+    requires settled { AreSettled graph.now lanes.now rises.old.last.items now.old }
     requires copy { next.old ≡ now.old }
-    requires bests { AreBests graph.now 0 (dates_of graph.now now.old) }
-    ensures bests { AreBests graph.now most (dates_of graph.now now.new) }
-    ensures still { result ≡ true → AreRound graph.now lanes.now (length lanes.now) now.new now.new }
-    ensures long { length now.new ≡ length now.old }
-    ensures within { AreWithin now.new ((most + 1) * 2 ^ 31) }
-    ensures marks { length rose.new ≡ length rose.old }
-    ensures settled { AreSettled graph.now lanes.now rose.new now.new }
-    ensures copy { next.new ≡ now.new }
+    ensures round { OnOk result (AreRound graph.now lanes.now (length lanes.now) now.old now.new) }
+    ensures settled { OnOk result (AreSettled graph.now lanes.now rises.new.last.items now.new) }
+    ensures copy { OnOk result (next.new ≡ now.new) }
+    ensures still { IfOk result (λ still. still ≡ true → now.new ≡ now.old) }
+    ensures moves { IfOk result (λ still. still ≡ false → now.new ≡ now.old → ⊥) }
 {
-    for count in 0..most {
-        round(graph, lanes, rose, now, next);
-        if *now == *next {
-            return true;
-        }
-        mark(graph, now, next, rose);
-        now.copy_from_slice(next);
-    }
-    false
+    rises.next.clear();
+    let risen = rises.last.as_slice();
+    round_listed(graph, lanes, exits, risen, now, next, &mut rises.next)?;
+    take_over(now, next, rises.next.as_slice());
+    mem::swap(&mut rises.last, &mut rises.next);
+    Ok(rises.last.is_empty())
 }

@@ -5,13 +5,15 @@ ghost use Rattle.std.specs.Prelude.{◌≡◌, ◌+◌, ◌<◌, ◌≤◌, ◌^
 ghost use Rattle.prl_plan.specs.Vocabulary.{IsWellFormed, jobs_in_hyperperiod, Placement, IsSpread};
 ghost use Rattle.prl_dates.specs.declared.lanes.Lane.{Lane};
 ghost use Rattle.prl_dates.specs.declared.spreads.Bound.TheVariants as bounds;
+ghost use Rattle.prl_dates.specs.code.Exits.{AreExits};
 ghost use Rattle.prl_dates.specs.code.Lanes.{IsLane, AreLanes, AreEachLane};
 ghost use Rattle.prl_dates.specs.code.Spreads.{bound_of, IsTablePart, IsTableOf, AreRaisedAcross, AreEndsAcross, IsLeastAbove, HasCeiling, AreSpreadEnds};
 ghost use Rattle.prl_dates.specs.code.Tables.{AreSettled, AreWithin};
 
+use crate::exits::{Exits, exits_of};
 use crate::lanes::{Lane, lanes};
 use crate::numbers::{jobs_before, jobs_of, wcet_of};
-use crate::rounds::{mark, raise, round};
+use crate::rounds::{Rises, advance, all_rise, raise};
 use crate::windows::windows;
 use prl_base::TaskNo;
 use prl_plan::{Dates, Plan, TaskGraph, plan_is_one};
@@ -116,30 +118,28 @@ fn keep_within(lanes: &mut Vec<Lane>, processors: &[u32])
 fn raise_to_end(
     graph: &TaskGraph,
     lanes: &[Lane],
+    exits: &Exits,
+    rises: &mut Rises,
     now: &mut [u64],
     next: &mut [u64],
-    rose: &mut [bool],
-)
+) -> Result<(), AllocError>
     requires well { IsWellFormed graph.now }
     requires lanes { AreEachLane graph.now lanes.now }
-    requires marks { length rose.old ≡ length graph.now.tasks }
+    requires exits { AreExits graph.now lanes.now exits.now }
     requires long { length now.old ≡ jobs_in_hyperperiod graph.now }
-    requires settled { AreSettled graph.now lanes.now rose.old now.old }
+    requires settled { AreSettled graph.now lanes.now rises.old.last.items now.old }
     requires copy { next.old ≡ now.old }
     requires ceiling { HasCeiling graph.now lanes.now now.old }
-    ensures { IsLeastAbove graph.now lanes.now now.old now.new }
+    ensures { OnOk result (IsLeastAbove graph.now lanes.now now.old now.new) }
 {
     loop {
-        round(graph, lanes, rose, now, next);
-        if *now == *next {
-            return;
+        if advance(graph, lanes, exits, rises, now, next)? {
+            return Ok(());
         }
-        mark(graph, now, next, rose);
-        now.copy_from_slice(next);
     }
 }
 
-/// The same, with room for the tables.
+/// The same, with room for what it keeps.
 fn raise_within(
     alloc: Global,
     graph: &TaskGraph,
@@ -152,10 +152,10 @@ fn raise_within(
     requires ceiling { HasCeiling graph.now lanes.now ends.old }
     ensures { OnOk result (IsLeastAbove graph.now lanes.now ends.old ends.new) }
 {
+    let exits = exits_of(alloc, graph, lanes)?;
+    let mut rises = all_rise(alloc, ends.len())?;
     let mut next = ends.to_vec(alloc)?;
-    let mut rose = vec![in alloc; true; graph.tasks.len()]?;
-    raise_to_end(graph, lanes, ends, next.as_mut_slice(), rose.as_mut_slice());
-    Ok(())
+    raise_to_end(graph, lanes, &exits, &mut rises, ends, next.as_mut_slice())
 }
 
 /// The table of the plan's ends, raised across processors.

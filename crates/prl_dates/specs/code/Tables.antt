@@ -1,5 +1,5 @@
 -- Tables of a hyperperiod: a round over links, and what keeps deadlines.
-use Rattle.std.specs.Prelude.{◌≡◌, ◌+◌, ◌<◌, ◌≤◌, ◌⊎◌, ℕ, List, length, Bool, true, false, Some, slice_get, sum, slice_index, slice_index_or}
+use Rattle.std.specs.Prelude.{◌≡◌, ◌+◌, ◌<◌, ◌≤◌, ◌⊎◌, ℕ, zero, suc, List, length, Bool, true, false, Some, slice_get, sum, slice_index}
 use Rattle.prl_plan.specs.declared.graphs.TaskGraph.{TaskGraph}
 use Rattle.prl_plan.specs.Jobs.{task_at}
 use Rattle.prl_dates.specs.declared.lanes.Lane.{Lane}
@@ -36,15 +36,39 @@ pub record AreRound (graph : TaskGraph) (lanes : List Lane) (count : ℕ) (now n
       ⊎ ((l : ℕ) × (lane : Lane) × (slice_get lanes l ≡ Some lane) × (k : ℕ) × (k < length lane.links) × (q ≡ lane.first + k)
       × Meets lane (task_at graph lane.to.0).wcet now new k)
 
--- lanes from a task that is not marked ask for no later date
-abbrev pub AreSettled : TaskGraph → List Lane → List Bool → List ℕ → Type 0
-AreSettled graph lanes rose now = (l : ℕ) (lane : Lane) → slice_get lanes l ≡ Some lane → slice_index_or rose lane.from.0 false ≡ false →
-    (k : ℕ) → k < length lane.links → Leaves lane (task_at graph lane.to.0).wcet now now k
+-- the list has the number
+abbrev pub IsListed : List ℕ → ℕ → Type 0
+IsListed list q = (x : ℕ) × (slice_get list x ≡ Some q)
 
--- where a task is not marked, its dates are the same in both tables
-abbrev pub AreMarked : TaskGraph → ℕ → List Bool → List ℕ → List ℕ → Type 0
-AreMarked graph count rose now new = (i p : ℕ) → i < count → slice_index_or rose i false ≡ false → p < jobs_of graph i →
-    slice_index new (jobs_before graph i + p) ≡ slice_index now (jobs_before graph i + p)
+-- each number of the list is below the bound
+abbrev pub AreBelow : List ℕ → ℕ → Type 0
+AreBelow list bound = (x q : ℕ) → slice_get list x ≡ Some q → q < bound
+
+-- links from a job that is not listed ask for no later date
+pub record AreSettled (graph : TaskGraph) (lanes : List Lane) (risen now : List ℕ) : Type 0 where
+  pub below : AreBelow risen (length now)
+  pub others : (l k : ℕ) (lane : Lane) → slice_get lanes l ≡ Some lane → k < length lane.links →
+      IsListed risen (link_at lane k).from ⊎ Leaves lane (task_at graph lane.to.0).wcet now now k
+
+-- the list has just the indices at which the tables differ
+pub record ListsRisen (now new rises : List ℕ) : Type 0 where
+  pub below : AreBelow rises (length now)
+  pub rose : (x q : ℕ) → slice_get rises x ≡ Some q → slice_index new q ≡ slice_index now q → ⊥
+  pub each : (q : ℕ) → (slice_index new q ≡ slice_index now q) ⊎ IsListed rises q
+
+-- a round after which some links asked for their dates, and the indices that rose so far
+pub record AreUnderWay (graph : TaskGraph) (lanes : List Lane) (now next rises : List ℕ) : Type 0 where
+  pub long : length next ≡ length now
+  pub up : (q : ℕ) → slice_index now q ≤ slice_index next q
+  pub only : (q : ℕ) → (slice_index next q ≡ slice_index now q)
+      ⊎ ((l : ℕ) × (lane : Lane) × (slice_get lanes l ≡ Some lane) × (k : ℕ) × (k < length lane.links) × (q ≡ lane.first + k)
+      × Meets lane (task_at graph lane.to.0).wcet now next k)
+  pub lists : ListsRisen now next rises
+
+-- so many rounds lead from the one table to the other
+abbrev pub AreRounds : TaskGraph → List Lane → ℕ → List ℕ → List ℕ → Type 0
+AreRounds graph lanes zero old new = new ≡ old
+AreRounds graph lanes (suc count) old new = (mid : List ℕ) × AreRounds graph lanes count old mid × AreRound graph lanes (length lanes) mid new
 
 -- each date is within a bound
 abbrev pub AreWithin : List ℕ → ℕ → Type 0

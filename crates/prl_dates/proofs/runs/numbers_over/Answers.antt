@@ -1,4 +1,4 @@
-use Rattle.prl_base.proofs.Standard.{◌≡◌, ◌+◌, ◌-◌, ◌<◌, ◌≤◌, ◌++◌, w64, to_z, of_z, ℕ, List, [], ◌∷◌, length, get_or, inl, inr, sym, ap, subst, ◌∙◌, arith, ℤ, pos, ◌+ℤ◌, FitsSigned, cases_lt}
+use Rattle.prl_base.proofs.Standard.{◌≡◌, ◌+◌, ◌<◌, ◌≤◌, ◌++◌, w64, to_z, of_z, ℕ, List, [], ◌∷◌, length, get_or, inl, inr, sym, ap, subst, ◌∙◌, arith, ℤ, pos, ◌+ℤ◌, FitsSigned, cases_lt}
 use Rattle.prl_base.proofs.Standard.{to_z-of_z, get_or_append_left, get_or_push, length_push}
 use Rattle.prl_plan.specs.Vocabulary.{preceding, Fits64}
 use Rattle.prl_dates.proofs.TurnSteps.{first_fits, next_sum}
