@@ -5,7 +5,7 @@ use Rattle.prl_plan.specs.Vocabulary.{jobs_in_hyperperiod}
 use Rattle.prl_plan.specs.declared.graphs.TaskGraph.{TaskGraph}
 use Rattle.prl_dates.specs.Vocabulary.{Exit, Lane, link_at, AreExitsPart, IsExit, exit_at, no_exit}
 use Rattle.prl_dates.proofs.FirstTables.{get_first, get_past, get_same, length_same}
-use Rattle.prl_dates.proofs.Lowering.{set_index}
+use Rattle.prl_dates.proofs.Pushes.{set_index}
 
 same_lane : (lanes : List Lane) (l : ℕ) (a b : Lane) → slice_get lanes l ≡ Some a → slice_get lanes l ≡ Some b → a ≡ b
 same_lane lanes l a b x y = cc

@@ -22,3 +22,4 @@ mod TurnSteps
 mod ExitLists
 mod Rises
 mod Repeats
+mod Pushes

@@ -1,28 +1,16 @@
 -- Deadlines lowered along a link.
-use Rattle.prl_base.proofs.Standard.{◌≡◌, ◌≢◌, ◌+◌, ◌-◌, ◌<◌, ◌≤◌, ◌^◌, ◌⊎◌, ℕ, Bool, true, false, List, length, get_or, get_or-set_same, Some, inl, inr, refl, sym, ◌∙◌, ap, subst, arith, ℤ, pos}
+use Rattle.prl_base.proofs.Standard.{◌≡◌, ◌+◌, ◌-◌, ◌<◌, ◌≤◌, ◌⊎◌, ℕ, List, length, Some, inl, inr, refl, sym, ◌∙◌, ap, subst, arith, ℤ, pos}
 use Rattle.prl_base.proofs.Standard.{◌≤ℤ◌, sum, slice_get, slice_index, cases_lt, ints, sum_by-set}
-use Rattle.std.proofs.Common.{get_or-set_other}
+use Rattle.prl_base.proofs.Standard.{◌++◌, [], ◌∷◌, same_Some, slice_get_within}
 use Rattle.std.proofs.Math.ListN.{set}
 use Rattle.std.proofs.lemmas.List.{length-set}
-use Rattle.prl_plan.specs.Vocabulary.{AreDeadlines, Family, place_in, IsWellFormed, task_at, release_of}
+use Rattle.prl_plan.specs.Vocabulary.{jobs_in_hyperperiod, AreDeadlines, Family, place_in, IsWellFormed, task_at, release_of}
 use Rattle.prl_plan.specs.declared.graphs.TaskGraph.{TaskGraph}
-use Rattle.prl_plan.proofs.RoundPeriods.{task_is}
-use Rattle.prl_dates.specs.Vocabulary.{Lane, Link, jobs_of, no_link, link_at, IsLink, IsLane, jobs_before, index_of, dates_of, Leaves, AreUpperDates, IsLowering, ArePassed}
+use Rattle.prl_dates.specs.Vocabulary.{Lane, jobs_of, link_at, IsLink, IsLane, AreEachLane, jobs_before, index_of, dates_of, Leaves, LeaveAll, AreUpperDates, AreLowered, HoldAll, HoldAt, HoldsAt, IsListed}
 use Rattle.prl_dates.proofs.Links.{link_from, link_precedes}
 use Rattle.prl_dates.proofs.RoundSteps.{lane_more, links_from, links_to}
 use Rattle.prl_dates.proofs.Indices.{one_index, place_below, some_jobs}
-
--- an index that is written, or another
-pub set_index : (table : List ℕ) (at q value : ℕ) → at < length table → ((q ≡ at) × (slice_index (set table at value) q ≡ value)) ⊎ ((q ≢ at) × (slice_index (set table at value) q ≡ slice_index table q))
-set_index table at q value inside =
-    elim (cases_lt q at) [
-      | inl less ↦ (let ne : q ≢ at = omega (arith, less) in inr (ne, get_or-set_other table at q value 0 ne))
-      | inr above ↦
-          elim (cases_lt at q) [
-            | inl more ↦ (let ne : q ≢ at = omega (arith, more) in inr (ne, get_or-set_other table at q value 0 ne))
-            | inr under ↦ (let e : q ≡ at = omega (arith, above, under) in inl (e, ap (λ (x : ℕ). get_or (set table at value) x 0) e ∙ get_or-set_same table at value 0 inside))
-          ]
-    ]
+use Rattle.prl_dates.proofs.Pushes.{set_index, push_new, listed_more}
 
 module _ (graph : TaskGraph) (good : IsWellFormed graph) (floor table : List ℕ) (are : AreUpperDates graph floor table)
     (lane : Lane) (is : IsLane graph lane) (k : ℕ) (inside : k < length lane.links)
@@ -104,115 +92,138 @@ module _ (graph : TaskGraph) (good : IsWellFormed graph) (floor table : List ℕ
     pub sum_less : sum (set table (link_at lane k).from value) < sum table
     sum_less = omega (arith, sum_by-set (λ (x : ℕ). x) table (link_at lane k).from value 0 from_inside, less)
 
--- one link more, of the lane's links under another name
-module _ {graph : TaskGraph} (good : IsWellFormed graph) {floor : List ℕ} {lane : Lane} (is : IsLane graph lane)
-    (floors : (k : ℕ) → k < length lane.links → Leaves lane (task_at graph lane.to.0).wcet floor floor k)
-    {k : ℕ} {old table : List ℕ} {before : Bool} (so_far : IsLowering graph floor lane k old table before) {links : List Link} (same : links ≡ lane.links)
-    (inside : k < length links) {wcet : ℕ} (own : wcet ≡ (task_at graph lane.to.0).wcet) where
-  at : k < length lane.links
-  at = subst (λ (xs : List Link). k < length xs) same inside
+    -- links that left time still do, but for those to the job that fell
+    module _ (before after : List ℕ) (pushed : after ≡ before ++ (link_at lane k).from ∷ []) where
+      here_listed : IsListed after (link_at lane k).from
+      here_listed = (length before, subst (λ (xs : List ℕ). slice_get xs (length before) ≡ Some (link_at lane k).from) (sym pushed) (push_new before (link_at lane k).from))
 
-  link_is : get_or links k no_link ≡ link_at lane k
-  link_is = ap (λ (xs : List Link). get_or xs k no_link) same
+      pub fell_keeps : (other : Lane) (j : ℕ) → Leaves other (task_at graph other.to.0).wcet table table j → HoldsAt graph other (set table (link_at lane k).from value) after j
+      fell_keeps other j leaves =
+          elim (set_index table (link_at lane k).from (other.first + j) value from_inside) [
+            | inl here ↦ inl (subst (λ (q : ℕ). IsListed after q) (sym here.0) here_listed)
+            | inr there ↦
+                elim (set_index table (link_at lane k).from (link_at other j).from value from_inside) [
+                  | inl at ↦ inr (omega (arith, at.1, there.1, leaves, less, ap (λ (q : ℕ). slice_index table q) at.0))
+                  | inr apart ↦ inr (omega (arith, apart.1, there.1, leaves))
+                ]
+          ]
 
-  pub limit_is : get_or table (lane.first + k) 0 + (get_or links k no_link).gap - wcet ≡ slice_index table (lane.first + k) + (link_at lane k).gap - (task_at graph lane.to.0).wcet
-  limit_is = ap (λ (x : Link). get_or table (lane.first + k) 0 + x.gap - wcet) link_is ∙ ap (λ (x : ℕ). get_or table (lane.first + k) 0 + (link_at lane k).gap - x) own
+      pub fell_lowered : AreLowered graph table (set table (link_at lane k).from value) before after
+      fell_lowered = record {
+        keeps = fell_keeps;
+        grows = λ q at. subst (λ (xs : List ℕ). IsListed xs q) (sym pushed) (listed_more before (link_at lane k).from q at);
+        less = inr sum_less;
+      }
 
-  pub index_to : lane.first + k < length table
-  index_to = to_inside graph good floor table so_far.dates lane is k at (floors k at)
+      pub fell_holds : HoldsAt graph lane (set table (link_at lane k).from value) after k
+      fell_holds =
+          elim (set_index table (link_at lane k).from (lane.first + k) value from_inside) [
+            | inl here ↦ inl (subst (λ (q : ℕ). IsListed after q) (sym here.0) here_listed)
+            | inr there ↦
+                elim (set_index table (link_at lane k).from (link_at lane k).from value from_inside) [
+                  | inl at ↦ inr (omega (arith, at.1, there.1, asked, room))
+                  | inr apart ↦ absurd (apart.0 refl)
+                ]
+          ]
 
-  pub index_from : (get_or links k no_link).from < length table
-  index_from = subst (λ (x : Link). x.from < length table) (sym link_is) (from_inside graph good floor table so_far.dates lane is k at (floors k at))
+module _ (graph : TaskGraph) where
+  pub lowered_none : (table list : List ℕ) → AreLowered graph table table list list
+  lowered_none table list = record { keeps = λ lane k leaves. inr leaves; grows = λ q at. at; less = inl (refl, refl) }
 
-  pub few_to : lane.first + k < 20000
-  few_to = omega (arith, index_to, so_far.dates.long, good.few_jobs)
+  -- what holds still does
+  pub holds_still : (lane : Lane) (k : ℕ) (old new before after : List ℕ) → AreLowered graph old new before after → HoldsAt graph lane old before k → HoldsAt graph lane new after k
+  holds_still lane k old new before after lower (inl at) = inl (lower.grows (lane.first + k) at)
+  holds_still lane k old new before after lower (inr leaves) = lower.keeps lane k leaves
 
-  pub few_from : (get_or links k no_link).from < 20000
-  few_from = omega (arith, index_from, so_far.dates.long, good.few_jobs)
-
-  pub sum_fits : get_or table (lane.first + k) 0 + (get_or links k no_link).gap < 2 ^ 64
-  sum_fits =
-      (let t = task_is graph good lane.to.0 is.to in
-      omega (arith, to_small graph good floor table so_far.dates lane is k at (floors k at), t.due.1, t.period.1, is.small k, ap (λ (x : Link). x.gap) link_is))
-
-  pub room_is : wcet ≤ get_or table (lane.first + k) 0 + (get_or links k no_link).gap
-  room_is = omega (arith, room graph good floor table so_far.dates lane is k at (floors k at), ap (λ (x : Link). x.gap) link_is, own)
-
-  pub lowered_more : get_or table (lane.first + k) 0 + (get_or links k no_link).gap - wcet < get_or table (get_or links k no_link).from 0 →
-      IsLowering graph floor lane (k + 1) old
-      (set table (get_or links k no_link).from (get_or table (lane.first + k) 0 + (get_or links k no_link).gap - wcet)) true
-  lowered_more less =
-      let value : ℕ = get_or table (lane.first + k) 0 + (get_or links k no_link).gap - wcet in
-      let from : (get_or links k no_link).from ≡ (link_at lane k).from = ap (λ (x : Link). x.from) link_is in
-      let less' : get_or table (lane.first + k) 0 + (get_or links k no_link).gap - wcet < slice_index table (link_at lane k).from =
-      subst (λ (x : ℕ). get_or table (lane.first + k) 0 + (get_or links k no_link).gap - wcet < get_or table x 0) from less in
-      let dates = lowered graph good floor table so_far.dates lane is k at (floors k at) value limit_is less' in
-      let here : IsLowering graph floor lane (k + 1) old (set table (link_at lane k).from value) true = record {
-        dates = dates;
-        less = λ yes. fallen before so_far (sum_less graph good floor table so_far.dates lane is k at (floors k at) value limit_is less');
-        same = λ no. absurd (let e : ◌≡◌ {A = Bool} true false = no in cc);
-        asks = λ no. absurd (let e : ◌≡◌ {A = Bool} true false = no in cc);
-      } in
-      subst (λ (x : ℕ). IsLowering graph floor lane (k + 1) old (set table x value) true) (sym from) here
-    where
-      fallen : (b : Bool) → IsLowering graph floor lane k old table b → {n : ℕ} → n < sum table → n < sum old
-      fallen true h less = (let l = h.less refl in omega (arith, l, less))
-      fallen false h less = (let e = ap (λ (xs : List ℕ). sum xs) (h.same refl) in omega (arith, e, less))
-
-  pub kept_more : get_or table (get_or links k no_link).from 0 ≤ get_or table (lane.first + k) 0 + (get_or links k no_link).gap - wcet →
-      IsLowering graph floor lane (k + 1) old table before
-  kept_more low = record {
-    dates = so_far.dates;
-    less = so_far.less;
-    same = so_far.same;
-    asks = λ no j below.
-        elim (cases_lt j k) [
-          | inl less ↦ so_far.asks no j less
-          | inr above ↦
-              (let e : k ≡ j = omega (arith, above, below) in
-              let here : Leaves lane (task_at graph lane.to.0).wcet table table k =
-              (omega (arith, room_is, ap (λ (x : Link). x.gap) link_is, ap (λ (x : Link). get_or table x.from 0) link_is, low, own)) in
-              subst (λ (x : ℕ). Leaves lane (task_at graph lane.to.0).wcet table table x) e here)
-        ];
-  }
-
-  pub lowered_to : (after : Bool) (dates : List ℕ) →
-      dates ≡ set table (get_or links k no_link).from (get_or table (lane.first + k) 0 + (get_or links k no_link).gap - wcet) → after ≡ true →
-      get_or table (lane.first + k) 0 + (get_or links k no_link).gap - wcet < get_or table (get_or links k no_link).from 0 →
-      IsLowering graph floor lane (k + 1) old dates after
-  lowered_to after dates is_set is_true less =
-      subst (λ (xs : List ℕ). IsLowering graph floor lane (k + 1) old xs after) (sym is_set)
-      (subst (λ (b : Bool). IsLowering graph floor lane (k + 1) old
-      (set table (get_or links k no_link).from (get_or table (lane.first + k) 0 + (get_or links k no_link).gap - wcet)) b) (sym is_true) (lowered_more less))
-
-  pub kept_to : (after : Bool) (dates : List ℕ) → dates ≡ table → after ≡ before →
-      get_or table (get_or links k no_link).from 0 ≤ get_or table (lane.first + k) 0 + (get_or links k no_link).gap - wcet →
-      IsLowering graph floor lane (k + 1) old dates after
-  kept_to after dates same_dates same_flag low =
-      subst (λ (xs : List ℕ). IsLowering graph floor lane (k + 1) old xs after) (sym same_dates)
-      (subst (λ (b : Bool). IsLowering graph floor lane (k + 1) old table b) (sym same_flag) (kept_more low))
-
--- one lane more
-module _ (graph : TaskGraph) (floor : List ℕ) (lanes : List Lane) (l : ℕ) (lane : Lane) (stands : slice_get lanes l ≡ Some lane) (old table later : List ℕ) (before : Bool)
-    (so_far : ArePassed graph floor lanes l old table before) (dates : AreUpperDates graph floor later) where
-  pub passed_lowered : sum later < sum table → ArePassed graph floor lanes (l + 1) old later true
-  passed_lowered less = record {
-    dates = dates;
-    less = λ yes. fallen before so_far;
-    same = λ no. absurd (let e : ◌≡◌ {A = Bool} true false = no in cc);
-    asks = λ no. absurd (let e : ◌≡◌ {A = Bool} true false = no in cc);
+  pub lowered_both : (old mid new first second third : List ℕ) → AreLowered graph old mid first second → AreLowered graph mid new second third → AreLowered graph old new first third
+  lowered_both old mid new first second third a b = record {
+    keeps = λ lane k leaves. holds_still lane k mid new second third b (a.keeps lane k leaves);
+    grows = λ q at. b.grows q (a.grows q at);
+    less = both a.less b.less;
   }
     where
-      fallen : (b : Bool) → ArePassed graph floor lanes l old table b → sum later < sum old
-      fallen true h = (let d = h.less refl in omega (arith, d, less))
-      fallen false h = (let e = ap (λ (xs : List ℕ). sum xs) (h.same refl) in omega (arith, e, less))
+      both : ((mid ≡ old) × (second ≡ first)) ⊎ (sum mid < sum old) → ((new ≡ mid) × (third ≡ second)) ⊎ (sum new < sum mid) → ((new ≡ old) × (third ≡ first)) ⊎ (sum new < sum old)
+      both (inl x) (inl y) = inl (y.0 ∙ x.0, y.1 ∙ x.1)
+      both (inl x) (inr y) = inr (let e = ap (λ (xs : List ℕ). sum xs) x.0 in omega (arith, e, y))
+      both (inr x) (inl y) = inr (let e = ap (λ (xs : List ℕ). sum xs) y.0 in omega (arith, e, x))
+      both (inr x) (inr y) = inr (omega (arith, x, y))
 
-  pub passed_kept : later ≡ table → ((k : ℕ) → k < length lane.links → Leaves lane (task_at graph lane.to.0).wcet later later k) →
-      ArePassed graph floor lanes (l + 1) old later before
-  passed_kept same leaves = record {
-    dates = dates;
-    less = λ yes. (let d = so_far.less yes in let e = ap (λ (xs : List ℕ). sum xs) same in omega (arith, d, e));
-    same = λ no. same ∙ so_far.same no;
-    asks = λ no. lane_more (λ (x : Lane). (k : ℕ) → k < length x.links → Leaves x (task_at graph x.to.0).wcet later later k) lanes l lane stands
-        (λ j other less at. subst (λ (xs : List ℕ). (k : ℕ) → k < length other.links → Leaves other (task_at graph other.to.0).wcet xs xs k) (sym same) (so_far.asks no j other less at)) leaves;
-  }
+  module _ (lanes : List Lane) where
+    -- one lane more
+    pub hold_more : (l : ℕ) (lane : Lane) → slice_get lanes l ≡ Some lane → (job : ℕ) (old new before after : List ℕ) → HoldAt graph lanes l job old before → AreLowered graph old new before after →
+        ((k : ℕ) → k < length lane.links → lane.first + k ≡ job → HoldsAt graph lane new after k) → HoldAt graph lanes (l + 1) job new after
+    hold_more l lane stands job old new before after hold lower here =
+        lane_more (λ (x : Lane). (k : ℕ) → k < length x.links → x.first + k ≡ job → HoldsAt graph x new after k) lanes l lane stands
+        (λ j other less at k inside to. holds_still other k old new before after lower (hold j other less at k inside to)) here
+
+    -- what holds of the links to a job, over the first lanes
+    pub record LoweredSoFar (floor : List ℕ) (l job : ℕ) (old before table fell : List ℕ) : Type 0 where
+      pub dates : AreUpperDates graph floor table
+      pub lowered : AreLowered graph old table before fell
+      pub hold : HoldAt graph lanes l job table fell
+
+    pub so_far_more : (floor : List ℕ) (l job : ℕ) (old before table fell : List ℕ) → LoweredSoFar floor l job old before table fell → (lane : Lane) → slice_get lanes l ≡ Some lane →
+        (later after : List ℕ) → AreUpperDates graph floor later → AreLowered graph table later fell after →
+        ((k : ℕ) → k < length lane.links → lane.first + k ≡ job → HoldsAt graph lane later after k) → LoweredSoFar floor (l + 1) job old before later after
+    so_far_more floor l job old before table fell so_far lane stands later after dates lower here = record {
+      dates = dates;
+      lowered = lowered_both old table later before fell after so_far.lowered lower;
+      hold = hold_more l lane stands job table later fell after so_far.hold lower here;
+    }
+
+    -- links to jobs of the list from its place `count` on are open
+    pub record HoldFrom (list : List ℕ) (count : ℕ) (table fell : List ℕ) : Type 0 where
+      pub each : (l : ℕ) (lane : Lane) → slice_get lanes l ≡ Some lane → (k : ℕ) → k < length lane.links →
+          ((x : ℕ) × (count ≤ x) × (slice_get list x ≡ Some (lane.first + k))) ⊎ HoldsAt graph lane table fell k
+
+    pub hold_begins : (list table : List ℕ) → HoldAll graph lanes table list → HoldFrom list 0 table []
+    hold_begins list table hold = record {
+      each = λ l lane stands k inside.
+          elim (hold l lane stands k inside) [
+            | inl at ↦ inl (at.0, omega arith, at.1)
+            | inr leaves ↦ inr (inr leaves)
+          ];
+    }
+
+    pub hold_next : (list : List ℕ) (count job : ℕ) → slice_get list count ≡ Some job → (old new before after : List ℕ) → HoldFrom list count old before → AreLowered graph old new before after →
+        HoldAt graph lanes (length lanes) job new after → HoldFrom list (count + 1) new after
+    hold_next list count job at old new before after hold lower here = record {
+      each = λ l lane stands k inside.
+          elim (hold.each l lane stands k inside) [
+            | inr holds ↦ inr (holds_still lane k old new before after lower holds)
+            | inl listed ↦
+                elim (cases_lt count listed.0) [
+                  | inl less ↦ inl (listed.0, omega (arith, less), listed.2)
+                  | inr above ↦
+                      (let e : listed.0 ≡ count = omega (arith, above, listed.1) in
+                      let same : lane.first + k ≡ job = same_Some _ _ (sym (subst (λ (x : ℕ). slice_get list x ≡ Some (lane.first + k)) e listed.2) ∙ at) in
+                      inr (here l lane (slice_get_within lanes l lane stands) stands k inside same))
+                ]
+          ];
+    }
+
+    pub hold_ends : (list : List ℕ) (count : ℕ) (table fell : List ℕ) → HoldFrom list count table fell → length list ≤ count → HoldAll graph lanes table fell
+    hold_ends list count table fell hold all l lane stands k inside =
+        elim (hold.each l lane stands k inside) [
+          | inr holds ↦ holds
+          | inl listed ↦ absurd (let b = slice_get_within list listed.0 (lane.first + k) listed.2 in omega (arith, b, listed.1, all))
+        ]
+
+    -- where no job is listed all links leave time
+    pub hold_none : (table fell : List ℕ) → HoldAll graph lanes table fell → length fell ≡ 0 → LeaveAll graph lanes (length lanes) table
+    hold_none table fell hold none l lane less stands k inside =
+        elim (hold l lane stands k inside) [
+          | inr leaves ↦ leaves
+          | inl at ↦ absurd (let b = slice_get_within fell at.0 (lane.first + k) at.1 in omega (arith, b, none))
+        ]
+
+    pub hold_all : IsWellFormed graph → AreEachLane graph lanes → (table list : List ℕ) → ((q : ℕ) → q < jobs_in_hyperperiod graph → IsListed list q) → HoldAll graph lanes table list
+    hold_all good are table list all l lane stands k inside = inl (all (lane.first + k) (omega (arith, links_to graph good lane (are l lane stands), inside)))
+
+-- where some job fell the sum is less
+pub lowered_less : (graph : TaskGraph) (old new after : List ℕ) → AreLowered graph old new [] after → 1 ≤ length after → sum new < sum old
+lowered_less graph old new after lower some =
+    elim lower.less [
+      | inl same ↦ absurd (let e = ap (λ (xs : List ℕ). length xs) same.1 in omega (arith, e, some))
+      | inr less ↦ less
+    ]

@@ -1,40 +1,15 @@
 -- Links that ask one by one, the indices that rise, and what is settled then.
 use Rattle.prl_base.proofs.Standard.{◌≡◌, ◌≢◌, ◌+◌, ◌-◌, ◌<◌, ◌≤◌, ◌++◌, ◌⊎◌, ℕ, List, [], ◌∷◌, length, set, get_or, Some, inl, inr, refl, sym, ◌∙◌, ap, subst, arith, slice_get, slice_index, cases_lt, length-set}
-use Rattle.prl_base.proofs.Standard.{get_or_push, length_push, slice_get_within, slice_get-get_or, same_Some, ext_get_or, get_or_from_slice_get}
+use Rattle.prl_base.proofs.Standard.{slice_get_within, same_Some, ext_get_or, get_or_from_slice_get}
 use Rattle.prl_plan.specs.Vocabulary.{IsWellFormed, task_at, jobs_in_hyperperiod}
 use Rattle.prl_plan.specs.declared.graphs.TaskGraph.{TaskGraph}
 use Rattle.prl_dates.specs.Vocabulary.{Exit, Lane, Link, IsLane, IsLinkInside, no_link, link_at, AreEachLane, AreExitsPart, IsExit, exit_at, Leaves, Meets, AreRound, AreUnderWay, AreSettled, ListsRisen, IsListed, AreBelow}
-use Rattle.prl_dates.proofs.FirstTables.{get_first, get_past}
-use Rattle.prl_dates.proofs.Lowering.{set_index}
+use Rattle.prl_dates.proofs.FirstTables.{get_past}
+use Rattle.prl_dates.proofs.Pushes.{set_index, push_get, push_new, listed_more}
 use Rattle.prl_dates.proofs.RoundSteps.{links_from, links_to}
-
--- items of a list with one more
-pub push_get : {A : Type 0} (xs : List A) (x y : A) (k : ℕ) → slice_get (xs ++ x ∷ []) k ≡ Some y → (slice_get xs k ≡ Some y) ⊎ ((k ≡ length xs) × (x ≡ y))
-push_get {A} xs x y k at =
-    let below : k < length xs + 1 = (let b = slice_get_within (xs ++ x ∷ []) k y at in omega (arith, b, length_push xs x)) in
-    elim (cases_lt k (length xs)) [
-      | inl less ↦ inl (slice_get-get_or xs k y less ∙ ap (λ (z : A). Some z) (sym (get_first xs (x ∷ []) k y less) ∙ get_or_from_slice_get (xs ++ x ∷ []) k y y at))
-      | inr above ↦
-          (let e : k ≡ length xs = omega (arith, above, below) in
-          inr (e, sym (get_or_push xs x y k (sym e)) ∙ get_or_from_slice_get (xs ++ x ∷ []) k y y at))
-    ]
-
-pub push_old : {A : Type 0} (xs : List A) (x y : A) (k : ℕ) → slice_get xs k ≡ Some y → slice_get (xs ++ x ∷ []) k ≡ Some y
-push_old {A} xs x y k at =
-    let below : k < length xs = slice_get_within xs k y at in
-    let more : k < length (xs ++ x ∷ []) = omega (arith, below, length_push xs x) in
-    slice_get-get_or (xs ++ x ∷ []) k y more ∙ ap (λ (z : A). Some z) (get_first xs (x ∷ []) k y below ∙ get_or_from_slice_get xs k y y at)
-
-pub push_new : {A : Type 0} (xs : List A) (x : A) → slice_get (xs ++ x ∷ []) (length xs) ≡ Some x
-push_new {A} xs x =
-    let more : length xs < length (xs ++ x ∷ []) = omega (arith, length_push xs x) in
-    slice_get-get_or (xs ++ x ∷ []) (length xs) x more ∙ ap (λ (z : A). Some z) (get_or_push xs x x (length xs) refl)
 
 nothing : (x q : ℕ) → slice_get [] x ≡ Some q → ⊥
 nothing x q at = (let b = slice_get_within [] x q at in omega (arith, b))
-
-pub listed_more : (list : List ℕ) (x q : ℕ) → IsListed list q → IsListed (list ++ x ∷ []) q
-listed_more list x q at = (at.0, push_old list x q at.0 at.1)
 
 pub below_push : (list : List ℕ) (x bound : ℕ) → AreBelow list bound → x < bound → AreBelow (list ++ x ∷ []) bound
 below_push list x bound below inside k q at =

@@ -17,7 +17,8 @@ use Rattle.prl_dates.proofs.BestRounds.{next_bests}
 use Rattle.prl_dates.proofs.DateTables.{first_dates, floors_leave, dates_made, room_made, short_made, cut_made}
 use Rattle.prl_dates.proofs.FirstTables.{first_more, first_none}
 use Rattle.prl_dates.proofs.Indices.{before_all, some_jobs}
-use Rattle.prl_dates.proofs.Lowering.{set_index, room, lowered, sum_less}
+use Rattle.prl_dates.proofs.Lowering.{room, lowered, sum_less}
+use Rattle.prl_dates.proofs.Pushes.{set_index}
 use Rattle.prl_dates.proofs.RoundSteps.{round_more, round_begins, links_to}
 use Rattle.prl_dates.proofs.Settles.{first_bests, late_fault, within_dues, loop_fault, round_still}
 use Rattle.prl_dates.proofs.SomeLanes.{lanes_exist}

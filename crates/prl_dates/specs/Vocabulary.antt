@@ -14,10 +14,10 @@ pub use Rattle.prl_dates.specs.code.Runs.{AreFitting, Rises}
 pub use Rattle.prl_dates.specs.code.Spreads.{AreEndsAcross, AreRaisedAcross, AreSpreadEnds}
 pub use Rattle.prl_dates.specs.code.Spreads.{HasCeiling, IsBelow, IsLeastAbove, IsRising, IsTableOf}
 pub use Rattle.prl_dates.specs.code.Spreads.{IsTablePart, KeepsLanes, bound_of}
-pub use Rattle.prl_dates.specs.code.Tables.{AreBelow, AreFinal, ArePassed, AreRaised, AreRound}
+pub use Rattle.prl_dates.specs.code.Tables.{AreBelow, AreFinal, AreRaised, AreRound}
 pub use Rattle.prl_dates.specs.code.Tables.{AreRounds, AreSettled, AreUnderWay, AreUpperDates}
 pub use Rattle.prl_dates.specs.code.Tables.{AreWithin, IsFirstAbove, IsListed, ListsRisen}
-pub use Rattle.prl_dates.specs.code.Tables.{IsFirstTable, IsLowering, IsNowhereAbove, LeaveAll}
+pub use Rattle.prl_dates.specs.code.Tables.{AreLowered, HoldAll, HoldAt, HoldsAt, IsFirstTable, IsNowhereAbove, LeaveAll}
 pub use Rattle.prl_dates.specs.code.Tables.{Leaves, Meets, first_of}
 pub use Rattle.prl_dates.specs.code.Turns.{IsTurnUnder, StepsBy}
 pub use Rattle.prl_dates.specs.code.Windows.{AreWindows, AreWindowsOf, window_of}

@@ -30,11 +30,12 @@ pub fn encode(alloc: Global, graph: &TaskGraph) -> Result<Dates, DateFault>
     let mut tails = first_table(alloc, graph, First::Due)?;
     let bests = bests(alloc, graph, lanes.as_slice(), tails.as_slice())?;
     lower_to_end(
+        alloc,
         graph,
         lanes.as_slice(),
         bests.as_slice(),
         tails.as_mut_slice(),
-    );
+    )?;
     let windows = windows(alloc, graph, bests.as_slice(), tails.as_slice())?;
     Ok(Dates::new(windows))
 }

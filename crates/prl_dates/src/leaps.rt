@@ -16,7 +16,7 @@ ghost use Rattle.prl_dates.specs.code.Tables.{AreRound, AreRounds, AreSettled, A
 use crate::exits::{Exits, exits_of};
 use crate::lanes::Lane;
 use crate::numbers::wcet_of;
-use crate::rounds::{MANY, Rises, advance, all_rise};
+use crate::rounds::{Changed, MANY, advance, all_changed};
 use prl_plan::TaskGraph;
 use std::alloc::{AllocError, Global};
 
@@ -203,7 +203,7 @@ fn rounds_over(
     graph: &TaskGraph,
     lanes: &[Lane],
     exits: &Exits,
-    rises: &mut Rises,
+    rises: &mut Changed,
     past: &mut Past,
     now: &mut [u64],
     next: &mut [u64],
@@ -261,7 +261,7 @@ pub(crate) fn rounds(
     ensures copy { OnOk result (next.new ≡ now.new) }
 {
     let exits = exits_of(alloc, graph, lanes)?;
-    let mut rises = all_rise(alloc, now.len())?;
+    let mut rises = all_changed(alloc, now.len())?;
     let mut past = Past {
         table: now.to_vec(alloc)?,
         rounds: 0,

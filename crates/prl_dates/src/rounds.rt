@@ -16,15 +16,15 @@ use std::mem;
 /// A round in which one job in so many rises goes over whole lanes, and not job by job.
 pub(crate) const MANY: usize = 16;
 
-/// The indices of the jobs that rose in the last round, and room for those of the next one.
+/// The indices of the jobs whose dates the last round changed, and room for those of the next one.
 #[derive(Drop)]
-pub(crate) struct Rises {
+pub(crate) struct Changed {
     pub last: Vec<usize>,
     pub next: Vec<usize>,
 }
 
-/// All jobs as risen.
-pub(crate) fn all_rise(alloc: Global, jobs: usize) -> Result<Rises, AllocError>
+/// All jobs as changed.
+pub(crate) fn all_changed(alloc: Global, jobs: usize) -> Result<Changed, AllocError>
     ensures all { IfOk result (λ rises. (q : ℕ) → q < jobs → IsListed rises.last.items q) }
     ensures below { IfOk result (λ rises. AreBelow rises.last.items jobs) }
 {
@@ -32,7 +32,7 @@ pub(crate) fn all_rise(alloc: Global, jobs: usize) -> Result<Rises, AllocError>
     for job in 0..jobs {
         last.push(job)?;
     }
-    Ok(Rises {
+    Ok(Changed {
         last,
         next: Vec::new(alloc),
     })
@@ -129,7 +129,7 @@ pub(crate) fn advance(
     graph: &TaskGraph,
     lanes: &[Lane],
     exits: &Exits,
-    rises: &mut Rises,
+    rises: &mut Changed,
     now: &mut [u64],
     next: &mut [u64],
 ) -> Result<bool, AllocError>

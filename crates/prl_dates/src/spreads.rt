@@ -13,7 +13,7 @@ ghost use Rattle.prl_dates.specs.code.Tables.{AreSettled, AreWithin};
 use crate::exits::{Exits, exits_of};
 use crate::lanes::{Lane, lanes};
 use crate::numbers::{jobs_before, jobs_of, wcet_of};
-use crate::rounds::{Rises, advance, all_rise, raise};
+use crate::rounds::{Changed, advance, all_changed, raise};
 use crate::windows::windows;
 use prl_base::TaskNo;
 use prl_plan::{Dates, Plan, TaskGraph, plan_is_one};
@@ -119,7 +119,7 @@ fn raise_to_end(
     graph: &TaskGraph,
     lanes: &[Lane],
     exits: &Exits,
-    rises: &mut Rises,
+    rises: &mut Changed,
     now: &mut [u64],
     next: &mut [u64],
 ) -> Result<(), AllocError>
@@ -153,7 +153,7 @@ fn raise_within(
     ensures { OnOk result (IsLeastAbove graph.now lanes.now ends.old ends.new) }
 {
     let exits = exits_of(alloc, graph, lanes)?;
-    let mut rises = all_rise(alloc, ends.len())?;
+    let mut rises = all_changed(alloc, ends.len())?;
     let mut next = ends.to_vec(alloc)?;
     raise_to_end(graph, lanes, &exits, &mut rises, ends, next.as_mut_slice())
 }

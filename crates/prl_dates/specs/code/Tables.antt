@@ -1,5 +1,5 @@
 -- Tables of a hyperperiod: a round over links, and what keeps deadlines.
-use Rattle.std.specs.Prelude.{◌≡◌, ◌+◌, ◌<◌, ◌≤◌, ◌⊎◌, ℕ, zero, suc, List, length, Bool, true, false, Some, slice_get, sum, slice_index}
+use Rattle.std.specs.Prelude.{◌≡◌, ◌+◌, ◌<◌, ◌≤◌, ◌⊎◌, ℕ, zero, suc, List, length, Some, slice_get, sum, slice_index}
 use Rattle.prl_plan.specs.declared.graphs.TaskGraph.{TaskGraph}
 use Rattle.prl_plan.specs.Jobs.{task_at}
 use Rattle.prl_dates.specs.declared.lanes.Lane.{Lane}
@@ -116,16 +116,21 @@ pub record AreUpperDates (graph : TaskGraph) (floor table : List ℕ) : Type 0 w
   pub due : (i p : ℕ) → i < length graph.tasks → p < jobs_of graph i → slice_index table (jobs_before graph i + p) ≤ (task_at graph i).due
   pub above : IsAboveDeadlines graph (dates_of graph table)
 
--- the dates after the first `count` links of a lane asked for theirs, and whether one was lowered
-pub record IsLowering (graph : TaskGraph) (floor : List ℕ) (lane : Lane) (count : ℕ) (old table : List ℕ) (lowered : Bool) : Type 0 where
-  pub dates : AreUpperDates graph floor table
-  pub less : lowered ≡ true → sum table < sum old
-  pub same : lowered ≡ false → table ≡ old
-  pub asks : lowered ≡ false → (k : ℕ) → k < count → Leaves lane (task_at graph lane.to.0).wcet table table k
+-- link k leaves time, or the job that it leads to is listed
+abbrev pub HoldsAt : TaskGraph → Lane → List ℕ → List ℕ → ℕ → Type 0
+HoldsAt graph lane table fell k = IsListed fell (lane.first + k) ⊎ Leaves lane (task_at graph lane.to.0).wcet table table k
 
--- the same after the first `count` lanes
-pub record ArePassed (graph : TaskGraph) (floor : List ℕ) (lanes : List Lane) (count : ℕ) (old table : List ℕ) (lowered : Bool) : Type 0 where
-  pub dates : AreUpperDates graph floor table
-  pub less : lowered ≡ true → sum table < sum old
-  pub same : lowered ≡ false → table ≡ old
-  pub asks : lowered ≡ false → LeaveAll graph lanes count table
+-- so do the links of the first `count` lanes to this job
+abbrev pub HoldAt : TaskGraph → List Lane → ℕ → ℕ → List ℕ → List ℕ → Type 0
+HoldAt graph lanes count job table fell = (l : ℕ) (lane : Lane) → l < count → slice_get lanes l ≡ Some lane → (k : ℕ) → k < length lane.links → lane.first + k ≡ job →
+    HoldsAt graph lane table fell k
+
+-- and so do all links
+abbrev pub HoldAll : TaskGraph → List Lane → List ℕ → List ℕ → Type 0
+HoldAll graph lanes table fell = (l : ℕ) (lane : Lane) → slice_get lanes l ≡ Some lane → (k : ℕ) → k < length lane.links → HoldsAt graph lane table fell k
+
+-- lower dates: links that left time still do, but for those to jobs that are listed since
+pub record AreLowered (graph : TaskGraph) (old new before after : List ℕ) : Type 0 where
+  pub keeps : (lane : Lane) (k : ℕ) → Leaves lane (task_at graph lane.to.0).wcet old old k → HoldsAt graph lane new after k
+  pub grows : (q : ℕ) → IsListed before q → IsListed after q
+  pub less : ((new ≡ old) × (after ≡ before)) ⊎ (sum new < sum old)

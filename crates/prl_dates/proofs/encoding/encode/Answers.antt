@@ -35,8 +35,8 @@ returns-clause-dates c =
     let bests = c.in_ok-bests.bests.items in
     let tails = c.lower_to_end.new.dates in
     let d = (goal.at.returns-clause-dates c).After-as_mut_slice in
-    let upper : AreUpperDates graph bests tails = subst (λ (xs : List ℕ). AreUpperDates graph xs tails) c.as_slice-4.ensures.value c.lower_to_end.ensures.dates in
-    let leave : LeaveAll graph lanes (length lanes) tails = subst (λ (xs : List Lane). LeaveAll graph xs (length xs) tails) c.as_slice-3.ensures.value c.lower_to_end.ensures.asks in
+    let upper : AreUpperDates graph bests tails = subst (λ (xs : List ℕ). AreUpperDates graph xs tails) c.as_slice-4.ensures.value c.in_ok-lower_to_end.ensures.dates in
+    let leave : LeaveAll graph lanes (length lanes) tails = subst (λ (xs : List Lane). LeaveAll graph xs (length xs) tails) c.as_slice-3.ensures.value c.in_ok-lower_to_end.ensures.asks in
     let long : length tails ≡ c.in_ok-tails.tails.len =
     (let u = upper.long in let t = c.in_ok-tails.ensures.long in let b = before_all graph in let o = c.in_ok-tails.tails.ok.0 in omega (arith, u, t, b, o)) in
     let same : c.as_slice-6.result.now ≡ tails = c.as_slice-6.ensures.value ∙ with_items_is c.in_ok-tails.tails tails long in

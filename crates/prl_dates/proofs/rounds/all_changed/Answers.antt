@@ -1,6 +1,6 @@
 use Rattle.prl_base.proofs.Standard.{arith}
 use Rattle.prl_dates.proofs.Rises.{first_below}
-use Rattle.prl_dates.proofs.rounds.all_rise.Goals as goal
+use Rattle.prl_dates.proofs.rounds.all_changed.Goals as goal
 
 pub returns-clause-all : goal.returns-clause-all
 returns-clause-all c = λ q below. (q, c.loop-job.invariant.each q (omega (arith, below)))

@@ -1,5 +1,5 @@
 use Rattle.std.proofs.Common.{◌≡◌, ◌<◌, ℕ, length, Some, slice_get}
-use Rattle.prl_dates.proofs.rounds.all_rise.Given as goal
+use Rattle.prl_dates.proofs.rounds.all_changed.Given as goal
 
 abbrev pub invariant-loop-job : goal.invariant-loop-job
 invariant-loop-job l = record {
