@@ -6,7 +6,7 @@ use Rattle.prl_base.specs.declared.places.Span.{Span}
 use Rattle.prl_ast.specs.declared.declarations.Import.{Import}
 use Rattle.prl_ast.specs.Trees.{Tree, tree, Root, const, var, apply, group, Trees, none, more, EquationTree, NodeTree, ProgramTree}
 use Rattle.prl_flow.proofs.Lists.{element_at}
-use Rattle.prl_names.specs.Vocabulary.{is_node, applied_in, applied_root, applied_trees, applied_equations, applied_by, applies, callee_of, index_of, node_names, import_names, node_or, IsNamed}
+use Rattle.prl_names.specs.Vocabulary.{is_node, applied_in, applied_root, applied_trees, applied_equations, applied_by, callee_of, index_of, node_names, import_names, node_or, IsNamed}
 use Rattle.prl_names.specs.Vocabulary.{IsKnown, IsKnownRoot, AreKnown, AreKnownEquations}
 use Rattle.prl_names.specs.declared.lookups.Callee.{Callee}
 use Rattle.prl_names.specs.declared.lookups.Callee.TheVariants as callees

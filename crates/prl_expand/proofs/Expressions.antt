@@ -1,5 +1,5 @@
 -- Expressions, applications, and lists of them.
-use Rattle.prl_base.proofs.Standard.{◌≡◌, ◌<◌, ◌≤◌, ◌+◌, ◌-◌, ℕ, zero, suc, List, [], ◌∷◌, ◌++◌, map, length, drop, slice_get, get_or, Option, Some, None, refl, sym, ap, ◌∙◌, subst, arith, reverse}
+use Rattle.prl_base.proofs.Standard.{◌≡◌, ◌<◌, ◌+◌, ◌-◌, ℕ, zero, suc, List, [], ◌∷◌, ◌++◌, map, length, drop, slice_get, get_or, Option, Some, None, refl, sym, ap, ◌∙◌, subst, arith, reverse}
 use Rattle.prl_base.proofs.Standard.{Result, Ok, Err, OnOk, IfOk, IfErr, option_map, slice_get_within, range_with_len, append-nil, reverse-reverse, drop_more, length-range_with_len}
 use Rattle.std.specs.Result.{IsErrAnd}
 use Rattle.std.proofs.lemmas.List.{length-append}
@@ -20,23 +20,21 @@ use Rattle.prl_names.specs.declared.lookups.Callee.{Callee}
 use Rattle.prl_names.specs.declared.lookups.Callee.TheVariants as callees
 use Rattle.prl_terms.specs.declared.terms.Term.{Term}
 use Rattle.prl_types.specs.Flows as types
-use Rattle.prl_causal.specs.Vocabulary.{Entered, next, Part, Core, Parts, all_given, last_of, outputs_of, root_given, node_at, node_of, at_index, at_variable, one, node_or}
+use Rattle.prl_causal.specs.Vocabulary.{Entered, Part, Core, Parts, all_given, outputs_of, root_given, node_at, node_of, at_index, at_variable, one, node_or}
 use Rattle.prl_causal.specs.Annotations as notes
 use Rattle.prl_expand.specs.Flats as flats
-use Rattle.prl_expand.specs.Vocabulary.{Numbered, Types, arguments, copy_of, flow_no, import_at, ports_of, operator_flows, output_flows, resolved, ExpandFault, Next, Made, Adds, IsPast, a_call}
-use Rattle.prl_expand.specs.Vocabulary.{a_core, a_node, a_part, all_parts, all_resolved, called_apps, called_flows, called_given, first_type, operated_flows, types_of, called, entered_from, past}
-use Rattle.prl_expand.specs.Vocabulary.{past_core, past_entered, past_part, past_parts, arg_of, flow_of, copied, def_of, have_types}
-use Rattle.prl_expand.proofs.FlatRules.{arguments_are}
+use Rattle.prl_expand.specs.Vocabulary.{Numbered, Types, arguments, copy_of, flow_no, import_at, ports_of, output_flows, resolved, Next, a_call}
+use Rattle.prl_expand.specs.Vocabulary.{a_core, a_node, a_part, all_parts, all_resolved, called_apps, called_flows, called_given, first_type, types_of, called, entered_from, past}
+use Rattle.prl_expand.specs.Vocabulary.{past_core, past_entered, past_part, past_parts, flow_of, copied, def_of, have_types}
 use Rattle.prl_expand.specs.declared.terms.Term as given_term
 use Rattle.prl_terms.specs.declared.terms.Term.TheVariants as terms
 use Rattle.prl_expand.proofs.Sound.{param_known}
-use Rattle.prl_expand.proofs.Adding.{adds_as, adds_then, past_more}
 use Rattle.prl_expand.proofs.Remaining.{past_both}
 
 abbrev pub next_of : ℕ → ℕ → ℕ → Next
 next_of f a n = record { flow = f; app = a; node = n }
 
-first_resolved : (tys : Types) (ts : List Term) → first_type (all_resolved tys ts) ≡ resolved tys (types.operand ts)
+pub first_resolved : (tys : Types) (ts : List Term) → first_type (all_resolved tys ts) ≡ resolved tys (types.operand ts)
 first_resolved tys [] = refl
 first_resolved tys (t ∷ ts) = refl
 
@@ -66,33 +64,6 @@ module _ (p : ProgramTree) (tys : Types) (levels k : ℕ) (env : List ℕ) (pre 
   expression_next =
       ap (λ f. record { flow = f; app = s.app + length (notes.core_imports core); node = s.node + length (notes.core_nodes core) })
       (numbers_past s.flow (length (notes.core_flows core)) (length post) (length pre) (length (notes.part_flows whole)) part_length)
-
-  pub expression_made : (a b d : Made) (of : List given_term.Term) → Adds a b (flats.root_flows_of p tys k (node_at p k) env root at core) (flats.root_apps p (node_at p k) env root at core) (past_core s core)
-      → map flow_of of ≡ root_given (node_at p k) env root core → types_of of ≡ all_resolved tys (types.root_flows p k root)
-      → Adds b d (operated_flows b.next.flow pre post (first_type (types_of of)) (map flow_of of)) [] (record { flow = (b.next.flow + length post) + length pre; app = b.next.app; node = b.next.node })
-      → Adds a d (flats.part_flows p tys k (node_at p k) env (tree pre root post at) whole) (flats.part_apps p (node_at p k) env (tree pre root post at) whole) (past_part s whole)
-  expression_made a b d of one flows_is types_is two =
-      let n : NodeTree = node_at p k in
-      let of' : List ℕ = root_given n env root core in
-      let ty : Ty = resolved tys (types.operand (types.root_flows p k root)) in
-      let type_is : first_type (types_of of) ≡ ty = ap first_type types_is ∙ first_resolved tys (types.root_flows p k root) in
-      let turned = reverse-reverse (range_with_len (above + length post) (length pre)) in
-      let ops : operated_flows b.next.flow pre post (first_type (types_of of)) (map flow_of of) ≡ operated_flows above pre post ty of' =
-      ap (λ f. operated_flows f pre post (first_type (types_of of)) (map flow_of of)) (ap (λ (x : Next). x.flow) one.next_is)
-      ∙ ap (λ y. operated_flows above pre post y (map flow_of of)) type_is ∙ ap (operated_flows above pre post ty) flows_is in
-      let back = ap (λ is. operator_flows ty (reverse pre) is (last_of of' (range_with_len above (length post)))) (sym turned) in
-      adds_as a d
-      (flats.root_flows_of p tys k n env root at core ++ operated_flows b.next.flow pre post (first_type (types_of of)) (map flow_of of)) _
-      (flats.root_apps p n env root at core ++ []) _ _ _
-      (adds_then a b d _ _ _ _ _ _ one two)
-      (ap (λ xs. flats.root_flows_of p tys k n env root at core ++ xs)
-      (ops ∙ ap (λ xs. operator_flows ty post (range_with_len above (length post)) of' ++ xs) back))
-      (append-nil (flats.root_apps p n env root at core))
-      (ap (λ (x : Next). record { flow = (x.flow + length post) + length pre; app = x.app; node = x.node }) one.next_is ∙ expression_next)
-
-  pub operators_past : (m : Made) (e : ExpandFault) → m.next ≡ past_core s core → IsPast ((m.next.flow + length post) + length pre) e → IsPast (s.flow + length (notes.part_flows whole)) e
-  operators_past m e at_is h =
-      past_more ((m.next.flow + length post) + length pre) (s.flow + length (notes.part_flows whole)) e (omega (arith, part_length, ap (λ (x : Next). x.flow) at_is)) h
 
 pub on_ok : {T E : Type 0} (r : Result T E) (P Q : Type 0) → (P → Q) → OnOk r P → OnOk r Q
 on_ok (Ok x) P Q f h = f h
@@ -204,7 +175,7 @@ module _ (p : ProgramTree) (tys : Types) (levels k : ℕ) (env : List ℕ) (name
   abbrev s₁ : Next
   s₁ = past_parts s inner
 
-  flows_root : (o : Option Callee) → callee_of p name ≡ o → mine ++ called_flows p tys o name place gs (a_call p levels o s₁) ≡ flats.root_flows_of p tys k (node_at p k) env (apply name place args) at (called_by o)
+  pub flows_root : (o : Option Callee) → callee_of p name ≡ o → mine ++ called_flows p tys o name place gs (a_call p levels o s₁) ≡ flats.root_flows_of p tys k (node_at p k) env (apply name place args) at (called_by o)
   flows_root None e = ap (λ x. mine ++ output_flows s₁.app 0 place (ports_of (import_at p x)) []) (sym e)
   flows_root (Some (callees.Import j)) e = ap (λ x. mine ++ output_flows s₁.app 0 place (ports_of (import_at p x)) (range_with_len s₁.flow (length (ports_of (slice_get p.imports j))))) (sym e)
   flows_root (Some (callees.Node j)) e =
@@ -213,12 +184,12 @@ module _ (p : ProgramTree) (tys : Types) (levels k : ℕ) (env : List ℕ) (name
   abbrev an_app : ℕ → List ℕ → App
   an_app wcet outs = record { name = name; wcet = wcet; args = us; outs = map flow_no outs; at = place }
 
-  apps_root : (o : Option Callee) → callee_of p name ≡ o → my_apps ++ called_apps p o name place us (a_call p levels o s₁) ≡ flats.root_apps p (node_at p k) env (apply name place args) at (called_by o)
+  pub apps_root : (o : Option Callee) → callee_of p name ≡ o → my_apps ++ called_apps p o name place us (a_call p levels o s₁) ≡ flats.root_apps p (node_at p k) env (apply name place args) at (called_by o)
   apps_root None e = ap (λ x. my_apps ++ an_app (flats.wcet_of (import_at p x)) [] ∷ []) (sym e)
   apps_root (Some (callees.Import j)) e = ap (λ x. my_apps ++ an_app (flats.wcet_of (import_at p x)) (range_with_len s₁.flow (length (ports_of (slice_get p.imports j)))) ∷ []) (sym e)
   apps_root (Some (callees.Node j)) e = ap (λ x. my_apps ++ flats.entered_apps p (node_of x) (entered_from p levels j (next_of s₁.flow s₁.app (s₁.node + 1)))) (sym e)
 
-  numbers_root : (o : Option Callee) → past_core s₁ (a_call p levels o s₁) ≡ past_core s (called_by o)
+  pub numbers_root : (o : Option Callee) → past_core s₁ (a_call p levels o s₁) ≡ past_core s (called_by o)
   numbers_root None =
       past_both s (notes.parts_flows inner) [] (notes.parts_imports inner) (s₁.app ∷ []) (notes.parts_nodes inner) []
       ∙ ap (λ xs. past s (notes.parts_flows inner ++ []) (notes.parts_imports inner ++ s₁.app ∷ []) xs) (append-nil (notes.parts_nodes inner))
@@ -235,36 +206,6 @@ module _ (p : ProgramTree) (tys : Types) (levels k : ℕ) (env : List ℕ) (name
 
   pub apply_given : (t : Next) → t ≡ s₁ → called_given o (a_call p levels o t) ≡ root_given (node_at p k) env (apply name place args) (a_core p levels (apply name place args) s)
   apply_given t e = ap (λ x. called_given o (a_call p levels o x)) e ∙ given_is o
-
-  flow_args : (ts : List given_term.Term) → map flow_of ts ≡ map (λ (a : Arg). a.flow.0) (map arg_of ts)
-  flow_args [] = refl
-  flow_args (t ∷ ts) = ap (λ xs. t.flow ∷ xs) (flow_args ts)
-
-  pub given_numbers : (ts : List given_term.Term) → map arg_of ts ≡ us → map flow_of ts ≡ gs
-  given_numbers ts e = flow_args ts ∙ ap (map (λ (a : Arg). a.flow.0)) e ∙ arguments_are (node_at p k) env args inner
-
-  pub apply_made : (a b d : Made) (ts : List given_term.Term) → Adds a b mine my_apps s₁ → map arg_of ts ≡ us
-      → Adds b d (called_flows p tys o name place (map flow_of ts) (a_call p levels o b.next)) (called_apps p o name place (map arg_of ts) (a_call p levels o b.next)) (past_core b.next (a_call p levels o b.next))
-      → Adds a d (flats.root_flows_of p tys k (node_at p k) env (apply name place args) at (a_core p levels (apply name place args) s))
-      (flats.root_apps p (node_at p k) env (apply name place args) at (a_core p levels (apply name place args) s)) (past_core s (a_core p levels (apply name place args) s))
-  apply_made a b d ts first is second =
-      adds_as a d _ _ _ _ _ _ (adds_then a b d _ _ _ _ _ _ first second)
-      (ap (λ x. mine ++ called_flows p tys o name place (map flow_of ts) (a_call p levels o x)) first.next_is
-      ∙ ap (λ is. mine ++ called_flows p tys o name place is (a_call p levels o s₁)) (given_numbers ts is) ∙ flows_root o refl)
-      (ap (λ x. my_apps ++ called_apps p o name place (map arg_of ts) (a_call p levels o x)) first.next_is
-      ∙ ap (λ xs. my_apps ++ called_apps p o name place xs (a_call p levels o s₁)) is ∙ apps_root o refl)
-      (ap (λ x. past_core x (a_call p levels o x)) first.next_is ∙ numbers_root o)
-
-  pub apply_past : (t : Next) (e : ExpandFault) → t ≡ s₁ → IsPast (t.flow + length (notes.core_flows (a_call p levels o t))) e → IsPast (s.flow + length (notes.core_flows (a_core p levels (apply name place args) s))) e
-  apply_past t e is h = subst (λ n. IsPast n e) (ap (λ (x : Next). x.flow) (ap (λ x. past_core x (a_call p levels o x)) is ∙ numbers_root o)) h
-
-  args_below : (o : Option Callee) → s.flow + length (notes.parts_flows inner) ≤ s.flow + length (notes.core_flows (called_by o))
-  args_below None = omega (arith, length-append (notes.parts_flows inner) [])
-  args_below (Some (callees.Import j)) = omega (arith, length-append (notes.parts_flows inner) (range_with_len s₁.flow (length (ports_of (slice_get p.imports j)))))
-  args_below (Some (callees.Node j)) = let n = length-append (notes.parts_flows inner) (notes.flows_in (entered_from p levels j (next_of s₁.flow s₁.app (s₁.node + 1)))) in omega (arith, n)
-
-  pub args_past : (e : ExpandFault) → IsPast (s.flow + length (notes.parts_flows inner)) e → IsPast (s.flow + length (notes.core_flows (a_core p levels (apply name place args) s))) e
-  args_past e h = past_more (s.flow + length (notes.parts_flows inner)) (s.flow + length (notes.core_flows (called_by o))) e (args_below o) h
 
 pub get_map : {A B : Type 0} (f : A → B) (xs : List A) (i : ℕ) (x : A) → slice_get xs i ≡ Some x → slice_get (map f xs) i ≡ Some (f x)
 get_map f [] i x e = absurd (cc)

@@ -27,3 +27,5 @@ mod Entering
 mod Expanded
 mod Whole
 mod Within
+mod Stepping
+mod Closing

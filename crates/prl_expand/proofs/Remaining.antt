@@ -1,19 +1,16 @@
 -- Lists of expressions and of equations of which some are made.
 use Rattle.std.proofs.Common.{◌≡◌, ◌+◌, ℕ, List, [], ◌∷◌, ◌++◌, map, length, refl, sym, ap, ◌∙◌, subst, arith, append_assoc}
 use Rattle.std.proofs.lemmas.List.{map-append, length-append}
-use Rattle.prl_base.specs.declared.values.Ty.{Ty}
-use Rattle.prl_ast.specs.Trees.{Tree, tree, Trees, more, EquationTree, NodeTree, ProgramTree}
+use Rattle.prl_ast.specs.Trees.{Tree, tree, EquationTree, NodeTree, ProgramTree}
 use Rattle.prl_flow.specs.declared.programs.App.{App}
 use Rattle.prl_flow.specs.declared.programs.Arg.{Arg}
 use Rattle.prl_flow.specs.declared.programs.Flow.{Flow}
-use Rattle.prl_types.specs.Flows as types
-use Rattle.prl_causal.specs.Vocabulary.{Rights, next, Part, Parts, given, node_at}
+use Rattle.prl_causal.specs.Vocabulary.{Rights, Part, given, node_at}
 use Rattle.prl_causal.specs.Annotations as notes
 use Rattle.prl_expand.specs.Flats as flats
-use Rattle.prl_expand.specs.Vocabulary.{Numbered, Types, arguments, equated, flow_no, paired, placed, resolved, ExpandFault, Next, Made, Adds, IsFew, IsPast, a_part, all_parts, all_resolved}
-use Rattle.prl_expand.specs.Vocabulary.{the_rights, types_given, types_of, past, past_part, past_parts, past_rights, arg_of, flow_of, flows_of, Pair, pairs_of}
+use Rattle.prl_expand.specs.Vocabulary.{Numbered, Types, equated, flow_no, paired, placed, Next, Made, Adds, IsFew, a_part}
+use Rattle.prl_expand.specs.Vocabulary.{the_rights, past, past_part, past_rights, arg_of, flow_of, flows_of, Pair, pairs_of}
 use Rattle.prl_expand.specs.declared.terms.Term as given_term
-use Rattle.prl_expand.proofs.Adding.{past_more}
 
 abbrev next_of : ℕ → ℕ → ℕ → Next
 next_of f a n = record { flow = f; app = a; node = n }
@@ -39,59 +36,6 @@ piece_of_flows old new fs gs whole n e =
 module _ (p : ProgramTree) (tys : Types) (levels k : ℕ) (env : List ℕ) where
   abbrev node : NodeTree
   node = node_at p k
-
-  abbrev flows_left : Trees → Next → List Numbered
-  flows_left ts s = flats.all_flows p tys k node env ts (all_parts p levels ts s)
-
-  abbrev apps_left : Trees → Next → List App
-  apps_left ts s = flats.all_apps p node env ts (all_parts p levels ts s)
-
-  -- with the rest of the expressions it is what all of them make
-  pub record PartsLeft (list : List given_term.Term) (m m₀ : Made) (ts all : Trees) : Type 0 where
-    pub args : map arg_of list ++ arguments node env ts (all_parts p levels ts m.next) ≡ arguments node env all (all_parts p levels all m₀.next)
-    pub types_are : types_of list ++ all_resolved tys (types.all_flows p k ts) ≡ all_resolved tys (types.all_flows p k all)
-    pub flows : m.flows.items ++ flows_of (flows_left ts m.next) ≡ m₀.flows.items ++ flows_of (flows_left all m₀.next)
-    pub apps : m.apps.items ++ apps_left ts m.next ≡ m₀.apps.items ++ apps_left all m₀.next
-    pub numbers : past_parts m.next (all_parts p levels ts m.next) ≡ past_parts m₀.next (all_parts p levels all m₀.next)
-    pub few : IsFew m.next
-
-  pub parts_step : (list terms list' : List given_term.Term) (m m' m₀ : Made) (t : Tree) (ts rest all : Trees) → PartsLeft list m m₀ rest all → rest ≡ more t ts → list' ≡ list ++ terms
-      → map arg_of terms ≡ placed t (given node env t (a_part p levels t m.next)) → types_of terms ≡ all_resolved tys (types_given p k t)
-      → Adds m m' (flats.part_flows p tys k node env t (a_part p levels t m.next)) (flats.part_apps p node env t (a_part p levels t m.next)) (past_part m.next (a_part p levels t m.next))
-      → PartsLeft list' m' m₀ ts all
-  parts_step list terms list' m m' m₀ t ts rest all before is longer args types_are adds =
-      let q : Part ℕ ℕ ℕ = a_part p levels t m.next in
-      let s : Next = past_part m.next q in
-      let left = subst (λ r. PartsLeft list m m₀ r all) is before in
-      let next_is = adds.next_is in
-      let tail : Parts ℕ ℕ ℕ = all_parts p levels ts s in
-      record {
-        args = ap (λ xs. map arg_of xs ++ arguments node env ts (all_parts p levels ts m'.next)) longer
-            ∙ ap (λ x. map arg_of (list ++ terms) ++ arguments node env ts (all_parts p levels ts x)) next_is
-            ∙ ap (λ xs. xs ++ arguments node env ts tail) (map-append arg_of list terms ∙ ap (λ xs. map arg_of list ++ xs) args)
-            ∙ piece (map arg_of list) (placed t (given node env t q)) (arguments node env ts tail) _ left.args;
-        types_are = ap (λ xs. types_of xs ++ all_resolved tys (types.all_flows p k ts)) longer
-            ∙ ap (λ (xs : List Ty). xs ++ all_resolved tys (types.all_flows p k ts)) (map-append (λ (u : given_term.Term). u.ty) list terms ∙ ap (λ (xs : List Ty). types_of list ++ xs) types_are)
-            ∙ append_assoc (types_of list) (all_resolved tys (types_given p k t)) (all_resolved tys (types.all_flows p k ts))
-            ∙ ap (λ (xs : List Ty). types_of list ++ xs) (sym (map-append (resolved tys) (types_given p k t) (types.all_flows p k ts)))
-            ∙ left.types_are;
-        flows = ap (λ x. m'.flows.items ++ flows_of (flows_left ts x)) next_is
-            ∙ piece_of_flows m.flows.items m'.flows.items (flats.part_flows p tys k node env t q) (flows_left ts s) _ adds.flows_are left.flows;
-        apps = ap (λ x. m'.apps.items ++ apps_left ts x) next_is ∙ ap (λ xs. xs ++ apps_left ts s) adds.apps_are
-            ∙ piece m.apps.items (flats.part_apps p node env t q) (apps_left ts s) _ left.apps;
-        numbers = ap (λ x. past_parts x (all_parts p levels ts x)) next_is
-            ∙ past_both m.next (notes.part_flows q) (notes.parts_flows tail) (notes.part_imports q) (notes.parts_imports tail) (notes.part_nodes q) (notes.parts_nodes tail)
-            ∙ left.numbers;
-        few = adds.few;
-      }
-
-  pub parts_past : (list : List given_term.Term) (m m₀ : Made) (t : Tree) (ts rest all : Trees) (e : ExpandFault) → PartsLeft list m m₀ rest all → rest ≡ more t ts
-      → IsPast (m.next.flow + length (notes.part_flows (a_part p levels t m.next))) e → IsPast (m₀.next.flow + length (notes.parts_flows (all_parts p levels all m₀.next))) e
-  parts_past list m m₀ t ts rest all e before is h =
-      let left = subst (λ r. PartsLeft list m m₀ r all) is before in
-      let q : Part ℕ ℕ ℕ = a_part p levels t m.next in
-      let tail : Parts ℕ ℕ ℕ = all_parts p levels ts (past_part m.next q) in
-      past_more _ _ e (omega (arith, length-append (notes.part_flows q) (notes.parts_flows tail), ap (λ (x : Next). x.flow) left.numbers)) h
 
   abbrev right_flows_left : List EquationTree → Next → List Numbered
   right_flows_left es s = flats.right_flows p tys k node env es (the_rights p levels es s)

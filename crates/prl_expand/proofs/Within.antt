@@ -1,19 +1,22 @@
 -- Parts of what fits, and nodes for which the levels suffice.
-use Rattle.prl_base.proofs.Standard.{◌≡◌, ◌+◌, ◌-◌, ◌<◌, ◌≤◌, ℕ, zero, suc, Bool, true, false, List, [], ◌∷◌, length, map, slice_get, Option, Some, None, IsSome, refl, sym, ap, ◌∙◌, subst, arith}
+use Rattle.prl_base.proofs.Standard.{◌≡◌, ◌+◌, ◌<◌, ◌≤◌, ℕ, zero, suc, Bool, true, false, List, [], ◌∷◌, length, map, slice_get, Option, Some, None, IsSome, refl, sym, ap, ◌∙◌, subst, arith}
 use Rattle.prl_base.proofs.Standard.{AllByRecursion, slice_get_within}
 use Rattle.prl_base.specs.declared.places.Span.{Span}
-use Rattle.prl_ast.specs.Vocabulary.{IsImportInRange, IsNodeInRange, Tree, tree_of, apply, group, Trees, none, more, equation_tree, NodeTree, ProgramTree}
+use Rattle.prl_ast.specs.Vocabulary.{IsImportInRange, IsNodeInRange, Tree, tree_of, Root, const, var, apply, group, Trees, none, more, equation_tree, NodeTree, ProgramTree}
+use Rattle.prl_ast.specs.Trees.{tree}
 use Rattle.prl_ast.specs.declared.declarations.Equation.{Equation}
 use Rattle.prl_ast.specs.declared.declarations.Import.{Import}
 use Rattle.prl_ast.specs.declared.declarations.Param.{Param}
-use Rattle.prl_ast.specs.declared.expressions.Expr.{Expr}
-use Rattle.prl_names.specs.Vocabulary.{is_node, applied_in, applied_trees, applied_equations, applied_by, applies, reaches, all_trees, callee_of, index_of, param_at, param_names, params_of, IsNamed}
+use Rattle.prl_names.specs.Vocabulary.{is_node, applied_in, applied_trees, applied_equations, applied_by, applies, reaches, callee_of, index_of, param_at, param_names, params_of, IsNamed}
 use Rattle.prl_names.specs.declared.lookups.Callee.TheVariants as callees
 use Rattle.prl_names.proofs.Marking.{callee_below, index_below}
 use Rattle.prl_causal.specs.Texts.{node_at, node_or}
 use Rattle.prl_expand.proofs.Existence.{true_or, or_true, same_node, import_found}
+use Rattle.prl_expand.proofs.Lists.{all_both}
 use Rattle.prl_expand.proofs.Ranks.{rank, rank_falls, passing, one_if}
-use Rattle.prl_expand.specs.Vocabulary.{Next, IsFew, IsFewBefore, CallFits, EquationsFit, IsSound, MayApply, MayEnter, RootFits, TreeFits, TreesFit}
+use Rattle.prl_expand.specs.code.Acts.{act_of, acts_of, all_steps, root_steps, steps_of}
+use Rattle.prl_expand.specs.declared.steps.Step.{Step}
+use Rattle.prl_expand.specs.Vocabulary.{Next, IsFew, IsFewBefore, ActFits, CallFits, EquationsFit, IsSound, MayApply, MayEnter, RootFits, TreeFits, TreesFit}
 
 -- a node that reaches fewer nodes than there are levels
 ranked : (p : ProgramTree) (main : ℕ) → IsNamed p main → (levels k : ℕ) → rank p k < levels → MayEnter p levels k
@@ -33,78 +36,62 @@ pub all_levels : (p : ProgramTree) (main k : ℕ) → IsNamed p main → MayAppl
 all_levels p main k named =
     λ j applied below. ranked p main named (length p.nodes) j (omega (arith, rank_falls p named.acyclic k j applied below, passing_few (reaches p k) (length p.nodes)))
 
-module _ (p : ProgramTree) (levels k depth : ℕ) where
-  pub args_fit : (name : List ℕ) (at : Span) (args : Trees) → RootFits p levels k depth (apply name at args) → TreesFit p levels k depth args
-  args_fit name at args h =
-      record {
-        known = h.known.1;
-        reach = λ j applied below. h.reach j (or_true (is_node j (callee_of p name)) (applied_trees p j args) applied) below;
-        opened = h.opened + 1;
-        few = h.range.1;
-        depth_is = omega (arith, h.depth_is);
-        range = h.range.2;
-      }
-
-  pub call_fits : (name : List ℕ) (at : Span) (args : Trees) → RootFits p levels k depth (apply name at args) → CallFits p levels name
+module _ (p : ProgramTree) (levels k : ℕ) where
+  pub call_fits : (name : List ℕ) (at : Span) (args : Trees) → RootFits p levels k (apply name at args) → CallFits p levels name
   call_fits name at args h = record {
     known = h.known.0;
     reach = λ j e. h.reach j (true_or (is_node j (callee_of p name)) (applied_trees p j args) (same_node j (callee_of p name) e)) (callee_below p name j e);
   }
 
-  pub parts_fit : (parts : Trees) → RootFits p levels k depth (group parts) → TreesFit p levels k depth parts
-  parts_fit none h = absurd h.range
-  parts_fit (more t ts) h =
-      record { known = h.known; reach = h.reach; opened = h.opened + 1; few = h.range.0; depth_is = omega (arith, h.depth_is); range = (h.range.1, h.range.2) }
+  mutual
+    -- each step of an expression that fits
+    pub tree_acts : (t : Tree) → TreeFits p levels k t → AllByRecursion (ActFits p levels k) (steps_of t)
+    tree_acts (tree pre root post at) h = (
+      tt,
+      all_both (ActFits p levels k) (root_steps root) (Some (tree pre root post at) ∷ []) (root_acts root (record { known = h.known; reach = h.reach })) (h, tt),
+    )
 
-  pub deep : (ts : Trees) → TreesFit p levels k depth ts → 0 < depth
-  deep ts h = omega (arith, h.depth_is, h.few)
+    root_acts : (root : Root) → RootFits p levels k root → AllByRecursion (ActFits p levels k) (root_steps root)
+    root_acts (const v) h = tt
+    root_acts (var name) h = tt
+    root_acts (apply name at args) h =
+        trees_acts args (record {
+          known = h.known.1;
+          reach = λ j applied below. h.reach j (or_true (is_node j (callee_of p name)) (applied_trees p j args) applied) below;
+        })
+    root_acts (group parts) h = trees_acts parts (record { known = h.known; reach = h.reach })
 
-  first_fits : (t : Tree) (ts : Trees) → TreesFit p levels k depth (more t ts) → TreeFits p levels k (depth - 1) t
-  first_fits t ts h =
-      record {
-        known = h.known.0;
-        reach = λ j applied below. h.reach j (true_or (applied_in p j t) (applied_trees p j ts) applied) below;
-        opened = h.opened;
-        few = h.few;
-        depth_is = omega (arith, h.depth_is, h.few);
-        range = h.range.0;
-      }
+    trees_acts : (ts : Trees) → TreesFit p levels k ts → AllByRecursion (ActFits p levels k) (all_steps ts)
+    trees_acts none h = tt
+    trees_acts (more t ts) h =
+        all_both (ActFits p levels k) (steps_of t) (all_steps ts)
+        (tree_acts t (record {
+          known = h.known.0;
+          reach = λ j applied below. h.reach j (true_or (applied_in p j t) (applied_trees p j ts) applied) below;
+        }))
+        (trees_acts ts (record {
+          known = h.known.1;
+          reach = λ j applied below. h.reach j (or_true (applied_in p j t) (applied_trees p j ts) applied) below;
+        }))
 
-  rest_fits : (t : Tree) (ts : Trees) → TreesFit p levels k depth (more t ts) → TreesFit p levels k depth ts
-  rest_fits t ts h = record {
-    known = h.known.1;
-    reach = λ j applied below. h.reach j (or_true (applied_in p j t) (applied_trees p j ts) applied) below;
-    opened = h.opened;
-    few = h.few;
-    depth_is = h.depth_is;
-    range = h.range.1;
-  }
-
-  pub tree_fits : (es : List Expr) (i : ℕ) (e : Expr) → slice_get es i ≡ Some e → TreesFit p levels k depth (all_trees es) → TreeFits p levels k (depth - 1) (tree_of e)
-  tree_fits [] i e found h = cc
-  tree_fits (x ∷ es) zero e found h =
-      let same : x ≡ e = cc in
-      subst (λ (o : Expr). TreeFits p levels k (depth - 1) (tree_of o)) same (first_fits (tree_of x) (all_trees es) h)
-  tree_fits (x ∷ es) (suc i) e found h = tree_fits es i e found (rest_fits (tree_of x) (all_trees es) h)
-
-module _ (p : ProgramTree) (levels k : ℕ) where
-  pub right_fits : (es : List Equation) (i : ℕ) (e : Equation) → slice_get es i ≡ Some e → EquationsFit p levels k (map equation_tree es) → TreeFits p levels k 65 (tree_of e.right)
+  pub right_fits : (es : List Equation) (i : ℕ) (e : Equation) → slice_get es i ≡ Some e → EquationsFit p levels k (map equation_tree es) → TreeFits p levels k (tree_of e.right)
   right_fits [] i e found h = cc
   right_fits (x ∷ es) zero e found h =
       let same : x ≡ e = cc in
-      subst (λ (o : Equation). TreeFits p levels k 65 (tree_of o.right)) same (record {
+      subst (λ (o : Equation). TreeFits p levels k (tree_of o.right)) same (record {
         known = h.known.1;
         reach = λ j applied below. h.reach j (true_or (applied_in p j (tree_of x.right)) (applied_equations p j (map equation_tree es)) applied) below;
-        opened = 0;
-        few = omega arith;
-        depth_is = omega arith;
-        range = h.range.0.right;
       })
   right_fits (x ∷ es) (suc i) e found h = right_fits es i e found (record {
     known = h.known.2;
     reach = λ j applied below. h.reach j (or_true (applied_in p j (tree_of x.right)) (applied_equations p j (map equation_tree es)) applied) below;
-    range = h.range.1;
   })
+
+  -- the step of this index
+  pub act_fits : (steps : List Step) (i : ℕ) (x : Step) → slice_get steps i ≡ Some x → AllByRecursion (ActFits p levels k) (acts_of steps) → ActFits p levels k (act_of x)
+  act_fits [] i x found h = cc
+  act_fits (y ∷ steps) zero x found h = let same : y ≡ x = cc in subst (λ (o : Step). ActFits p levels k (act_of o)) same h.0
+  act_fits (y ∷ steps) (suc i) x found h = act_fits steps i x found h.1
 
 -- the element, where all are so
 all_at : {A : Type 0} (P : A → Type 0) (xs : List A) (i : ℕ) (x : A) → slice_get xs i ≡ Some x → AllByRecursion P xs → P x
@@ -116,7 +103,6 @@ pub equations_fit : (p : ProgramTree) (levels k : ℕ) (d : NodeTree) → IsSoun
 equations_fit p levels k d sound found reach = record {
   known = (sound.named.nodes k d found).known;
   reach = λ j applied below. reach j (ap (applied_by p j) found ∙ applied) below;
-  range = (all_at IsNodeInRange p.nodes k d found sound.range.nodes).eqs;
 }
 
 pub levels_left : (p : ProgramTree) (levels j : ℕ) → MayEnter p levels j → 0 < levels

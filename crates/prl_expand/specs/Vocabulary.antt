@@ -20,7 +20,7 @@ pub use Rattle.prl_expand.specs.code.Numbering.{past_parts, past_rights, rights_
 pub use Rattle.prl_expand.specs.code.Terms.{arg_of, flow_of, flows_of, number_of, operators_made}
 pub use Rattle.prl_expand.specs.code.Terms.{operators_over, output_terms, outputs_made, placed_at}
 pub use Rattle.prl_expand.specs.code.Variables.{copied, def_of, pairs_of, param_of, variables_made}
-pub use Rattle.prl_expand.specs.code.Within.{CallFits, EquationsFit, IsSound, MayApply, MayEnter}
+pub use Rattle.prl_expand.specs.code.Within.{ActFits, CallFits, EquationsFit, IsSound, MayApply, MayEnter}
 pub use Rattle.prl_expand.specs.code.Within.{RootFits, TreeFits, TreesFit}
 pub use Rattle.prl_expand.specs.declared.counts.ExpandFault.{ExpandFault}
 pub use Rattle.prl_expand.specs.declared.counts.Next.{Next}

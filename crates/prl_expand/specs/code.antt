@@ -5,3 +5,6 @@ pub mod Made
 pub mod Adding
 pub mod Variables
 pub mod Within
+pub mod Acts
+pub mod Steps
+pub mod Standings

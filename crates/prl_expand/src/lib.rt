@@ -8,6 +8,7 @@ mod expanding;
 mod flows;
 mod laws;
 mod nodes;
+mod steps;
 mod terms;
 mod variables;
 

@@ -1,29 +1,33 @@
 //! Nodes that are entered, and their expressions.
 
 ghost use Rattle.std.specs.Prelude.{◌≡◌, ◌≤◌, ◌<◌, ◌+◌, ◌++◌, ◌∷◌, [], ℕ, List, Some, false, true, length, map, slice_get, IfOk, IfErr, OnOk};
-ghost use Rattle.std.specs.List.{range_with_len};
+ghost use Rattle.std.specs.List.{AllByRecursion, range_with_len};
 ghost use Rattle.prl_base.specs.Values.{type_of};
 ghost use Rattle.prl_ast.specs.Trees.{const, equation_tree, node_tree, program_tree, root_of, tree_of};
 ghost use Rattle.prl_ast.specs.declared.declarations.Port.{Port};
-ghost use Rattle.prl_names.specs.Vocabulary.{all_trees, applies, callee_of, params_of};
+ghost use Rattle.prl_names.specs.Vocabulary.{applies, callee_of, params_of};
 ghost use Rattle.prl_types.specs.Flows as types;
-ghost use Rattle.prl_types.specs.Vocabulary.{all_flows, root_flows, first_of};
-ghost use Rattle.prl_causal.specs.Annotations.{flows_in, part_flows, core_flows, parts_flows, right_flows};
-ghost use Rattle.prl_causal.specs.Asked.{given, last_of, outputs_of, root_given};
+ghost use Rattle.prl_types.specs.Vocabulary.{first_of};
+ghost use Rattle.prl_causal.specs.Annotations.{flows_in, part_flows, core_flows, right_flows};
+ghost use Rattle.prl_causal.specs.Asked.{given, last_of, outputs_of};
 ghost use Rattle.prl_causal.specs.Texts.{node_at};
 ghost use Rattle.prl_expand.specs.Flats as flats;
-ghost use Rattle.prl_expand.specs.Flats.{arguments, constant_flows, copies, entered_flows, equated, flow_no, output_flows, placed};
+ghost use Rattle.prl_expand.specs.Flats.{constant_flows, copies, entered_flows, equated, flow_no, output_flows, placed};
 ghost use Rattle.prl_expand.specs.code.Adding.{Adds};
 ghost use Rattle.prl_expand.specs.code.Limits.{IsFew, IsFewBefore, IsPast};
-ghost use Rattle.prl_expand.specs.code.Made.{IsInside, a_call, a_core, a_node, a_part, all_parts, all_resolved, called_apps, called_flows, called_given, first_type, head_of, operated_flows, operated_given, operated_types, the_rights, types_given, types_of};
-ghost use Rattle.prl_expand.specs.code.Numbering.{past_core, past_entered, past_part, past_parts, past_rights};
+ghost use Rattle.prl_expand.specs.code.Made.{IsInside, a_call, a_node, a_part, all_resolved, called_apps, called_flows, called_given, first_type, head_of, operated_flows, operated_given, operated_types, the_rights, types_of};
+ghost use Rattle.prl_expand.specs.code.Numbering.{past_core, past_entered, past_part, past_rights};
 ghost use Rattle.prl_expand.specs.code.Terms.{arg_of, flow_of, flows_of};
 ghost use Rattle.prl_expand.specs.code.Variables.{def_of, pairs_of, variables_made};
-ghost use Rattle.prl_expand.specs.code.Within.{CallFits, EquationsFit, IsSound, MayApply, RootFits, TreeFits, TreesFit};
+ghost use Rattle.prl_expand.specs.code.Standings.{AreMade, IsAt};
+ghost use Rattle.prl_expand.specs.code.Acts.{act_of, acts_of};
+ghost use Rattle.prl_expand.specs.code.Steps.{after, end_apps, end_flows, end_given, end_next, end_types, ended_apps, ended_flows, ended_given, ended_next, given_around, given_of, nothing, site, start, stepped};
+ghost use Rattle.prl_expand.specs.code.Within.{ActFits, CallFits, EquationsFit, IsSound, MayApply, RootFits, TreeFits};
 
 use crate::counts::{ExpandFault, Next, take_app, take_flows, take_node};
 use crate::flows::{push_app, push_constant, push_operators, push_outputs};
-use crate::terms::{Term, one_term, outputs, placed, reversed, variable};
+use crate::steps::{Step, steps};
+use crate::terms::{Term, enclose, innermost, one_term, outputs, placed, reversed, variable};
 use crate::variables::{
     Pair, Source, copies_of, label_of_node, outs_of, push_pairs, push_variables, sources_of,
     variables,
@@ -183,37 +187,8 @@ fn import(
     Ok(outs)
 }
 
-/// The flows of an expression of node `k`. Its parts are made before itself.
+/// The flows of what operators are applied to, of whose parts these are the flows.
 #[cycle(expansion)]
-#[inline(always)]
-fn expression(
-    alloc: Global,
-    typed: &Typed<'_>,
-    names: &Names<'_>,
-    levels: u32,
-    k: u32,
-    env: &[Term],
-    depth: u32,
-    expr: &Expr,
-    made: &mut Made,
-) -> Result<Vec<Term>, ExpandFault>
-    requires inside { IsInside names.now typed.now.program typed.now.types k env.now }
-    requires fits { TreeFits (program_tree names.now) levels k depth (tree_of expr.now) }
-    requires few { IsFew made.old.next }
-    ensures args { IfOk result (λ terms. map arg_of terms.items ≡ placed (tree_of expr.now) (given (node_at (program_tree names.now) k) (map flow_of env.now) (tree_of expr.now) (a_part (program_tree names.now) levels (tree_of expr.now) made.old.next))) }
-    ensures types { IfOk result (λ terms. types_of terms.items ≡ all_resolved typed.now.types (types_given (program_tree names.now) k (tree_of expr.now))) }
-    ensures made { OnOk result (Adds made.old made.new (flats.part_flows (program_tree names.now) typed.now.types k (node_at (program_tree names.now) k) (map flow_of env.now) (tree_of expr.now) (a_part (program_tree names.now) levels (tree_of expr.now) made.old.next)) (flats.part_apps (program_tree names.now) (node_at (program_tree names.now) k) (map flow_of env.now) (tree_of expr.now) (a_part (program_tree names.now) levels (tree_of expr.now) made.old.next)) (past_part made.old.next (a_part (program_tree names.now) levels (tree_of expr.now) made.old.next))) }
-    ensures limit { IfErr result (IsPast (made.old.next.flow + length (part_flows (a_part (program_tree names.now) levels (tree_of expr.now) made.old.next)))) }
-{
-    let of = base(
-        alloc, typed, names, levels, k, env, depth, &expr.base, expr.at, made,
-    )?;
-    operated(alloc, expr, of, made)
-}
-
-/// The flows of what operators are applied to.
-#[cycle(expansion)]
-#[inline(always)]
 fn base(
     alloc: Global,
     typed: &Typed<'_>,
@@ -221,18 +196,18 @@ fn base(
     levels: u32,
     k: u32,
     env: &[Term],
-    depth: u32,
     base: &Base,
     place: Span,
+    parts: Vec<Term>,
     made: &mut Made,
 ) -> Result<Vec<Term>, ExpandFault>
     requires inside { IsInside names.now typed.now.program typed.now.types k env.now }
-    requires fits { RootFits (program_tree names.now) levels k depth (root_of base.now) }
+    requires fits { RootFits (program_tree names.now) levels k (root_of base.now) }
     requires few { IsFew made.old.next }
-    ensures given { IfOk result (λ terms. map flow_of terms.items ≡ root_given (node_at (program_tree names.now) k) (map flow_of env.now) (root_of base.now) (a_core (program_tree names.now) levels (root_of base.now) made.old.next)) }
-    ensures types { IfOk result (λ terms. types_of terms.items ≡ all_resolved typed.now.types (root_flows (program_tree names.now) k (root_of base.now))) }
-    ensures made { OnOk result (Adds made.old made.new (flats.root_flows_of (program_tree names.now) typed.now.types k (node_at (program_tree names.now) k) (map flow_of env.now) (root_of base.now) place (a_core (program_tree names.now) levels (root_of base.now) made.old.next)) (flats.root_apps (program_tree names.now) (node_at (program_tree names.now) k) (map flow_of env.now) (root_of base.now) place (a_core (program_tree names.now) levels (root_of base.now) made.old.next)) (past_core made.old.next (a_core (program_tree names.now) levels (root_of base.now) made.old.next))) }
-    ensures limit { IfErr result (IsPast (made.old.next.flow + length (core_flows (a_core (program_tree names.now) levels (root_of base.now) made.old.next)))) }
+    ensures given { IfOk result (λ terms. map flow_of terms.items ≡ end_given (site names.now typed.now.types levels k env.now) (root_of base.now) (map flow_of parts.items) made.old.next) }
+    ensures types { IfOk result (λ terms. types_of terms.items ≡ end_types (site names.now typed.now.types levels k env.now) (root_of base.now) (types_of parts.items)) }
+    ensures made { OnOk result (Adds made.old made.new (end_flows (site names.now typed.now.types levels k env.now) (root_of base.now) place (map flow_of parts.items) made.old.next) (end_apps (site names.now typed.now.types levels k env.now) (root_of base.now) (map arg_of parts.items) made.old.next) (end_next (site names.now typed.now.types levels k env.now) (root_of base.now) made.old.next)) }
+    ensures limit { IfErr result (IsPast (end_next (site names.now typed.now.types levels k env.now) (root_of base.now) made.old.next).flow) }
 {
     match base {
         Base::Const(value) => constant(alloc, *value, place, made),
@@ -240,41 +215,131 @@ fn base(
             let index = names.param(k as usize, name.bytes());
             Ok(one_term(alloc, variable(env, index))?)
         }
-        Base::Apply { name, at, args } => {
-            let args = parts(alloc, typed, names, levels, k, env, depth, args, made)?;
-            apply(alloc, typed, names, levels, name, *at, args, made)
+        Base::Apply { name, at, args: _ } => {
+            apply(alloc, typed, names, levels, name, *at, parts, made)
         }
-        Base::Group(exprs) => parts(alloc, typed, names, levels, k, env, depth, exprs, made),
+        Base::Group(_) => Ok(parts),
     }
 }
 
-/// The flows of expressions, one after the other.
+/// The flows of an expression of node `k`, of whose parts these are the flows.
 #[cycle(expansion)]
-fn parts(
+fn closed(
     alloc: Global,
     typed: &Typed<'_>,
     names: &Names<'_>,
     levels: u32,
     k: u32,
     env: &[Term],
-    depth: u32,
-    exprs: &[Expr],
+    expr: &Expr,
+    parts: Vec<Term>,
     made: &mut Made,
 ) -> Result<Vec<Term>, ExpandFault>
     requires inside { IsInside names.now typed.now.program typed.now.types k env.now }
-    requires fits { TreesFit (program_tree names.now) levels k depth (all_trees exprs.now) }
+    requires fits { TreeFits (program_tree names.now) levels k (tree_of expr.now) }
     requires few { IsFew made.old.next }
-    ensures args { IfOk result (λ terms. map arg_of terms.items ≡ arguments (node_at (program_tree names.now) k) (map flow_of env.now) (all_trees exprs.now) (all_parts (program_tree names.now) levels (all_trees exprs.now) made.old.next)) }
-    ensures types { IfOk result (λ terms. types_of terms.items ≡ all_resolved typed.now.types (all_flows (program_tree names.now) k (all_trees exprs.now))) }
-    ensures made { OnOk result (Adds made.old made.new (flats.all_flows (program_tree names.now) typed.now.types k (node_at (program_tree names.now) k) (map flow_of env.now) (all_trees exprs.now) (all_parts (program_tree names.now) levels (all_trees exprs.now) made.old.next)) (flats.all_apps (program_tree names.now) (node_at (program_tree names.now) k) (map flow_of env.now) (all_trees exprs.now) (all_parts (program_tree names.now) levels (all_trees exprs.now) made.old.next)) (past_parts made.old.next (all_parts (program_tree names.now) levels (all_trees exprs.now) made.old.next))) }
-    ensures limit { IfErr result (IsPast (made.old.next.flow + length (parts_flows (all_parts (program_tree names.now) levels (all_trees exprs.now) made.old.next)))) }
+    ensures given { IfOk result (λ terms. given_of terms.items ≡ ended_given (site names.now typed.now.types levels k env.now) (tree_of expr.now) (given_of parts.items) made.old.next) }
+    ensures made { OnOk result (Adds made.old made.new (ended_flows (site names.now typed.now.types levels k env.now) (tree_of expr.now) (given_of parts.items) made.old.next) (ended_apps (site names.now typed.now.types levels k env.now) (tree_of expr.now) (given_of parts.items) made.old.next) (ended_next (site names.now typed.now.types levels k env.now) (tree_of expr.now) made.old.next)) }
+    ensures limit { IfErr result (IsPast (ended_next (site names.now typed.now.types levels k env.now) (tree_of expr.now) made.old.next).flow) }
 {
+    let of = base(
+        alloc, typed, names, levels, k, env, &expr.base, expr.at, parts, made,
+    )?;
+    operated(alloc, expr, of, made)
+}
+
+/// Takes a step: the list that is under way after it. The lists around it stand in `around`, the outermost first.
+#[cycle(expansion)]
+fn advance(
+    alloc: Global,
+    typed: &Typed<'_>,
+    names: &Names<'_>,
+    levels: u32,
+    k: u32,
+    env: &[Term],
+    step: &Step<'_>,
+    list: Vec<Term>,
+    around: &mut Vec<Vec<Term>>,
+    made: &mut Made,
+) -> Result<Vec<Term>, ExpandFault>
+    requires inside { IsInside names.now typed.now.program typed.now.types k env.now }
+    requires fits { ActFits (program_tree names.now) levels k (act_of step.now) }
+    requires few { IsFew made.old.next }
+    ensures at { IfOk result (λ terms. IsAt made.old (stepped (site names.now typed.now.types levels k env.now) (act_of step.now) (start (given_of list.items) (given_around around.old.items) made.old.next)) terms.items around.new.items made.new) }
+    ensures limit { IfErr result (IsPast (stepped (site names.now typed.now.types levels k env.now) (act_of step.now) (start (given_of list.items) (given_around around.old.items) made.old.next)).next.flow) }
+{
+    match step {
+        Step::Open => {
+            enclose(around, list)?;
+            Ok(Vec::new(alloc))
+        }
+        Step::Close(expr) => {
+            let mut terms = closed(alloc, typed, names, levels, k, env, expr, list, made)?;
+            let mut outer = innermost(alloc, around);
+            outer.append(&mut terms)?;
+            Ok(outer)
+        }
+    }
+}
+
+/// Takes all steps through an expression of node `k`: its flows.
+#[cycle(expansion)]
+fn run(
+    alloc: Global,
+    typed: &Typed<'_>,
+    names: &Names<'_>,
+    levels: u32,
+    k: u32,
+    env: &[Term],
+    steps: &[Step<'_>],
+    made: &mut Made,
+) -> Result<Vec<Term>, ExpandFault>
+    requires inside { IsInside names.now typed.now.program typed.now.types k env.now }
+    requires fits { AllByRecursion (ActFits (program_tree names.now) levels k) (acts_of steps.now) }
+    requires few { IsFew made.old.next }
+    ensures at { IfOk result (λ terms. AreMade made.old (after (site names.now typed.now.types levels k env.now) (acts_of steps.now) (start nothing [] made.old.next)) terms.items made.new) }
+    ensures limit { IfErr result (IsPast (after (site names.now typed.now.types levels k env.now) (acts_of steps.now) (start nothing [] made.old.next)).next.flow) }
+{
+    let mut around = Vec::new(alloc);
     let mut list = Vec::new(alloc);
-    for expr in exprs {
-        let mut terms = expression(alloc, typed, names, levels, k, env, depth - 1, expr, made)?;
-        list.append(&mut terms)?;
+    for step in steps {
+        list = advance(
+            alloc,
+            typed,
+            names,
+            levels,
+            k,
+            env,
+            step,
+            list,
+            &mut around,
+            made,
+        )?;
     }
     Ok(list)
+}
+
+/// The flows of an expression of node `k`. Its parts are made before itself.
+#[cycle(expansion)]
+fn expression(
+    alloc: Global,
+    typed: &Typed<'_>,
+    names: &Names<'_>,
+    levels: u32,
+    k: u32,
+    env: &[Term],
+    expr: &Expr,
+    made: &mut Made,
+) -> Result<Vec<Term>, ExpandFault>
+    requires inside { IsInside names.now typed.now.program typed.now.types k env.now }
+    requires fits { TreeFits (program_tree names.now) levels k (tree_of expr.now) }
+    requires few { IsFew made.old.next }
+    ensures args { IfOk result (λ terms. map arg_of terms.items ≡ placed (tree_of expr.now) (given (node_at (program_tree names.now) k) (map flow_of env.now) (tree_of expr.now) (a_part (program_tree names.now) levels (tree_of expr.now) made.old.next))) }
+    ensures made { OnOk result (Adds made.old made.new (flats.part_flows (program_tree names.now) typed.now.types k (node_at (program_tree names.now) k) (map flow_of env.now) (tree_of expr.now) (a_part (program_tree names.now) levels (tree_of expr.now) made.old.next)) (flats.part_apps (program_tree names.now) (node_at (program_tree names.now) k) (map flow_of env.now) (tree_of expr.now) (a_part (program_tree names.now) levels (tree_of expr.now) made.old.next)) (past_part made.old.next (a_part (program_tree names.now) levels (tree_of expr.now) made.old.next))) }
+    ensures limit { IfErr result (IsPast (made.old.next.flow + length (part_flows (a_part (program_tree names.now) levels (tree_of expr.now) made.old.next)))) }
+{
+    let steps = steps(alloc, expr)?;
+    run(alloc, typed, names, levels, k, env, steps.as_slice(), made)
 }
 
 /// The flows that an application gives, after its arguments.
@@ -334,17 +399,7 @@ fn equations<'a>(
 {
     let mut pairs = Vec::new(alloc);
     for equation in eqs {
-        let terms = expression(
-            alloc,
-            typed,
-            names,
-            levels,
-            k,
-            env,
-            65,
-            &equation.right,
-            made,
-        )?;
+        let terms = expression(alloc, typed, names, levels, k, env, &equation.right, made)?;
         push_pairs(&mut pairs, equation.lefts.as_slice(), terms.as_slice())?;
     }
     Ok(pairs)

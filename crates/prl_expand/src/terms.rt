@@ -1,6 +1,7 @@
 //! The flows that an expression gives.
 
-ghost use Rattle.std.specs.Prelude.{◌≡◌, ◌<◌, ◌≤◌, ◌+◌, ◌∷◌, [], ℕ, Some, length, map, reverse, slice_get, IfOk, IfSome};
+ghost use Rattle.std.specs.Prelude.{◌≡◌, ◌<◌, ◌≤◌, ◌+◌, ◌∷◌, [], ℕ, Some, length, map, reverse, slice_get, IfOk, IfSome, OnOk};
+ghost use Rattle.prl_expand.specs.code.Steps.{first_list, given_around, given_of, other_lists};
 ghost use Rattle.prl_expand.specs.code.Terms.{arg_of, number_of, output_terms, placed_at};
 
 use prl_ast::{PlacedOp, Port};
@@ -96,4 +97,23 @@ pub(crate) fn reversed(alloc: Global, ops: &[PlacedOp]) -> Result<Vec<PlacedOp>,
     ensures { IfOk result (λ list. list.items ≡ reverse ops.now) }
 {
     ops.iter().rev().copied().collect(alloc)
+}
+
+/// Puts a list into the others, as the innermost of them.
+pub(crate) fn enclose(lists: &mut Vec<Vec<Term>>, list: Vec<Term>) -> Result<(), AllocError>
+    ensures { OnOk result (given_around lists.new.items ≡ given_of list.items ∷ given_around lists.old.items) }
+{
+    lists.push(list)?;
+    Ok(())
+}
+
+/// Takes the innermost of the lists, the last one; an empty list where there is none.
+pub(crate) fn innermost(alloc: Global, lists: &mut Vec<Vec<Term>>) -> Vec<Term>
+    ensures list { given_of result.items ≡ first_list (given_around lists.old.items) }
+    ensures others { given_around lists.new.items ≡ other_lists (given_around lists.old.items) }
+{
+    match lists.pop() {
+        Some(list) => list,
+        None => Vec::new(alloc),
+    }
 }

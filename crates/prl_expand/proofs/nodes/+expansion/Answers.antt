@@ -1,25 +1,28 @@
-use Rattle.prl_base.proofs.Standard.{ℕ, ◌≡◌, ◌<◌, ◌+◌, ◌-◌, ◌++◌, [], ◌∙◌, Some, ap, arith, length, map, refl, slice_get, subst, sym, slice_get_read}
-use Rattle.prl_ast.specs.Trees.{apply, equation_tree, group, node_tree, program_tree, root_of, tree_of}
+use Rattle.prl_base.proofs.Standard.{ℕ, ◌≡◌, ◌<◌, ◌+◌, ◌-◌, ◌++◌, [], ◌∙◌, Some, ap, arith, length, map, refl, slice_get, subst, sym, slice_get_read, take, AllByRecursion}
+use Rattle.prl_ast.specs.Trees.{apply, equation_tree, node_tree, program_tree, root_of, tree_of}
 use Rattle.prl_ast.specs.declared.declarations.Import.{Import}
 use Rattle.prl_ast.specs.declared.declarations.Program.{Program}
 use Rattle.prl_names.specs.Vocabulary.{all_trees, callee_of, param_at, params_of, IsKnownRoot}
 use Rattle.prl_names.specs.declared.lookups.Callee.TheVariants as callees
 use Rattle.prl_names.proofs.Marking.{callee_below}
-use Rattle.prl_names.proofs.Rows.{root_of_Apply, root_of_Group}
-use Rattle.prl_types.proofs.Counting.{drop_trees}
+use Rattle.prl_names.proofs.Rows.{root_of_Apply}
 use Rattle.prl_causal.specs.Annotations as notes
-use Rattle.prl_causal.specs.Vocabulary.{outputs_of, root_given, node_at, node_or}
-use Rattle.prl_types.specs.Flows.{all_flows, root_flows}
+use Rattle.prl_causal.specs.Vocabulary.{outputs_of, node_at, node_or}
 use Rattle.prl_expand.specs.Flats as flats
-use Rattle.prl_expand.specs.Vocabulary.{arguments, copies, copy_of, equated, paired, Next, IsPast, a_core, a_node, all_parts, all_resolved, have_types, the_rights, types_of, Adds, past_entered}
-use Rattle.prl_expand.specs.Vocabulary.{past_parts, past_rights, arg_of, flow_of, flows_of, EquationsFit, RootFits, TreesFit, copied, def_of, pairs_of}
+use Rattle.prl_expand.specs.Vocabulary.{copies, copy_of, equated, paired, Next, IsPast, a_node, have_types, the_rights, types_of, Adds, past_entered}
+use Rattle.prl_expand.specs.Vocabulary.{past_rights, arg_of, flow_of, flows_of, EquationsFit, ActFits, RootFits, copied, def_of, pairs_of}
+use Rattle.prl_expand.specs.code.Acts.{act_of, acts_of}
+use Rattle.prl_expand.specs.code.Standings.{IsAt}
+use Rattle.prl_expand.specs.code.Steps.{Given, Standing, after, end_given, end_types, nothing, site, start}
 use Rattle.prl_expand.proofs.Adding.{adds_as, below_few}
+use Rattle.prl_expand.proofs.Closing.{closed_given, closed_made, if_ok_both, ok_on, one_more, step_past, step_within}
 use Rattle.prl_expand.proofs.Entering.{AreVariables, entered_apps, entered_given, entered_made, entered_next, entered_types, equations_past, node_found, node_variables, params_length, variables_past}
-use Rattle.prl_expand.proofs.Expressions.{apply_given, apply_made, apply_past, args_past, copied_are, drop_equations, err_and, expression_made, given_numbers, if_err, if_ok, import_apps, import_flows, import_next, import_past, import_types, node_apps, node_flows, node_given, node_next, node_past, on_ok, operators_past, var_given, var_types}
-use Rattle.prl_expand.proofs.Within.{args_fit, call_fits, node_few, outputs_some, ports_some, variables_few, deep as some_depth, equations_fit, few_nodes, import_below, levels_left, may_apply, parts_fit, right_fits, tree_fits, variable_at}
-use Rattle.prl_expand.proofs.Remaining.{parts_past, parts_step, rights_step}
+use Rattle.prl_expand.proofs.Expressions.{copied_are, drop_equations, err_and, if_err, if_ok, import_apps, import_flows, import_next, import_past, import_types, node_apps, node_flows, node_given, node_next, node_past, on_ok, var_given, var_types}
+use Rattle.prl_expand.proofs.Stepping.{at_next, whole_after}
+use Rattle.prl_expand.proofs.Within.{act_fits, call_fits, node_few, outputs_some, ports_some, tree_acts, variables_few, equations_fit, few_nodes, import_below, levels_left, may_apply, right_fits, variable_at}
+use Rattle.prl_expand.proofs.Remaining.{rights_step}
 use Rattle.prl_expand.proofs.nodes.+expansion.Goals as goal
-use Rattle.prl_expand.proofs.nodes.+expansion.Goals.{apply-After-program, apply-In-Some-Node, base-In-Apply, base-In-Group, enter-After-as_slice-terms, enter-After-node_at-node}
+use Rattle.prl_expand.proofs.nodes.+expansion.Goals.{apply-After-program, apply-In-Some-Node, base-In-Apply, enter-After-as_slice-terms, enter-After-node_at-node}
 
 -- the import that is applied
 is_import : (t : ℕ) (c : apply-After-program t) → callee_of (program_tree c.args.names.now) c.args.name.now ≡ Some (callees.Import c.in-Some-Import.k)
@@ -116,110 +119,9 @@ apply-returns-in_ok-sources-in-Some-Node-clause-limit t c =
     ∙ node_past p c.args.typed.now.types c.args.levels j (callee_of p c.args.name.now) c.args.name.now c.args.at [] [] c.args.made.now.next (is_node t d) (is_deep t d) in
     if_err c.enter.result _ _ (λ x past. subst (λ n. IsPast n x) number past) c.enter.ensures.limit
 
--- what an application, and a group, is as a tree
+-- what an application is as a tree
 root_apply : (t : ℕ) (c : base-In-Apply t) → root_of c.args.base.now ≡ apply c.in-Apply.name c.in-Apply.at (all_trees c.in-Apply.args.items)
 root_apply t c = ap root_of c.in-Apply.is ∙ root_of_Apply c.in-Apply.name c.in-Apply.at c.in-Apply.args
-
-root_group : (t : ℕ) (c : base-In-Group t) → root_of c.args.base.now ≡ group (all_trees c.in-Group.exprs.items)
-root_group t c = ap root_of c.in-Group.is ∙ root_of_Group c.in-Group.exprs
-
-pub base-returns-in_err-args-in-Apply-clause-limit : goal.base-returns-in_err-args-in-Apply-clause-limit
-base-returns-in_err-args-in-Apply-clause-limit t c =
-    let p = program_tree c.args.names.now in
-    let levels = c.args.levels in
-    let s = c.args.made.now.next in
-    let args = all_trees c.in-Apply.args.items in
-    let trees = ap all_trees c.deref.ensures.value in
-    let root = root_apply t (goal.at.base-returns-in_err-args-in-Apply-clause-limit t c).In-Apply in
-    let here = subst (λ ts. IsPast (s.flow + length (notes.parts_flows (all_parts p levels ts s))) c.in_err-args-in-Apply.field-0.0) trees c.in_err-args-in-Apply.ensures.limit in
-    let past = subst (λ r. IsPast (s.flow + length (notes.core_flows (a_core p levels r s))) c.in_err-args-in-Apply.field-0.0) (sym root)
-    (args_past p c.args.typed.now.types levels c.args.k (map flow_of c.args.env.now) c.in-Apply.name c.in-Apply.at c.args.place args s c.in_err-args-in-Apply.field-0.0 here) in
-    err_and c.from_residual-in_err-args-in-Apply.result _ _ (λ x same. subst (λ y. IsPast (s.flow + length (notes.core_flows (a_core p levels (root_of c.args.base.now) s))) y) (sym same) past) c.from_residual-in_err-args-in-Apply.ensures.1
-
-pub base-returns-in_ok-one_term-in-Var-clause-given : goal.base-returns-in_ok-one_term-in-Var-clause-given
-base-returns-in_ok-one_term-in-Var-clause-given t c =
-    let p = program_tree c.args.names.now in
-    let tys = c.args.typed.now.types in
-    let found = c.variable.ensures in
-    let is = sym (c.param-index.ensures ∙ ap (param_at p c.args.k) c.bytes.ensures.bytes) ∙ found.1 in
-    ap (map flow_of) c.in_ok-one_term-in-Var.ensures ∙ var_given p tys c.args.k c.args.env.now c.in-Var.name found.0 c.variable.result is found.2 c.requires.inside.there
-    ∙ ap (λ r. root_given (node_at p c.args.k) (map flow_of c.args.env.now) r (a_core p c.args.levels r c.args.made.now.next)) (sym (ap root_of c.in-Var.is))
-
-pub base-returns-in_ok-one_term-in-Var-clause-types : goal.base-returns-in_ok-one_term-in-Var-clause-types
-base-returns-in_ok-one_term-in-Var-clause-types t c =
-    let p = program_tree c.args.names.now in
-    let tys = c.args.typed.now.types in
-    let found = c.variable.ensures in
-    let is = sym (c.param-index.ensures ∙ ap (param_at p c.args.k) c.bytes.ensures.bytes) ∙ found.1 in
-    ap types_of c.in_ok-one_term-in-Var.ensures ∙ var_types p tys c.args.k c.args.env.now c.in-Var.name found.0 c.variable.result is found.2 c.requires.inside.types
-    ∙ ap (λ r. all_resolved tys (root_flows p c.args.k r)) (sym (ap root_of c.in-Var.is))
-
-pub base-returns-in_ok-args-in-Apply-clause-given : goal.base-returns-in_ok-args-in-Apply-clause-given
-base-returns-in_ok-args-in-Apply-clause-given t c =
-    let trees = ap all_trees c.deref.ensures.value in
-    let taken = c.in_ok-args-in-Apply.ensures.made.next_is ∙ ap (λ ts. past_parts c.args.made.now.next (all_parts (program_tree c.args.names.now) c.args.levels ts c.args.made.now.next)) trees in
-    rw (root_apply t (goal.at.base-returns-in_ok-args-in-Apply-clause-given t c).In-Apply)
-    (if_ok c.apply.result _ _ (λ terms e. e ∙ apply_given (program_tree c.args.names.now) c.args.typed.now.types c.args.levels c.args.k (map flow_of c.args.env.now) c.in-Apply.name c.in-Apply.at
-    c.args.place (all_trees c.in-Apply.args.items) c.args.made.now.next c.parts.new.made.next taken) c.apply.ensures.given)
-
-pub base-returns-in_ok-args-in-Apply-clause-made : goal.base-returns-in_ok-args-in-Apply-clause-made
-base-returns-in_ok-args-in-Apply-clause-made t c =
-    let p = program_tree c.args.names.now in
-    let tys = c.args.typed.now.types in
-    let env = map flow_of c.args.env.now in
-    let s = c.args.made.now.next in
-    let trees = ap all_trees c.deref.ensures.value in
-    let n = node_at p c.args.k in
-    let first = subst (λ ts. Adds c.args.made.now c.parts.new.made (flats.all_flows p tys c.args.k n env ts (all_parts p c.args.levels ts s))
-    (flats.all_apps p n env ts (all_parts p c.args.levels ts s))
-    (past_parts s (all_parts p c.args.levels ts s))) trees c.in_ok-args-in-Apply.ensures.made in
-    let given_are = c.in_ok-args-in-Apply.ensures.args ∙ ap (λ ts. arguments n env ts (all_parts p c.args.levels ts s)) trees in
-    rw (root_apply t (goal.at.base-returns-in_ok-args-in-Apply-clause-made t c).In-Apply)
-    (on_ok c.apply.result _ _ (λ second. apply_made p tys c.args.levels c.args.k env c.in-Apply.name c.in-Apply.at c.args.place (all_trees c.in-Apply.args.items) s c.args.made.now c.parts.new.made
-    c.apply.new.made c.in_ok-args-in-Apply.args.items first given_are second) c.apply.ensures.made)
-
-pub base-returns-in_ok-args-in-Apply-clause-limit : goal.base-returns-in_ok-args-in-Apply-clause-limit
-base-returns-in_ok-args-in-Apply-clause-limit t c =
-    let trees = ap all_trees c.deref.ensures.value in
-    let taken = c.in_ok-args-in-Apply.ensures.made.next_is ∙ ap (λ ts. past_parts c.args.made.now.next (all_parts (program_tree c.args.names.now) c.args.levels ts c.args.made.now.next)) trees in
-    rw (root_apply t (goal.at.base-returns-in_ok-args-in-Apply-clause-limit t c).In-Apply)
-    (if_err c.apply.result _ _ (λ x past. apply_past (program_tree c.args.names.now) c.args.typed.now.types c.args.levels c.args.k (map flow_of c.args.env.now) c.in-Apply.name c.in-Apply.at
-    c.args.place (all_trees c.in-Apply.args.items)
-    c.args.made.now.next c.parts.new.made.next x taken past) c.apply.ensures.limit)
-
-pub base-returns-in-Group-clause-given : goal.base-returns-in-Group-clause-given
-base-returns-in-Group-clause-given t c =
-    let p = program_tree c.args.names.now in
-    let env = map flow_of c.args.env.now in
-    let s = c.args.made.now.next in
-    rw (root_group t (goal.at.base-returns-in-Group-clause-given t c).In-Group)
-    (if_ok c.parts-in-Group.result _ _ (λ terms e. given_numbers p c.args.typed.now.types c.args.levels c.args.k env [] c.args.place c.args.place (all_trees c.in-Group.exprs.items) s terms.items
-    (e ∙ ap (λ ts. arguments (node_at p c.args.k) env ts (all_parts p c.args.levels ts s)) (ap all_trees c.deref-in-Group.ensures.value))) c.parts-in-Group.ensures.args)
-
-pub base-returns-in-Group-clause-types : goal.base-returns-in-Group-clause-types
-base-returns-in-Group-clause-types t c =
-    rw (root_group t (goal.at.base-returns-in-Group-clause-types t c).In-Group)
-    (if_ok c.parts-in-Group.result _ _ (λ terms e. e ∙ ap (λ ts. all_resolved c.args.typed.now.types (all_flows (program_tree c.args.names.now) c.args.k ts))
-    (ap all_trees c.deref-in-Group.ensures.value)) c.parts-in-Group.ensures.types)
-
-pub base-returns-in-Group-clause-made : goal.base-returns-in-Group-clause-made
-base-returns-in-Group-clause-made t c =
-    let p = program_tree c.args.names.now in
-    let env = map flow_of c.args.env.now in
-    let s = c.args.made.now.next in
-    let n = node_at p c.args.k in
-    rw (root_group t (goal.at.base-returns-in-Group-clause-made t c).In-Group)
-    (on_ok c.parts-in-Group.result _ _ (λ adds. subst (λ ts. Adds c.args.made.now c.parts-in-Group.new.made
-    (flats.all_flows p c.args.typed.now.types c.args.k n env ts (all_parts p c.args.levels ts s))
-    (flats.all_apps p n env ts (all_parts p c.args.levels ts s)) (past_parts s (all_parts p c.args.levels ts s))) (ap all_trees c.deref-in-Group.ensures.value) adds) c.parts-in-Group.ensures.made)
-
-pub base-returns-in-Group-clause-limit : goal.base-returns-in-Group-clause-limit
-base-returns-in-Group-clause-limit t c =
-    let p = program_tree c.args.names.now in
-    let s = c.args.made.now.next in
-    rw (root_group t (goal.at.base-returns-in-Group-clause-limit t c).In-Group)
-    (if_err c.parts-in-Group.result _ _ (λ x past. subst (λ ts. IsPast (s.flow + length (notes.parts_flows (all_parts p c.args.levels ts s))) x) (ap all_trees c.deref-in-Group.ensures.value)
-    past) c.parts-in-Group.ensures.limit)
 
 -- the node that is entered, and its variables
 node_there : (t : ℕ) (c : enter-After-node_at-node t) → slice_get (program_tree c.args.names.now).nodes c.args.k ≡ Some (node_tree c.node_at-node.result.now)
@@ -359,40 +261,6 @@ equations-loop-equation-preserved t c =
     rights_step p c.args.typed.now.types c.args.levels c.args.k (map flow_of c.args.env.now) c.loop-equation.pairs.items _ c.in_ok-terms.terms.items c.loop-equation.made c.expression.new.made c.args.made.now
     (equation_tree c.equation-item.result) _ _ (map equation_tree c.args.eqs.now) c.loop-equation.invariant rest longer c.in_ok-terms.ensures.args c.in_ok-terms.ensures.made
 
-pub expression-returns-clause-made : goal.expression-returns-clause-made
-expression-returns-clause-made t c =
-    let p = program_tree c.args.names.now in
-    let env = map flow_of c.args.env.now in
-    let e = c.args.expr.now in
-    on_ok c.operated.result _ _
-    (λ two. expression_made p c.args.typed.now.types c.args.levels c.args.k env e.pre (root_of e.base) e.post e.at c.args.made.now.next c.args.made.now c.base.new.made c.operated.new.made c.in_ok-of.of.items
-    c.in_ok-of.ensures.made c.in_ok-of.ensures.given c.in_ok-of.ensures.types two)
-    c.operated.ensures.made
-
-pub expression-returns-clause-limit : goal.expression-returns-clause-limit
-expression-returns-clause-limit t c =
-    let p = program_tree c.args.names.now in
-    let env = map flow_of c.args.env.now in
-    let e = c.args.expr.now in
-    if_err c.operated.result _ _
-    (λ x past. operators_past p c.args.typed.now.types c.args.levels c.args.k env e.pre (root_of e.base) e.post e.at c.args.made.now.next c.base.new.made x c.in_ok-of.ensures.made.next_is past)
-    c.operated.ensures.limit
-
-pub parts-loop-expr-preserved : goal.parts-loop-expr-preserved
-parts-loop-expr-preserved t c =
-    let p = program_tree c.args.names.now in
-    let rest = drop_trees c.args.exprs.now c.loop-expr.expr-index c.expr-item.result c.loop-expr-test.true c.expr-item.is in
-    parts_step p c.args.typed.now.types c.args.levels c.args.k (map flow_of c.args.env.now) c.loop-expr.list.items c.in_ok-terms.terms.items _ c.loop-expr.made c.expression.new.made c.args.made.now
-    (tree_of c.expr-item.result) _ _ (all_trees c.args.exprs.now) c.loop-expr.invariant rest c.in_ok-append.ensures.items c.in_ok-terms.ensures.args c.in_ok-terms.ensures.types c.in_ok-terms.ensures.made
-
-pub parts-returns-in_err-terms-clause-limit : goal.parts-returns-in_err-terms-clause-limit
-parts-returns-in_err-terms-clause-limit t c =
-    let p = program_tree c.args.names.now in
-    let rest = drop_trees c.args.exprs.now c.loop-expr.expr-index c.expr-item.result c.loop-expr-test.true c.expr-item.is in
-    let past = parts_past p c.args.typed.now.types c.args.levels c.args.k (map flow_of c.args.env.now) c.loop-expr.list.items c.loop-expr.made c.args.made.now (tree_of c.expr-item.result) _ _ (all_trees c.args.exprs.now)
-    c.in_err-terms.field-0.0 c.loop-expr.invariant rest c.in_err-terms.ensures.limit in
-    err_and c.from_residual.result _ _ (λ x same. subst (λ y. IsPast (c.args.made.now.next.flow + length (notes.parts_flows (all_parts p c.args.levels (all_trees c.args.exprs.now) c.args.made.now.next))) y) (sym same) past) c.from_residual.ensures.1
-
 pub apply-import_at-requires : goal.apply-import_at-requires
 apply-import_at-requires t c =
     subst (λ (x : Program). c.in-Some-Import.k < length x.imports) (sym c.program.ensures) (import_below (program_tree c.args.names.now) c.args.name.now c.in-Some-Import.k
@@ -403,6 +271,11 @@ apply-overflow_sub-levels t c =
     let p = program_tree c.args.names.now in
     let is = sym (c.callee.ensures ∙ ap (callee_of p) c.bytes.ensures.bytes) ∙ c.in-Some-Node.is ∙ ap Some c.in-Some-Node.field-0-is in
     omega (arith, levels_left p c.args.levels c.in-Some-Node.k (c.requires.fits.reach c.in-Some-Node.k is))
+
+pub apply-import-requires-clause-some : goal.apply-import-requires-clause-some
+apply-import-requires-clause-some t c =
+    let p = program_tree c.args.names.now in
+    ports_some p c.in-Some-Import.k c.import_at.result.now c.requires.sound (import_there t (goal.at.apply-import-requires-clause-some t c).After-program c.import_at.result.now c.import_at.ensures)
 
 pub apply-enter-requires : goal.apply-enter-requires
 apply-enter-requires t c =
@@ -436,68 +309,57 @@ base-variable-requires t c =
     let at = variable_at p c.args.k c.in-Var.name there.0 there.1 (subst (IsKnownRoot p c.args.k) (ap root_of c.in-Var.is) c.requires.fits.known) in
     (at.0, c.param-index.ensures ∙ ap (param_at p c.args.k) c.bytes.ensures.bytes ∙ at.1, omega (arith, at.2, c.requires.inside.count))
 
-pub base-parts-requires : goal.base-parts-requires
-base-parts-requires t c =
-    let p = program_tree c.args.names.now in
-    let args = all_trees c.in-Apply.args.items in
-    let trees = ap all_trees c.deref.ensures.value in
-    let fits = subst (RootFits p c.args.levels c.args.k c.args.depth) (root_apply t (goal.at.base-parts-requires t c).In-Apply) c.requires.fits in (
-      omega (arith, c.decreases),
-      (
-        c.requires.inside,
-        (
-          subst (TreesFit p c.args.levels c.args.k c.args.depth) (sym trees) (args_fit p c.args.levels c.args.k c.args.depth c.in-Apply.name c.in-Apply.at args fits),
-          c.requires.few,
-        ),
-      ),
-    )
-
 pub base-apply-requires : goal.base-apply-requires
 base-apply-requires t c =
     let p = program_tree c.args.names.now in
-    let fits = subst (RootFits p c.args.levels c.args.k c.args.depth) (root_apply t (goal.at.base-apply-requires t c).In-Apply) c.requires.fits in (
+    let fits = subst (RootFits p c.args.levels c.args.k) (root_apply t (goal.at.base-apply-requires t c).In-Apply) c.requires.fits in (
       omega (arith, c.decreases),
       (
         c.requires.inside.same,
         (
           c.requires.inside.sound,
-          (
-            call_fits p c.args.levels c.args.k c.args.depth c.in-Apply.name c.in-Apply.at (all_trees c.in-Apply.args.items) fits,
-            c.in_ok-args-in-Apply.ensures.made.few,
-          ),
+          (call_fits p c.args.levels c.args.k c.in-Apply.name c.in-Apply.at (all_trees c.in-Apply.args.items) fits, c.requires.few),
         ),
       ),
     )
 
-pub base-parts-requires-in-Group : goal.base-parts-requires-in-Group
-base-parts-requires-in-Group t c =
+pub base-returns-in_ok-one_term-in-Var-clause-given : goal.base-returns-in_ok-one_term-in-Var-clause-given
+base-returns-in_ok-one_term-in-Var-clause-given t c =
     let p = program_tree c.args.names.now in
-    let trees = ap all_trees c.deref-in-Group.ensures.value in
-    let fits = subst (RootFits p c.args.levels c.args.k c.args.depth) (root_group t (goal.at.base-parts-requires-in-Group t c).In-Group) c.requires.fits in (
-      omega (arith, c.decreases),
-      (
-        c.requires.inside,
-        (
-          subst (TreesFit p c.args.levels c.args.k c.args.depth) (sym trees) (parts_fit p c.args.levels c.args.k c.args.depth (all_trees c.in-Group.exprs.items) fits),
-          c.requires.few,
-        ),
-      ),
-    )
+    let tys = c.args.typed.now.types in
+    let w = site c.args.names.now tys c.args.levels c.args.k c.args.env.now in
+    let found = c.variable.ensures in
+    let is = sym (c.param-index.ensures ∙ ap (param_at p c.args.k) c.bytes.ensures.bytes) ∙ found.1 in
+    ap (map flow_of) c.in_ok-one_term-in-Var.ensures ∙ var_given p tys c.args.k c.args.env.now c.in-Var.name found.0 c.variable.result is found.2 c.requires.inside.there
+    ∙ ap (λ r. end_given w r (map flow_of c.args.parts.items) c.args.made.now.next) (sym (ap root_of c.in-Var.is))
 
-pub parts-expression-requires : goal.parts-expression-requires
-parts-expression-requires t c =
+pub base-returns-in_ok-one_term-in-Var-clause-types : goal.base-returns-in_ok-one_term-in-Var-clause-types
+base-returns-in_ok-one_term-in-Var-clause-types t c =
     let p = program_tree c.args.names.now in
-    let es = c.args.exprs.now in
-    let found = slice_get_read es (length es) c.loop-expr.expr-index c.expr-item.result refl c.loop-expr-test.true c.expr-item.is in (
-      omega (arith, c.decreases, some_depth p c.args.levels c.args.k c.args.depth (all_trees es) c.requires.fits),
-      (
-        c.requires.inside,
-        (
-          tree_fits p c.args.levels c.args.k c.args.depth es c.loop-expr.expr-index c.expr-item.result found c.requires.fits,
-          c.loop-expr.invariant.few,
-        ),
-      ),
-    )
+    let tys = c.args.typed.now.types in
+    let w = site c.args.names.now tys c.args.levels c.args.k c.args.env.now in
+    let found = c.variable.ensures in
+    let is = sym (c.param-index.ensures ∙ ap (param_at p c.args.k) c.bytes.ensures.bytes) ∙ found.1 in
+    ap types_of c.in_ok-one_term-in-Var.ensures ∙ var_types p tys c.args.k c.args.env.now c.in-Var.name found.0 c.variable.result is found.2 c.requires.inside.types
+    ∙ ap (λ r. end_types w r (types_of c.args.parts.items)) (sym (ap root_of c.in-Var.is))
+
+pub closed-returns-clause-given : goal.closed-returns-clause-given
+closed-returns-clause-given t c =
+    let w = site c.args.names.now c.args.typed.now.types c.args.levels c.args.k c.args.env.now in
+    let e = c.args.expr.now in
+    let base = c.in_ok-of.ensures in
+    if_ok_both c.operated.result _ _ _
+    (λ terms args kinds. closed_given w e.pre (root_of e.base) e.post e.at c.args.parts.items c.in_ok-of.of.items terms.items c.base.new.made.next c.args.made.now.next args kinds base.made.next_is base.given base.types)
+    c.operated.ensures.args c.operated.ensures.types
+
+pub closed-returns-clause-made : goal.closed-returns-clause-made
+closed-returns-clause-made t c =
+    let w = site c.args.names.now c.args.typed.now.types c.args.levels c.args.k c.args.env.now in
+    let e = c.args.expr.now in
+    let base = c.in_ok-of.ensures in
+    on_ok c.operated.result _ _
+    (λ two. closed_made w e.pre (root_of e.base) e.post e.at c.args.made.now c.base.new.made c.operated.new.made c.args.parts.items c.in_ok-of.of.items base.made base.given base.types two)
+    c.operated.ensures.made
 
 pub equations-expression-requires : goal.equations-expression-requires
 equations-expression-requires t c =
@@ -513,7 +375,74 @@ equations-expression-requires t c =
       ),
     )
 
-pub apply-import-requires-clause-some : goal.apply-import-requires-clause-some
-apply-import-requires-clause-some t c =
+pub expression-run-requires : goal.expression-run-requires
+expression-run-requires t c =
     let p = program_tree c.args.names.now in
-    ports_some p c.in-Some-Import.k c.import_at.result.now c.requires.sound (import_there t (goal.at.apply-import-requires-clause-some t c).After-program c.import_at.result.now c.import_at.ensures)
+    let acts = ap acts_of c.as_slice.ensures.value ∙ c.in_ok-steps.ensures in (
+      omega (arith, c.decreases),
+      (
+        c.requires.inside,
+        (
+          subst (AllByRecursion (ActFits p c.args.levels c.args.k)) (sym acts) (tree_acts p c.args.levels c.args.k (tree_of c.args.expr.now) c.requires.fits),
+          c.requires.few,
+        ),
+      ),
+    )
+
+pub expression-returns-clause-args : goal.expression-returns-clause-args
+expression-returns-clause-args t c =
+    let w = site c.args.names.now c.args.typed.now.types c.args.levels c.args.k c.args.env.now in
+    let st = start nothing [] c.args.made.now.next in
+    let end = ap (λ xs. after w xs st) (ap acts_of c.as_slice.ensures.value ∙ c.in_ok-steps.ensures) ∙ whole_after w (tree_of c.args.expr.now) st in
+    if_ok c.run.result _ _ (λ terms made. ap (λ (g : Given). g.args) (made.list_is ∙ ap (λ (x : Standing). x.list) end)) c.run.ensures.at
+
+pub expression-returns-clause-made : goal.expression-returns-clause-made
+expression-returns-clause-made t c =
+    let w = site c.args.names.now c.args.typed.now.types c.args.levels c.args.k c.args.env.now in
+    let st = start nothing [] c.args.made.now.next in
+    let end = ap (λ xs. after w xs st) (ap acts_of c.as_slice.ensures.value ∙ c.in_ok-steps.ensures) ∙ whole_after w (tree_of c.args.expr.now) st in
+    ok_on c.run.result _ _ (λ terms made. subst (λ (x : Standing). Adds c.args.made.now c.run.new.made x.flows x.apps x.next) end made.made) c.run.ensures.at
+
+pub expression-returns-clause-limit : goal.expression-returns-clause-limit
+expression-returns-clause-limit t c =
+    let w = site c.args.names.now c.args.typed.now.types c.args.levels c.args.k c.args.env.now in
+    let st = start nothing [] c.args.made.now.next in
+    let end = ap (λ xs. after w xs st) (ap acts_of c.as_slice.ensures.value ∙ c.in_ok-steps.ensures) ∙ whole_after w (tree_of c.args.expr.now) st in
+    if_err c.run.result _ _ (λ e past. subst (λ (x : Standing). IsPast x.next.flow e) end past) c.run.ensures.limit
+
+pub run-advance-requires : goal.run-advance-requires
+run-advance-requires t c =
+    let steps = c.args.steps.now in
+    let found = slice_get_read steps (length steps) c.loop-step.step-index c.step-item.result refl c.loop-step-test.true c.step-item.is in (
+      omega (arith, c.decreases),
+      (
+        c.requires.inside,
+        (
+          act_fits (program_tree c.args.names.now) c.args.levels c.args.k steps c.loop-step.step-index c.step-item.result found c.requires.fits,
+          c.loop-step.invariant.made.few,
+        ),
+      ),
+    )
+
+pub run-loop-step-preserved : goal.run-loop-step-preserved
+run-loop-step-preserved t c =
+    let w = site c.args.names.now c.args.typed.now.types c.args.levels c.args.k c.args.env.now in
+    let st = start nothing [] c.args.made.now.next in
+    let steps = c.args.steps.now in
+    let i = c.loop-step.step-index in
+    let x = c.step-item.result in
+    subst (λ (y : Standing). IsAt c.args.made.now y c.in_ok-list.list.items c.advance.new.around.items c.advance.new.made) (sym (one_more w steps i x c.loop-step-test.true c.step-item.is st))
+    (at_next w c.args.made.now c.loop-step.made c.advance.new.made (after w (acts_of (take i steps)) st) (act_of x) c.loop-step.list.items c.in_ok-list.list.items c.loop-step.around.items
+    c.advance.new.around.items c.loop-step.invariant c.in_ok-list.ensures.at)
+
+pub run-returns-in_err-list-clause-limit : goal.run-returns-in_err-list-clause-limit
+run-returns-in_err-list-clause-limit t c =
+    let w = site c.args.names.now c.args.typed.now.types c.args.levels c.args.k c.args.env.now in
+    let st = start nothing [] c.args.made.now.next in
+    let steps = c.args.steps.now in
+    let i = c.loop-step.step-index in
+    let x = c.step-item.result in
+    let count = (after w (acts_of steps) st).next.flow in
+    let past = step_past w (act_of x) (after w (acts_of (take i steps)) st) c.args.made.now c.loop-step.made c.loop-step.list.items c.loop-step.around.items count c.in_err-list.field-0.0
+    c.loop-step.invariant (step_within w steps i x c.loop-step-test.true c.step-item.is st) c.in_err-list.ensures.limit in
+    err_and c.from_residual.result _ _ (λ e same. subst (IsPast count) (sym same) past) c.from_residual.ensures.1
