@@ -1,5 +1,5 @@
 -- How many arguments of applications are placed.
-use Rattle.std.proofs.Common.{◌<◌, ℕ, Bool, true, List, length, set, ⊎_elim}
+use Rattle.std.proofs.Common.{◌<◌, ℕ, Bool, true, List, length, set}
 use Rattle.prl_flow.specs.Programs.{FlatProgram}
 use Rattle.prl_causal.specs.code.Parts.{AreSeen}
 use Rattle.prl_causal.proofs.Lists.{mark_kept}

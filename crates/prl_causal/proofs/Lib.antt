@@ -27,3 +27,4 @@ mod Runs
 mod Searching
 mod Sorting
 mod Unplaced
+mod Ranking

@@ -7,7 +7,7 @@ use Rattle.prl_base.specs.declared.operators.Clock.{Clock}
 use Rattle.prl_base.specs.declared.values.Ty.{Ty}
 use Rattle.prl_base.specs.declared.values.Value.{Value}
 use Rattle.prl_ast.specs.declared.declarations.Rate.{Rate}
-use Rattle.prl_body.specs.Vocabulary.{body_named, body_step, first_values, input_types, output_types, register_types, value_expressions, IsWellTyped, Expression, value}
+use Rattle.prl_body.specs.Vocabulary.{body_named, input_types, output_types, register_types, value_expressions, IsWellTyped, Expression, value}
 use Rattle.prl_body.specs.declared.bodies.CheckedBody.{CheckedBody}
 use Rattle.prl_body.specs.Bodies as steps
 use Rattle.prl_flow.specs.Vocabulary.{HaveBodies, nth_step, registers_before, values_at, dates_before, IsUpTo, value_at, FlatProgram, IsFlat, Rows, Rule, rated, constant, operator, applied, same}

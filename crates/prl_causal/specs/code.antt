@@ -1,4 +1,5 @@
 pub mod Parts
+pub mod Ranks
 pub mod Searches
 pub mod Sorting
 pub mod Sources

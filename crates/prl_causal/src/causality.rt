@@ -6,10 +6,12 @@ ghost use Rattle.prl_flow.specs.Uses.{HasNoCycle, IsCyclic, IsCycleLabel, IsOnCy
 ghost use Rattle.prl_causal.specs.Cycles.{IsCausalFault, IsFirst, IsFirstNamed, IsLabelOf};
 ghost use Rattle.prl_base.specs.declared.numbers.FlowNo.{FlowNo as AnyFlow};
 ghost use Rattle.prl_causal.specs.code.Parts.{IsWhole};
+ghost use Rattle.prl_causal.specs.code.Ranks.{AreUseRanks};
 ghost use Rattle.prl_causal.specs.code.Sources.{AreSources, AreUses, UsesBy};
 ghost use Rattle.prl_causal.specs.code.Ways.{HasWayBack};
 
 use crate::orders::order;
+use crate::ranks::{Ranks, find_ranks};
 use crate::searches::leads_back;
 use crate::sources::{Source, sources};
 use prl_base::{Label, Seq};
@@ -33,6 +35,13 @@ struct Uses<'a> {
     inside: &'a [Source],
 }
 
+/// The ranks along the uses of each kind.
+#[derive(Drop)]
+struct UseRanks {
+    undelayed: Ranks,
+    inside: Ranks,
+}
+
 /// Whether the label is a made one.
 fn is_made(label: &[u8]) -> bool
     ensures { result ≡ is_made label.now }
@@ -44,29 +53,36 @@ fn is_made(label: &[u8]) -> bool
 }
 
 /// Whether the flow is on a cycle.
-fn is_on_cycle(alloc: Global, uses: Uses<'_>, flow: usize) -> Result<bool, AllocError>
+fn is_on_cycle(
+    alloc: Global,
+    uses: Uses<'_>,
+    ranks: &UseRanks,
+    flow: usize,
+) -> Result<bool, AllocError>
     requires uses { AreUses uses }
+    requires ranks { AreUseRanks uses ranks.now }
     requires within { flow < length uses.flat.now.flows }
     ensures on { IfOk result (λ on. on ≡ true → IsOnCycle uses.entry.flat.now flow) }
     ensures off { IfOk result (λ on. on ≡ false → IsOnCycle uses.entry.flat.now flow → ⊥) }
 {
     let _flows = uses.flat.flows();
-    if leads_back(alloc, uses.flat, uses.undelayed, flow)? {
+    if leads_back(alloc, uses.flat, uses.undelayed, &ranks.undelayed, flow)? {
         return Ok(true);
     }
-    leads_back(alloc, uses.flat, uses.inside, flow)
+    leads_back(alloc, uses.flat, uses.inside, &ranks.inside, flow)
 }
 
 /// The lowest flow on a cycle that has a name.
-fn first_named(alloc: Global, uses: Uses<'_>) -> Result<Option<usize>, AllocError>
-    requires { AreUses uses }
+fn first_named(alloc: Global, uses: Uses<'_>, ranks: &UseRanks) -> Result<Option<usize>, AllocError>
+    requires uses { AreUses uses }
+    requires ranks { AreUseRanks uses ranks.now }
     ensures { IfOk result (λ found. MatchOption found ((i : ℕ) (flow : Flow) → IsCyclic uses.entry.flat.now i flow → is_made flow.label ≡ true) (IsFirstNamed uses.entry.flat.now)) }
 {
     for (i, flow) in uses.flat.flows().iter().enumerate() {
         if is_made(flow.label.bytes()) {
             continue;
         }
-        if is_on_cycle(alloc, uses, i)? {
+        if is_on_cycle(alloc, uses, ranks, i)? {
             return Ok(Some(i));
         }
     }
@@ -74,12 +90,13 @@ fn first_named(alloc: Global, uses: Uses<'_>) -> Result<Option<usize>, AllocErro
 }
 
 /// The lowest flow on a cycle.
-fn first(alloc: Global, uses: Uses<'_>) -> Result<Option<usize>, AllocError>
-    requires { AreUses uses }
+fn first(alloc: Global, uses: Uses<'_>, ranks: &UseRanks) -> Result<Option<usize>, AllocError>
+    requires uses { AreUses uses }
+    requires ranks { AreUseRanks uses ranks.now }
     ensures { IfOk result (λ found. MatchOption found ((i : ℕ) (flow : Flow) → IsCyclic uses.entry.flat.now i flow → ⊥) (IsFirst uses.entry.flat.now)) }
 {
     for i in 0..uses.flat.flows().len() {
-        if is_on_cycle(alloc, uses, i)? {
+        if is_on_cycle(alloc, uses, ranks, i)? {
             return Ok(Some(i));
         }
     }
@@ -94,15 +111,26 @@ fn label_of(alloc: Global, flat: &Flat, flow: usize) -> Result<Label, AllocError
     Label::new(alloc, flat.flows()[flow].label.bytes())
 }
 
+/// The ranks along the uses of each kind.
+fn use_ranks(alloc: Global, uses: Uses<'_>) -> Result<UseRanks, AllocError>
+    requires { AreUses uses }
+    ensures { IfOk result (AreUseRanks uses.entry) }
+{
+    let undelayed = find_ranks(alloc, uses.flat, uses.undelayed)?;
+    let inside = find_ranks(alloc, uses.flat, uses.inside)?;
+    Ok(UseRanks { undelayed, inside })
+}
+
 /// The label that tells of a cycle.
 fn cycle_label(alloc: Global, uses: Uses<'_>) -> Result<Label, AllocError>
     requires uses { AreUses uses }
     requires cycle { (i : ℕ) × IsOnCycle uses.flat.now i }
     ensures { IfOk result (IsCycleLabel uses.entry.flat.now) }
 {
-    match first_named(alloc, uses)? {
+    let ranks = use_ranks(alloc, uses)?;
+    match first_named(alloc, uses, &ranks)? {
         Some(flow) => label_of(alloc, uses.flat, flow),
-        None => match first(alloc, uses)? {
+        None => match first(alloc, uses, &ranks)? {
             Some(flow) => label_of(alloc, uses.flat, flow),
             None => unreachable!(),
         },

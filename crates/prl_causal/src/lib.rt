@@ -9,8 +9,10 @@ mod behaviours;
 mod causality;
 mod laws;
 mod orders;
+mod ranks;
 mod searches;
 mod sources;
+mod walks;
 
 pub use behaviours::{
     behaviours_are_of_their_states, programs_have_one_solution, rules_follow_marks,

@@ -2,9 +2,11 @@
 
 ghost use Rattle.std.specs.Prelude.{◌≡◌, ◌<◌, [], IfOk, false, length, true};
 ghost use Rattle.prl_flow.specs.Uses.{IsArgument, Leads};
+ghost use Rattle.prl_causal.specs.code.Ranks.{AreRanks};
 ghost use Rattle.prl_causal.specs.code.Searches.{Adds, AreOpened, IsList, IsSearch};
 ghost use Rattle.prl_causal.specs.code.Sources.{AreSources, AreWithin, IsAmong, IsSource, Names, UsesBy};
 
+use crate::ranks::{Ranks, rank_at, source_rank};
 use crate::sources::{Source, arguments};
 use prl_base::FlowNo;
 use prl_flow::{Arg, Flat};
@@ -107,18 +109,23 @@ fn follow(
     Ok(marks[from])
 }
 
-/// Whether uses lead from the flow back to it.
+/// Whether uses lead from the flow back to it. None do where it uses lower ranks alone.
 pub fn leads_back(
     alloc: Global,
     flat: &Flat,
     sources: &[Source],
+    ranks: &Ranks,
     from: usize,
 ) -> Result<bool, AllocError>
     requires sources { AreSources flat.now sources.now }
+    requires ranks { AreRanks flat.now sources.now ranks.now }
     requires within { from < length sources.now }
     ensures back { IfOk result (λ back. back ≡ true → Leads (UsesBy flat.now sources.now) from from) }
     ensures none { IfOk result (λ back. back ≡ false → Leads (UsesBy flat.now sources.now) from from → ⊥) }
 {
+    if source_rank(ranks, &sources[from]) < rank_at(ranks.flows.as_slice(), from) {
+        return Ok(false);
+    }
     let mut marks = vec![in alloc; false; sources.len()]?;
     let mut opened = vec![in alloc; false; flat.apps().len()]?;
     follow(
