@@ -1,9 +1,11 @@
 -- What a command comes to over known files is how its call ends.
 use Rattle.std.proofs.Common.{◌≡◌, ◌≤◌, ◌++◌, ℕ, Bool, List, [], ◌∷◌, drop, Option, Some, None, Result, refl, sym, ap, ◌∙◌, inl, inr, subst, arith}
-use Rattle.prl_endings.specs.Vocabulary.{IsAnswerOf, IsAnswerStop, IsTold, line_of, ran_of, status_of}
+use Rattle.std.proofs.lemmas.List.{append-nil}
+use Rattle.prl_calls.specs.Stops.{AsksFor}
+use Rattle.prl_endings.specs.Vocabulary.{AsksBy, files_of, IsAnswerOf, IsAnswerStop, IsTold, line_of, ran_of, status_of}
 use Rattle.prl_endings.specs.declared.endings.Ending.{Ending}
 use Rattle.prl_endings.specs.declared.endings.Status.{Status}
-use Rattle.prl_app.specs.Vocabulary.{Answers, Outside, Ends, IsEndOf, IsExact, IsOverrunOf, IsWrittenBy, Means, NoFault, NoneFailed, line_is}
+use Rattle.prl_app.specs.Vocabulary.{Answers, Outside, Ends, HasRead, IsEndOf, IsExact, IsOverrunOf, IsWrittenBy, Means, NoFault, NoneFailed, ReadsBy, line_is}
 use Rattle.prl_app.specs.code.Performed.{Performs}
 use Rattle.prl_endings.specs.declared.endings.Ending.TheVariants as endings
 use Rattle.prl_stages.specs.Vocabulary.{Folder, Given, IsContent, IsGiven, IsGivenIn, IsGivenTo, content_of, file_of, Comes, stages_of, HasOverrun}
@@ -130,14 +132,15 @@ exact_by law words old new (endings.Overrun plan stopped) cause folder known d a
 -- what a call says, from how it ended
 pub answers_by : OneEnd → (words : List (List ℕ)) (old new : Outside) (status : Status) (command : Option Command) (ending : Ending)
     → status.code ≡ status_of ending → status.ran ≡ ran_of ending → Ends words old new ending → line_is words command ending
-    → IsTold old.err new.err (line_of command ending) → new.files.folder ≡ old.files.folder → Answers words old new status
-answers_by law words old new status command ending code ran ends line told folder = record {
+    → IsTold old.err new.err (line_of command ending) → HasRead words old.files new.files ending → new.files.folder ≡ old.files.folder → Answers words old new status
+answers_by law words old new status command ending code ran ends line told read folder = record {
   ending = ending;
   code = code;
   ran = ran;
   ends = ends;
   told = subst (IsTold old.err new.err) line told;
   exact = exact_by law words old new ending ends;
+  read = read;
   folder = folder;
 }
 
@@ -192,3 +195,38 @@ overrun_ends words old new c asked mode several plan stopped of same none =
       same,
       none,
     )
+
+-- what a command has read whose text was written
+pub written_reads : (c : Command) (old new : FolderView) (out out' : SinkView) (text : List ℕ) (ran : Ran) (ending : Ending) → IsWrittenBy out out' text ran ending
+    → AsksFor old new c (files_of c.mode) → ReadsBy c old new ending
+written_reads c old new out out' text ran ending (inl h) asked = subst (ReadsBy c old new) (sym h.0) asked
+written_reads c old new out out' text ran ending (inr h) asked = subst (ReadsBy c old new) (sym h.0) asked
+
+-- the command of the words has read so
+pub read_by : (words : List (List ℕ)) (c : Command) → command_of words ≡ Some c → (old new : FolderView) (ending : Ending) → ReadsBy c old new ending → HasRead words old new ending
+read_by words c asked old new ending h = record {
+  none = λ none. absurd (none_some (command_of words) c none asked);
+  some = λ d is. subst (λ (x : Command). ReadsBy x old new ending) (some_same (command_of words) c d asked is) h;
+}
+
+-- words that are no command have read nothing
+pub read_none : (words : List (List ℕ)) → command_of words ≡ None → (old : FolderView) (ending : Ending) → HasRead words old old ending
+read_none words none old ending = record { none = λ _. refl; some = λ c is. absurd (none_some (command_of words) c none is) }
+
+nothing_asked : (mode : Mode) (old : FolderView) (c : Command) → AsksBy mode old old c stops.Memory
+nothing_asked modes.Check old c = (0, sym (append-nil old.asked))
+nothing_asked modes.Cores old c = (0, sym (append-nil old.asked))
+nothing_asked modes.Cycle old c = (0, sym (append-nil old.asked))
+nothing_asked modes.Edf old c = (0, sym (append-nil old.asked))
+nothing_asked modes.Flows old c = (0, sym (append-nil old.asked))
+nothing_asked modes.Plan old c = (0, sym (append-nil old.asked))
+nothing_asked modes.Print old c = (0, sym (append-nil old.asked))
+nothing_asked modes.Replay old c = (0, sym (append-nil old.asked))
+nothing_asked modes.Run old c = (0, sym (append-nil old.asked))
+nothing_asked modes.Schedule old c = (0, sym (append-nil old.asked))
+nothing_asked modes.Table old c = (0, sym (append-nil old.asked))
+nothing_asked modes.Generate old c = sym (append-nil old.asked)
+
+-- nothing was read before memory ran out
+pub read_nothing : (words : List (List ℕ)) (old : FolderView) → HasRead words old old (endings.Stopped stops.Memory)
+read_nothing words old = record { none = λ _. refl; some = λ c is. nothing_asked c.mode old c }

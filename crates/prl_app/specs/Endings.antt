@@ -20,6 +20,8 @@ use Rattle.prl_arguments.specs.declared.arguments.Command.{Command}
 use Rattle.prl_arguments.specs.Arguments.{command_of}
 use Rattle.prl_stages.specs.Given.{Folder, Given, IsGivenTo, file_of}
 use Rattle.prl_stages.specs.Stages.{stages_of, Comes}
+use Rattle.prl_calls.specs.Stops.{AsksFor}
+use Rattle.prl_endings.specs.Answers.{AsksBy, files_of}
 use Rattle.prl_endings.specs.ErrorLines.{line_of}
 use Rattle.prl_endings.specs.Statuses.{IsTold, ran_of, status_of}
 
@@ -127,6 +129,17 @@ IsExact words old new ending =
     Comes given (stages_of command) end → NoFault old new end →
     IsEndOf end ending ⊎ ((ending ≡ endings.Stopped stops.Memory) ⊎ ((end ≡ None) × IsOverrunOf command ending))
 
+-- which readings a command has asked for, by how its call ends: those of all files of its mode, each once and in order; or, where a file stops
+-- it, those up to this one
+abbrev pub ReadsBy : Command → FolderView → FolderView → Ending → Type 0
+ReadsBy c old new (endings.Stopped stop) = AsksBy c.mode old new c stop
+ReadsBy c old new ending = AsksFor old new c (files_of c.mode)
+
+-- the same of the command of the words; words that are no command ask for none
+pub record HasRead (words : List (List ℕ)) (old new : FolderView) (ending : Ending) : Type 0 where
+  pub none : command_of words ≡ None → new.asked ≡ old.asked
+  pub some : (c : Command) → command_of words ≡ Some c → ReadsBy c old new ending
+
 -- All that a call of the command with these words says, between two moments. `Done` is status 0, and each other ending
 -- has another status.
 pub record Answers (words : List (List ℕ)) (old new : Outside) (status : Status) : Type 0 where
@@ -136,4 +149,5 @@ pub record Answers (words : List (List ℕ)) (old new : Outside) (status : Statu
   pub ends : Ends words old new ending
   pub told : IsTold old.err new.err (line_of (command_of words) ending)
   pub exact : IsExact words old new ending
+  pub read : HasRead words old.files new.files ending
   pub folder : new.files.folder ≡ old.files.folder

@@ -6,7 +6,7 @@ ghost use Rattle.std.specs.String.{string_bytes};
 ghost use Rattle.prl_arguments.specs.Arguments.{AreInRange, command_of};
 ghost use Rattle.prl_endings.specs.ErrorLines.{line_of};
 ghost use Rattle.prl_endings.specs.Statuses.{IsTold, ran_of, status_of};
-ghost use Rattle.prl_app.specs.Endings.{Answers, AsksForThreads, Outside};
+ghost use Rattle.prl_app.specs.Endings.{Answers, AsksForThreads, HasRead, Outside, ReadsBy};
 ghost use Rattle.prl_app.specs.code.Performed.{IsWrittenBy, Performs, line_is};
 
 use prl_arguments::{Command, Mode, WordsFault, read_words};
@@ -52,6 +52,7 @@ fn perform<F: Files, S: Sink>(
     ensures ends { Performs (map string_bytes words.now) (F.seen files.old) (F.seen files.new)
         (S.seen out.old) (S.seen out.new) result }
     ensures kept { (F.seen files.new).folder ≡ (F.seen files.old).folder }
+    ensures read { ReadsBy command.now (F.seen files.old) (F.seen files.new) result }
 {
     match answer(alloc, files, command) {
         Ok((text, ran)) => written(out, &text, ran),
@@ -75,6 +76,7 @@ fn perform_alone<F: Files, S: Sink>(
         (S.seen out.old) (S.seen out.new) done.1) }
     ensures line { IfSome result (λ done. line_is (map string_bytes words.now) done.0 done.1) }
     ensures kept { (F.seen files.new).folder ≡ (F.seen files.old).folder }
+    ensures read { IfSome result (λ done. HasRead (map string_bytes words.now) (F.seen files.old) (F.seen files.new) done.1) }
 {
     let command = match read_words(alloc, words) {
         Ok(command) => command,
@@ -106,6 +108,7 @@ fn perform_run<R: Threads + Wait + Sync, F: Files, S: Sink, P: Probe>(
     ensures ends { Performs (map string_bytes words.now) (F.seen files.old) (F.seen files.new)
         (S.seen out.old) (S.seen out.new) result }
     ensures kept { (F.seen files.new).folder ≡ (F.seen files.old).folder }
+    ensures read { ReadsBy command.now (F.seen files.old) (F.seen files.new) result }
 {
     match answer_threads(rt, alloc, files, command, probe) {
         Ok(Outcome::Ended(text, ran)) => written(out, &text, ran),
@@ -128,6 +131,7 @@ fn perform_threads<R: Threads + Wait + Sync, F: Files, S: Sink, P: Probe>(
         (S.seen out.old) (S.seen out.new) result.1 }
     ensures line { line_is (map string_bytes words.now) result.0 result.1 }
     ensures kept { (F.seen files.new).folder ≡ (F.seen files.old).folder }
+    ensures read { HasRead (map string_bytes words.now) (F.seen files.old) (F.seen files.new) result.1 }
 {
     let command = match read_words(alloc, words) {
         Ok(command) => command,

@@ -119,3 +119,11 @@ decided (own ∷ name ∷ rest) asked e =
 -- words of no form are no command
 pub unformed : (words : List (List ℕ)) → asked_of words ≡ None → command_of words ≡ None
 unformed words e = ap (λ (o : Option (Values × Command)). o >>= λ asked. if all_fit asked.1.mode asked.0 then Some asked.1 else None) e
+
+-- the numbers of a command are in the ranges of its mode
+pub in_range : (words : List (List ℕ)) (c : Command) → command_of words ≡ Some c → AreInRange c.mode c.until c.workers c.size
+in_range words c e =
+    let asked = bound (asked_of words) (λ asked. if all_fit asked.1.mode asked.0 then Some asked.1 else None) c e in
+    let d = decided words asked.0 asked.1 in
+    let taken = cond_some (is_taken (faults_of asked.0.1.mode (drop 1 words))) asked.0.1 c (sym d.taken ∙ e) in
+    subst (λ (x : Command). AreInRange x.mode x.until x.workers x.size) taken.1 (d.range taken.0)

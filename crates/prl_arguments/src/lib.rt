@@ -5,6 +5,7 @@
 
 mod arguments;
 mod dashes;
+mod laws;
 mod options;
 mod told;
 mod wrongs;
@@ -14,6 +15,7 @@ pub use arguments::{
     mode_named, name_of, named_by, needed, option_named, read_words,
 };
 pub use dashes::{before_dashes, from_dashes};
+pub use laws::commands_are_in_range;
 pub use prl_rule::Gate;
 pub use told::words_told;
 pub use wrongs::{Look, Wrong};

@@ -1,4 +1,5 @@
 mod Contents
+pub mod Asked
 mod Found
 mod Inputs
 pub mod Schedules

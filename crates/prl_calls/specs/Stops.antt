@@ -1,5 +1,5 @@
 -- What the stages are asked about, and what their stops say.
-use Rattle.std.specs.Prelude.{◌≡◌, ◌≤◌, ◌++◌, ◌⊎◌, ℕ, Bool, true, false, List, [], ◌∷◌, Option, Some, None, is_some, length, Result, Ok, Err}
+use Rattle.std.specs.Prelude.{◌≡◌, ◌≤◌, ◌++◌, ◌⊎◌, ℕ, Bool, true, false, List, [], ◌∷◌, Option, Some, None, is_some, length, take, Result, Ok, Err}
 use Rattle.prl_io.specs.Views.{FolderView}
 use Rattle.prl_calls.specs.declared.reading.Request.{Request}
 use Rattle.prl_calls.specs.declared.reading.Texts.{Texts}
@@ -11,7 +11,7 @@ use Rattle.prl_stages.specs.declared.sizes.TheConstants.{MAX_BODIES}
 use Rattle.prl_arguments.specs.declared.arguments.Command.{Command}
 use Rattle.prl_stages.specs.declared.faults.InputFile.{InputFile}
 use Rattle.prl_stages.specs.declared.stages.Stage.TheVariants as stages
-use Rattle.prl_stages.specs.Given.{Folder, Given, IsContent, IsGiven, file_of}
+use Rattle.prl_stages.specs.Given.{Folder, Given, IsContent, IsGiven, all_files, file_of, names_of, up_to}
 use Rattle.prl_stages.specs.Stages.{Holds, Refuses, Comes, files}
 
 -- what the texts give, where a schedule is named or not, with this node and date
@@ -87,6 +87,25 @@ IsFileStop old new part name (stops.Unread at) =
 IsFileStop old new part name (stops.Refused stage fault) =
     (stage ≡ stages.File part) × IsContent old.folder part name (Err fault) × (new.failed ≡ old.failed)
 IsFileStop old new part name stops.Memory = new.failed ≡ old.failed
+
+-- the readings that were asked for are these more, one after the other: those of these files of the command
+abbrev pub AsksFor : FolderView → FolderView → Command → List InputFile → Type 0
+AsksFor old new c list = new.asked ≡ old.asked ++ names_of c list
+
+-- those of the first few files, in order
+abbrev pub AsksForFirst : FolderView → FolderView → Command → Type 0
+AsksForFirst old new c = (count : ℕ) × AsksFor old new c (take count all_files)
+
+-- which readings were asked for where a command stops: those up to the file that is told, those of all files where a later stage
+-- refuses, and some first ones where memory ran out
+abbrev pub AsksAt : FolderView → FolderView → Command → Stage → Type 0
+AsksAt old new c (stages.File part) = AsksFor old new c (up_to part)
+AsksAt old new c stage = AsksFor old new c all_files
+
+abbrev pub AsksTo : FolderView → FolderView → Command → Stop → Type 0
+AsksTo old new c (stops.Unread part) = AsksFor old new c (up_to part)
+AsksTo old new c (stops.Refused stage fault) = AsksAt old new c stage
+AsksTo old new c stops.Memory = AsksForFirst old new c
 
 -- the same of one of the files of a command, when those before it were read
 abbrev pub IsStopOfFiles : FolderView → FolderView → Command → Stop → Type 0

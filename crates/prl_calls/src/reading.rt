@@ -1,8 +1,9 @@
 //! The files of a command, which are read first.
 
-ghost use Rattle.std.specs.Prelude.{◌≡◌, ◌≤◌, ℕ, List, Ok, IfOk, IfErr, is_some, length};
-ghost use Rattle.prl_stages.specs.Given.{IsContent, IsGiven, most_of};
-ghost use Rattle.prl_calls.specs.Stops.{texts_give, IsRequestOf, IsFileStop, IsStopOfFiles};
+ghost use Rattle.std.specs.Prelude.{◌≡◌, ◌≤◌, ◌++◌, ℕ, List, [], Ok, IfOk, IfErr, drop, is_some, length, take};
+ghost use Rattle.prl_io.specs.Views.{FolderView};
+ghost use Rattle.prl_stages.specs.Given.{IsContent, IsGiven, all_files, most_of, named_first};
+ghost use Rattle.prl_calls.specs.Stops.{texts_give, AsksFor, AsksTo, IsRequestOf, IsFileStop, IsStopOfFiles};
 ghost use Rattle.prl_calls.specs.code.Texts.{AreFirst, AreLater};
 
 use prl_arguments::Command;
@@ -43,6 +44,7 @@ fn read_part<F: Files>(
     ensures failed { IfOk result (λ _. (F.seen files.new).failed ≡ (F.seen files.old).failed) }
     ensures stop { IfErr result (IsFileStop (F.seen files.old) (F.seen files.new) part name.now) }
     ensures kept { (F.seen files.new).folder ≡ (F.seen files.old).folder }
+    ensures asked { (F.seen files.new).asked ≡ (F.seen files.old).asked ++ named_first name.now [] }
 {
     let Some(name) = name else {
         return Ok(Vec::new(alloc));
@@ -68,6 +70,8 @@ fn first_texts<F: Files>(
     ensures stop { IfErr result (IsStopOfFiles (F.seen files.old) (F.seen files.new) command.now) }
     ensures failed { IfOk result (λ _. (F.seen files.new).failed ≡ (F.seen files.old).failed) }
     ensures kept { (F.seen files.new).folder ≡ (F.seen files.old).folder }
+    ensures asked { IfOk result (λ _. AsksFor (F.seen files.old) (F.seen files.new) command.now (take 3 all_files)) }
+    ensures asks { IfErr result (AsksTo (F.seen files.old) (F.seen files.new) command.now) }
 {
     let program = read_part(alloc, files, InputFile::Program, &command.program)?;
     let bodies = read_part(alloc, files, InputFile::Bodies, &command.bodies)?;
@@ -86,6 +90,9 @@ fn later_texts<F: Files>(
         → IfErr result (IsStopOfFiles (F.seen files.old) (F.seen files.new) command.now) }
     ensures failed { IfOk result (λ _. (F.seen files.new).failed ≡ (F.seen files.old).failed) }
     ensures kept { (F.seen files.new).folder ≡ (F.seen files.old).folder }
+    ensures asked { IfOk result (λ _. AsksFor (F.seen files.old) (F.seen files.new) command.now (drop 3 all_files)) }
+    ensures asks { (before : FolderView) → AsksFor before (F.seen files.old) command.now (take 3 all_files) →
+        IfErr result (AsksTo before (F.seen files.new) command.now) }
 {
     let schedule = read_part(alloc, files, InputFile::Schedule, &command.schedule)?;
     let table = read_part(alloc, files, InputFile::Table, &command.table)?;
@@ -101,6 +108,8 @@ fn read_texts<F: Files>(alloc: Global, files: &mut F, command: &Command) -> Resu
     ensures stop { IfErr result (IsStopOfFiles (F.seen files.old) (F.seen files.new) command.now) }
     ensures failed { IfOk result (λ _. (F.seen files.new).failed ≡ (F.seen files.old).failed) }
     ensures kept { (F.seen files.new).folder ≡ (F.seen files.old).folder }
+    ensures asked { IfOk result (λ _. AsksFor (F.seen files.old) (F.seen files.new) command.now all_files) }
+    ensures asks { IfErr result (AsksTo (F.seen files.old) (F.seen files.new) command.now) }
 {
     let first = first_texts(alloc, files, command)?;
     match later_texts(alloc, files, command) {
@@ -141,6 +150,8 @@ pub fn read_request<F: Files>(
     ensures stop { IfErr result (IsStopOfFiles (F.seen files.old) (F.seen files.new) command.now) }
     ensures failed { IfOk result (λ _. (F.seen files.new).failed ≡ (F.seen files.old).failed) }
     ensures kept { (F.seen files.new).folder ≡ (F.seen files.old).folder }
+    ensures asked { IfOk result (λ _. AsksFor (F.seen files.old) (F.seen files.new) command.now all_files) }
+    ensures asks { IfErr result (AsksTo (F.seen files.old) (F.seen files.new) command.now) }
 {
     let texts = read_texts(alloc, files, command)?;
     match copied(alloc, &command.node) {

@@ -1,7 +1,7 @@
 -- What answers a command: its files, its stages, and what its mode means.
-use Rattle.prl_base.proofs.Standard.{◌≡◌, ◌++◌, ℕ, Bool, List, ◌∷◌, Option, Some, None, refl, sym, ap, ◌∙◌, subst, append_assoc, is_some}
+use Rattle.prl_base.proofs.Standard.{◌≡◌, ◌++◌, ℕ, Bool, List, ◌∷◌, Option, Some, None, Result, Ok, Err, IfErr, refl, sym, ap, ◌∙◌, subst, append_assoc, append-nil, is_some}
 use Rattle.prl_io.specs.Views.{FolderView}
-use Rattle.prl_stages.specs.Vocabulary.{IsMeant, IsMeantIn, IsSummary, Folder, Given, IsGiven, IsGivenIn, generated, Comes, files, front, ran, stages_after, stages_of}
+use Rattle.prl_stages.specs.Vocabulary.{IsMeant, IsMeantIn, IsSummary, Folder, Given, IsGiven, IsGivenIn, generated, Comes, all_files, files, front, ran, stages_after, stages_of}
 use Rattle.prl_stages.specs.declared.stages.Stage.{Stage}
 use Rattle.prl_stages.specs.declared.stages.Stop.{Stop}
 use Rattle.prl_stages.specs.declared.ran.Ran.{Ran}
@@ -13,8 +13,8 @@ use Rattle.prl_arguments.specs.declared.arguments.Mode.{Mode}
 use Rattle.prl_arguments.specs.declared.arguments.Mode.TheVariants as modes
 use Rattle.prl_executions.specs.declared.running.Outcome.{Outcome}
 use Rattle.prl_executions.specs.declared.running.Outcome.TheVariants as outcomes
-use Rattle.prl_endings.specs.Vocabulary.{IsAnswer, IsAnswerOf, IsAnswerStop, HasFiles}
-use Rattle.prl_calls.specs.Stops.{IsReached, given_of, IsRequestOf, StopsIn, AllHold, IsStopOfFiles}
+use Rattle.prl_endings.specs.Vocabulary.{AsksBy, IsAnswer, IsAnswerOf, IsAnswerStop, HasFiles, files_of}
+use Rattle.prl_calls.specs.Stops.{AsksFor, AsksTo, IsReached, given_of, IsRequestOf, StopsIn, AllHold, IsStopOfFiles}
 use Rattle.prl_executions.specs.Ready.{IsOutcome}
 use Rattle.prl_calls.proofs.Stops.{stops_comes, stops_unread, hold_comes, after_holds, first_refused}
 
@@ -118,3 +118,44 @@ generated_stop c mode r given (stops.Refused stage fault) k old =
       refl,
     )
 generated_stop c mode r given stops.Memory k old = refl
+
+-- a mode that has files reads all of them
+pub asked_by_files : (mode : Mode) → HasFiles mode → (old new : FolderView) (c : Command) → AsksFor old new c all_files → AsksFor old new c (files_of mode)
+asked_by_files modes.Check has old new c h = h
+asked_by_files modes.Cores has old new c h = h
+asked_by_files modes.Cycle has old new c h = h
+asked_by_files modes.Edf has old new c h = h
+asked_by_files modes.Flows has old new c h = h
+asked_by_files modes.Plan has old new c h = h
+asked_by_files modes.Print has old new c h = h
+asked_by_files modes.Replay has old new c h = h
+asked_by_files modes.Run has old new c h = h
+asked_by_files modes.Schedule has old new c h = h
+asked_by_files modes.Table has old new c h = h
+asked_by_files modes.Generate has old new c h = absurd has
+
+pub asks_by_files : (mode : Mode) → HasFiles mode → (old new : FolderView) (c : Command) (stop : Stop) → AsksTo old new c stop → AsksBy mode old new c stop
+asks_by_files modes.Check has old new c stop h = h
+asks_by_files modes.Cores has old new c stop h = h
+asks_by_files modes.Cycle has old new c stop h = h
+asks_by_files modes.Edf has old new c stop h = h
+asks_by_files modes.Flows has old new c stop h = h
+asks_by_files modes.Plan has old new c stop h = h
+asks_by_files modes.Print has old new c stop h = h
+asks_by_files modes.Replay has old new c stop h = h
+asks_by_files modes.Run has old new c stop h = h
+asks_by_files modes.Schedule has old new c stop h = h
+asks_by_files modes.Table has old new c stop h = h
+asks_by_files modes.Generate has old new c stop h = absurd has
+
+-- `generate` reads none
+pub none_asked : (mode : Mode) → mode ≡ modes.Generate → (old : FolderView) (c : Command) → AsksFor old old c (files_of mode)
+none_asked mode is old c = subst (λ (m : Mode). AsksFor old old c (files_of m)) (sym is) (sym (append-nil old.asked))
+
+pub none_asks : (mode : Mode) → mode ≡ modes.Generate → (old : FolderView) (c : Command) (stop : Stop) → AsksBy mode old old c stop
+none_asks mode is old c stop = subst (λ (m : Mode). AsksBy m old old c stop) (sym is) (sym (append-nil old.asked))
+
+-- what holds of faults
+pub err_map : {X F : Type 0} (r : Result X F) (P Q : F → Type 0) → ((e : F) → P e → Q e) → IfErr r P → IfErr r Q
+err_map (Ok x) P Q f h = tt
+err_map (Err e) P Q f h = f e h

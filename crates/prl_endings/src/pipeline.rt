@@ -2,9 +2,9 @@
 
 ghost use Rattle.std.specs.Prelude.{◌≡◌, ◌<◌, ◌≤◌, ◌^◌, IfOk, IfErr, length};
 ghost use Rattle.prl_arguments.specs.Arguments.{AreInRange};
-ghost use Rattle.prl_calls.specs.Stops.{given_of, Passes};
+ghost use Rattle.prl_calls.specs.Stops.{given_of, AsksFor, Passes};
 ghost use Rattle.prl_stages.specs.Vocabulary.{IsMeant, stages_after, IsText};
-ghost use Rattle.prl_endings.specs.Answers.{IsAnswer, IsAnswerOf, IsAnswerStop};
+ghost use Rattle.prl_endings.specs.Answers.{AsksBy, IsAnswer, IsAnswerOf, IsAnswerStop, files_of};
 ghost use Rattle.prl_endings.specs.code.Modes.{HasFiles, KeepsTexts};
 
 use crate::generated::generated_text;
@@ -69,6 +69,8 @@ pub fn answer<F: Files>(
     ensures stop { IfErr result (IsAnswerStop (F.seen files.old) (F.seen files.new) command.now) }
     ensures failed { IfOk result (λ _. (F.seen files.new).failed ≡ (F.seen files.old).failed) }
     ensures kept { (F.seen files.new).folder ≡ (F.seen files.old).folder }
+    ensures asked { IfOk result (λ _. AsksFor (F.seen files.old) (F.seen files.new) command.now (files_of command.now.mode)) }
+    ensures asks { IfErr result (AsksBy command.now.mode (F.seen files.old) (F.seen files.new) command.now) }
 {
     if command.mode == Mode::Generate {
         return generated_text(alloc, command);
@@ -92,6 +94,8 @@ pub fn answer_threads<R: Threads + Wait + Sync, F: Files, P: Probe>(
     ensures stop { IfErr result (IsAnswerStop (F.seen files.old) (F.seen files.new) command.now) }
     ensures failed { IfOk result (λ _. (F.seen files.new).failed ≡ (F.seen files.old).failed) }
     ensures kept { (F.seen files.new).folder ≡ (F.seen files.old).folder }
+    ensures asked { IfOk result (λ _. AsksFor (F.seen files.old) (F.seen files.new) command.now (files_of command.now.mode)) }
+    ensures asks { IfErr result (AsksBy command.now.mode (F.seen files.old) (F.seen files.new) command.now) }
 {
     let request = read_request(alloc, files, command)?;
     run_outcome(rt, alloc, &request, command.clock, command.workers, probe)

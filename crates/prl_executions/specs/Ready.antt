@@ -46,7 +46,7 @@ IsTextOf g r gate text ran = (e : Execution g) × (r ≡ ready_of g e) × IsRunO
 pub record IsDrivenTextOf (g : Given) (r : Ready) (entries : List Entry) (text : List ℕ) (ran : Ran) : Type 0 where
   pub closed : ClosedView
   pub ticks : List (List (Option ℕ))
-  pub driven : ran ≡ runs.Driven closed ticks
+  pub driven : ran ≡ runs.Driven (closed, ticks)
   pub of : IsTextOf g r gates.Gated text (runs.Ended closed)
   pub by : AreAllNoted (constants_of r.plan r.horizon) (last_unit r.plan.graph entries) ticks
 

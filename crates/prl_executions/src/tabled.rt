@@ -18,12 +18,12 @@ ghost use Rattle.prl_executions.specs.code.Faults.{AreOfTask};
 use crate::ready::{Ready, make_ready};
 use crate::running::text_of;
 use prl_arguments::Gate;
-use prl_board::{Closed, Steps};
+use prl_board::Steps;
 use prl_calls::{Request, task_name};
 use prl_plan::{Plan, TaskGraph, plan_is_one};
 use prl_stages::{Fault, MAX_BODIES, MAX_PROGRAM, Ran, Stage, Stop, TableRefusal};
 use prl_table::{
-    Checked, Noted, Table, TableFault, check_table, drive, read_table, unrolled_table_is_gated,
+    Checked, Table, TableFault, TableRun, check_table, drive, read_table, unrolled_table_is_gated,
 };
 use std::alloc::{AllocError, Global};
 use std::marker::Brand;
@@ -78,7 +78,7 @@ fn driven<L: Ledger>(
     ready: &Ready,
     table: &Checked<'_>,
     blank: Blank,
-) -> Result<(Closed, Noted), AllocError>
+) -> Result<TableRun, AllocError>
     requires horizon { IsHorizon ready.now.plan ready.now.horizon }
     requires bodies { HaveTaskBodies ready.now.plan.graph ready.now.bodies }
     requires rows { HaveTypedRows ready.now.plan.graph ready.now.horizon.until ready.now.sensors }
@@ -113,9 +113,9 @@ fn driven_text(
     ensures { IfOk result (λ made. IsDrivenTextOf (given_of request.now) ready.now table.now.entries made.0.items made.1) }
 {
     let blank = Blank::new(1);
-    let (closed, noted) = driven::<Brand>(alloc, ready, table, blank)?;
-    let text = text_of(alloc, request, ready, Gate::Gated, &closed)?;
-    Ok((text, Ran::Driven(closed, noted)))
+    let run = driven::<Brand>(alloc, ready, table, blank)?;
+    let text = text_of(alloc, request, ready, Gate::Gated, run.closed())?;
+    Ok((text, Ran::Driven(run)))
 }
 
 /// Mode `cycle`.

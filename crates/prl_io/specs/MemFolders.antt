@@ -6,16 +6,17 @@ use Rattle.prl_io.specs.declared.reading.FileFault.TheVariants as faults
 use Rattle.prl_io.specs.Numbering.{following, fails_at}
 use Rattle.prl_io.specs.Folders.{reading_of}
 
--- the files by name and bytes, the numbers of the calls that fail, the number of the next call, and the names of the
--- readings that failed
+-- the files by name and bytes, the numbers of the calls that fail, the number of the next call, the names of all readings, in
+-- order, and the names of those that failed
 pub record MemFolder : Type 0 where
   pub entries : List (List ℕ × List ℕ)
   pub fails : List ℕ
   pub next : Option ℕ
+  pub asked : List (List ℕ)
   pub failed : List (List ℕ)
 
 abbrev pub fresh_folder : List (List ℕ × List ℕ) → List ℕ → MemFolder
-fresh_folder entries fails = record { entries = entries; fails = fails; next = Some 0; failed = [] }
+fresh_folder entries fails = record { entries = entries; fails = fails; next = Some 0; asked = []; failed = [] }
 
 -- the bytes of the first entry of this name
 abbrev pub held : List (List ℕ × List ℕ) → List ℕ → Option (List ℕ)
@@ -36,5 +37,6 @@ abbrev pub after_read : MemFolder → List ℕ → MemFolder
 after_read folder name =
     record folder {
       next = following folder.next;
+      asked = folder.asked ++ (name ∷ []);
       failed = folder.failed ++ (if refuses folder then name ∷ [] else []);
     }

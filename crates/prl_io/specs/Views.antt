@@ -2,9 +2,11 @@
 use Rattle.std.specs.Prelude.{◌≡◌, ◌≤◌, ◌<◌, ◌+◌, ℕ, List, Option}
 use Rattle.prl_io.specs.Growth.{appended, AppendsFront}
 
--- the bytes of each file by its name, where that is known; and the names of the readings that failed, in order
+-- the bytes of each file by its name, where that is known; the names of the readings that were asked for, in order; and the
+-- names of those that failed
 pub record FolderView : Type 0 where
   pub folder : Option (List ℕ → Option (List ℕ))
+  pub asked : List (List ℕ)
   pub failed : List (List ℕ)
 
 -- the bytes that were written, where they are known; and how many faults there were

@@ -2,7 +2,7 @@
 
 ghost use Rattle.std.specs.Prelude.{◌≡◌, ◌≤◌, [], IfOk, None, vec_len};
 
-use super::failures::Failures;
+use super::mentions::Mentions;
 use super::reading::{FileFault, Files};
 use prl_base::Label;
 use std::alloc::Global;
@@ -16,17 +16,20 @@ use std::rt::Runtime;
 #[derive(Drop)]
 pub struct HostFiles<'a, R: Runtime> {
     rt: &'a R,
-    failed: Failures,
+    asked: Mentions,
+    failed: Mentions,
 }
 
 impl<'a, R: Runtime> HostFiles<'a, R> {
     /// The files that this runtime reaches. It takes no memory.
     pub fn new(rt: &'a R) -> HostFiles<'a, R>
-        ensures { (⟦<HostFiles<'a, R> as Files>⟧.seen result).failed ≡ [] }
+        ensures asked { (⟦<HostFiles<'a, R> as Files>⟧.seen result).asked ≡ [] }
+        ensures failed { (⟦<HostFiles<'a, R> as Files>⟧.seen result).failed ≡ [] }
     {
         HostFiles {
             rt,
-            failed: Failures::new(),
+            asked: Mentions::new(),
+            failed: Mentions::new(),
         }
     }
 }
@@ -59,12 +62,13 @@ fn read_at<R: Runtime>(alloc: Global, rt: &R, name: &Label, most: u64) -> Result
 }
 
 impl<R: Runtime> Files for HostFiles<'_, R> {
-    ghost seen = { λ f. record { folder = None; failed = f.failed.all } };
+    ghost seen = { λ f. record { folder = None; asked = f.asked.all; failed = f.failed.all } };
 
     fn read(&mut self, alloc: Global, name: &Label, most: u64) -> Result<Vec<u8>, FileFault> {
+        self.asked = Mentions::one_more(&self.asked, name.bytes());
         let answer = read_at(alloc, self.rt, name, most);
         if answer == Err(FileFault::Failed) {
-            self.failed = Failures::one_more(&self.failed, name.bytes());
+            self.failed = Mentions::one_more(&self.failed, name.bytes());
         }
         answer
     }

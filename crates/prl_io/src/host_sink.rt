@@ -2,7 +2,7 @@
 
 ghost use Rattle.std.specs.Prelude.{None, ◌≡◌, ◌+◌, length};
 
-use super::failures::Failures;
+use super::mentions::Mentions;
 use super::writing::{Failed, Sink};
 use std::io::Write;
 
@@ -11,7 +11,7 @@ use std::io::Write;
 #[derive(Drop)]
 pub struct HostSink<W: Write + Drop> {
     writer: W,
-    failed: Failures,
+    failed: Mentions,
 }
 
 impl<W: Write + Drop> HostSink<W> {
@@ -21,14 +21,14 @@ impl<W: Write + Drop> HostSink<W> {
     {
         HostSink {
             writer,
-            failed: Failures::new(),
+            failed: Mentions::new(),
         }
     }
 
     fn fault(&mut self, piece: &[u8]) -> Failed
         ensures { length self.new.failed.all ≡ length self.old.failed.all + 1 }
     {
-        self.failed = Failures::one_more(&self.failed, piece);
+        self.failed = Mentions::one_more(&self.failed, piece);
         Failed
     }
 }

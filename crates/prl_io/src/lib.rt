@@ -6,13 +6,13 @@
 #![tactic(auto)]
 
 mod endings;
-mod failures;
 mod faults;
 mod host_files;
 mod host_sink;
 mod host_words;
 mod mem_files;
 mod mem_sink;
+mod mentions;
 mod named_files;
 mod numbering;
 mod probing;

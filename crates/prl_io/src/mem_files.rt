@@ -6,7 +6,7 @@ ghost use Rattle.prl_io.specs.Folders.{file_fault};
 ghost use Rattle.std.specs.Option.{option_copied};
 ghost use Rattle.prl_io.specs.MemFolders.{held};
 
-use super::failures::Failures;
+use super::mentions::Mentions;
 use super::numbering::Calls;
 use super::reading::{FileFault, Files};
 use prl_base::Label;
@@ -19,7 +19,8 @@ use std::marker::Model;
 pub struct MemFiles {
     entries: Vec<(Label, Vec<u8>)>,
     calls: Calls,
-    failed: Failures,
+    asked: Mentions,
+    failed: Mentions,
 }
 
 impl Model for MemFiles {
@@ -32,6 +33,7 @@ impl Model for MemFiles {
       entries = map (λ entry. (entry.0, entry.1.items)) m.entries.items;
       fails = m.calls.fails.items;
       next = m.calls.next;
+      asked = m.asked.all;
       failed = m.failed.all;
     } };
 }
@@ -46,7 +48,8 @@ impl MemFiles {
         MemFiles {
             entries,
             calls: Calls::new(fails),
-            failed: Failures::new(),
+            asked: Mentions::new(),
+            failed: Mentions::new(),
         }
     }
 }
@@ -54,16 +57,18 @@ impl MemFiles {
 impl Files for MemFiles {
     ghost use Rattle.prl_io.specs.MemFolders.{read_in, after_read};
 
-    ghost seen = { λ m. record { folder = Some (held m.entries); failed = m.failed } };
+    ghost seen = { λ m. record { folder = Some (held m.entries); asked = m.asked; failed = m.failed } };
 
     fn read(&mut self, alloc: Global, name: &Label, most: u64) -> Result<Vec<u8>, FileFault>
         ensures answer { Gives vec_items file_fault result (read_in self.old name.now most) }
         ensures state { self.new ≡ after_read self.old name.now }
+        ensures asked { self.new.asked ≡ self.old.asked ++ (name.now ∷ []) }
         ensures failed { result ≡ Err FileFault.Failed → self.new.failed ≡ self.old.failed ++ (name.now ∷ []) }
         ensures others { result ≢ Err FileFault.Failed → self.new.failed ≡ self.old.failed }
     {
+        self.asked = Mentions::one_more(&self.asked, name.bytes());
         if self.calls.fails_now() {
-            self.failed = Failures::one_more(&self.failed, name.bytes());
+            self.failed = Mentions::one_more(&self.failed, name.bytes());
             return Err(FileFault::Failed);
         }
         match find(&self.entries, name) {
@@ -94,10 +99,12 @@ impl Drop for MemFiles {
         let MemFiles {
             entries,
             calls,
+            asked,
             failed,
         } = self;
         drop(entries);
         drop(calls);
+        drop(asked);
         drop(failed);
     }
 }

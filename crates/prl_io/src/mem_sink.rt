@@ -2,7 +2,7 @@
 
 ghost use Rattle.std.specs.Prelude.{◌≡◌, ◌<◌, ◌≤◌, Some, Ok, IfOk, length};
 
-use super::failures::Failures;
+use super::mentions::Mentions;
 use super::numbering::Calls;
 use super::writing::{Failed, Sink};
 use std::alloc::{AllocError, Global};
@@ -16,7 +16,7 @@ pub struct MemSink {
     room: u64,
     most: u64,
     calls: Calls,
-    failed: Failures,
+    failed: Mentions,
 }
 
 impl Model for MemSink {
@@ -50,7 +50,7 @@ impl MemSink {
             room,
             most,
             calls: Calls::new(fails),
-            failed: Failures::new(),
+            failed: Mentions::new(),
         })
     }
 
@@ -74,7 +74,7 @@ impl Sink for MemSink {
     {
         let left = self.room - self.bytes.len() as u64;
         if self.calls.fails_now() || left == 0 {
-            self.failed = Failures::one_more(&self.failed, piece);
+            self.failed = Mentions::one_more(&self.failed, piece);
             return Err(Failed);
         }
         let count = self.most.min(left).min(piece.len() as u64) as usize;

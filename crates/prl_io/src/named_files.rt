@@ -1,6 +1,6 @@
 //! The files that the words name.
 
-ghost use Rattle.std.specs.Prelude.{◌≡◌, ◌≤◌, IfOk, IfErr, IfSome, Some, length};
+ghost use Rattle.std.specs.Prelude.{◌≡◌, ◌≤◌, ◌++◌, ◌∷◌, [], IfOk, IfErr, IfSome, Some, length};
 ghost use Rattle.prl_io.specs.Files.{IsFileStop};
 ghost use Rattle.prl_io.specs.declared.endings.Stop.TheVariants.{Memory};
 
@@ -29,6 +29,7 @@ pub fn read_named<F: Files>(
     ensures few { IfOk result (λ bytes. length bytes.items ≤ most) }
     ensures failed { IfOk result (λ _. (F.seen files.new).failed ≡ (F.seen files.old).failed) }
     ensures stop { IfErr result (IsFileStop (F.seen files.old) (F.seen files.new) name.now most) }
+    ensures asked { IfOk result (λ _. (F.seen files.new).asked ≡ (F.seen files.old).asked ++ (name.now ∷ [])) }
     ensures kept { (F.seen files.new).folder ≡ (F.seen files.old).folder }
 {
     let label = Label::new(alloc, name)?;

@@ -23,8 +23,8 @@ pub enum FileFault {
 
 /// A folder of files that no reading changes.
 pub trait Files {
-    /// The bytes of the file of each name, where this is known; and the names of the readings that
-    /// failed, in order.
+    /// The bytes of the file of each name, where this is known; the names of all readings, in order;
+    /// and the names of those that failed.
     ghost seen: { Self → FolderView };
 
     /// The bytes of the file of this name, if they are at most `most`.
@@ -33,6 +33,7 @@ pub trait Files {
         ensures answer { IfSome (seen self.old).folder
             (λ folder. Gives vec_items told_fault result (reading_of (folder name.now) most)) }
         ensures kept { (seen self.new).folder ≡ (seen self.old).folder }
+        ensures asked { (seen self.new).asked ≡ (seen self.old).asked ++ (name.now ∷ []) }
         ensures failed { result ≡ Err FileFault.Failed →
             (seen self.new).failed ≡ (seen self.old).failed ++ (name.now ∷ []) }
         ensures others { result ≢ Err FileFault.Failed → (seen self.new).failed ≡ (seen self.old).failed };

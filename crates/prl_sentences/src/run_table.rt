@@ -37,12 +37,13 @@ static ROWS: [&str; 21] = [
         ticks.",
     "90 overload |\n|\
         In the run from which a table would be cut, the jobs that are released at \x00 or later \
-        and due by \x01 ask for \x03 ticks, and there are \x05. Make a wcet smaller, allow a \
-        later deadline, or choose longer periods.",
+        and due by \x01 ask for \x03 ticks, and there are \x05. One processor has not the \
+        time for them, and no other table would help. Make a wcet smaller, allow a later \
+        deadline, or choose longer periods.",
     "91 unsteady at |\n|\
-        At tick \x00 the processor does not do what it does one hyperperiod later, so no table \
-        repeats what it does. Choose smaller phases or wcets, so that the jobs of each \
-        hyperperiod end in it, or write a table by hand.",
+        At tick \x00 the processor does not do what it does one hyperperiod later. That comes \
+        only where the jobs of a hyperperiod cost more ticks than it has, so no other table \
+        would help. Make a wcet smaller, or choose longer periods.",
     "92 too far |\n|\
         The run from which a table would be cut goes up to date \x00, and may go up to \
         2147483647. Choose smaller phases or a coarser tick, or write a table by hand.",

@@ -220,7 +220,7 @@ module _ (one : PartLaws) (law : RunningLaws) (whole : WholeLaws) (g : Given) (b
     pub some_cycle_text : (entries : List Entry) → HasTable g plan entries → (text : List ℕ) × (ran : Ran) × IsCycleText g text ran
     some_cycle_text entries table = (
       actuator_text g.until (meant_flows g meant.meaning),
-      runs.Driven (last gates.Gated) (all_ticks (constants_of plan horizon) (last_unit plan.graph entries)),
+      runs.Driven (last gates.Gated, all_ticks (constants_of plan horizon) (last_unit plan.graph entries)),
       running.cycle_is law g made.program made.main made.is_main.types flat made.is_main.typed made.expanded range formed clocks order.0 order.1 bodies trees have
           rows has plan is_plan is_graph horizon has_horizon made.is_main entries table
           (whole.table_gated plan horizon is_plan has_horizon.is_horizon entries table.good) (whole.table_complete plan horizon is_plan has_horizon.is_horizon entries table.good)

@@ -272,7 +272,7 @@ module _ (law : RunningLaws) (g : Given) (p : ProgramTree) (main : ℕ) (types :
           → (closed : ClosedView) → HasRun g (execution horizon has_horizon is_main) gates.Gated closed
           → (ticks : List (List (Option ℕ))) → AreAllNoted (constants_of plan horizon) (last_unit plan.graph entries) ticks
           → (text : List ℕ) → text ≡ actuator_text g.until (meant_flows g (execution horizon has_horizon is_main).meaning)
-          → IsCycleText g text (runs.Driven closed ticks)
+          → IsCycleText g text (runs.Driven (closed, ticks))
       unfolding execution
       cycle_is entries table gated complete closed run ticks by text written = record {
         execution = execution horizon has_horizon is_main;

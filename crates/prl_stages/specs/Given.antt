@@ -1,5 +1,5 @@
 -- What the files of a command give to its stages.
-use Rattle.std.specs.Prelude.{◌≡◌, ◌≤◌, ◌⊎◌, ℕ, Bool, false, List, [], length, Option, Some, None, Result, Ok, Err, is_some, nat_le, if◌then◌else◌}
+use Rattle.std.specs.Prelude.{◌≡◌, ◌≤◌, ◌⊎◌, ℕ, Bool, false, List, [], ◌∷◌, length, take, Option, Some, None, Result, Ok, Err, is_some, nat_le, if◌then◌else◌}
 use Rattle.prl_stages.specs.declared.faults.InputFile.{InputFile}
 use Rattle.prl_stages.specs.declared.faults.InputFile.TheVariants as parts
 use Rattle.prl_stages.specs.declared.faults.Fault.{Fault}
@@ -48,6 +48,29 @@ file_of c parts.Sensors = c.sensors
 file_of c parts.Schedule = c.schedule
 file_of c parts.Table = c.table
 file_of c parts.Cores = c.cores
+
+-- all files, in the order in which they are read
+abbrev pub all_files : List InputFile
+all_files = parts.Program ∷ parts.Bodies ∷ parts.Sensors ∷ parts.Schedule ∷ parts.Table ∷ parts.Cores ∷ []
+
+-- those that are read up to one of them
+abbrev pub up_to : InputFile → List InputFile
+up_to parts.Program = take 1 all_files
+up_to parts.Bodies = take 2 all_files
+up_to parts.Sensors = take 3 all_files
+up_to parts.Schedule = take 4 all_files
+up_to parts.Table = take 5 all_files
+up_to parts.Cores = all_files
+
+-- one name more, where there is one
+abbrev pub named_first : Option (List ℕ) → List (List ℕ) → List (List ℕ)
+named_first None names = names
+named_first (Some name) names = name ∷ names
+
+-- the names that the command has for these files, in order
+abbrev pub names_of : Command → List InputFile → List (List ℕ)
+names_of c [] = []
+names_of c (part ∷ rest) = named_first (file_of c part) (names_of c rest)
 
 -- the most bytes that a file may have
 abbrev pub most_of : InputFile → ℕ

@@ -79,7 +79,7 @@ pub record IsCycleText (g : Given) (text : List ℕ) (ran : Ran) : Type 0 where
       (list_of execution.plan execution.horizon entries))
   pub closed : ClosedView
   pub ticks : List (List (Option ℕ))
-  pub driven : ran ≡ runs.Driven closed ticks
+  pub driven : ran ≡ runs.Driven (closed, ticks)
   pub run : HasRun g execution gates.Gated closed
   pub by : AreAllNoted (constants_of execution.plan execution.horizon) (last_unit execution.plan.graph entries) ticks
   pub written : text ≡ actuator_text g.until (meant_flows g execution.meaning)

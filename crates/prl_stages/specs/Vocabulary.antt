@@ -2,7 +2,8 @@
 pub use Rattle.prl_stages.specs.Feasible.{IsEdfText}
 pub use Rattle.prl_stages.specs.Flattened.{HasClocks, IsCausal, IsFlattened, clock_fault}
 pub use Rattle.prl_stages.specs.Given.{Folder, Given, IsContent, IsGiven, IsGivenIn, IsGivenTo}
-pub use Rattle.prl_stages.specs.Given.{content_of, file_of, generated, read_as, text_of}
+pub use Rattle.prl_stages.specs.Given.{all_files, content_of, file_of, generated, named_first}
+pub use Rattle.prl_stages.specs.Given.{names_of, read_as, text_of, up_to}
 pub use Rattle.prl_stages.specs.Needs.{HoldsBodies}
 pub use Rattle.prl_stages.specs.Parts.{AreBodies, IsMain, IsProgram, RefusesBodies, bodies_fault}
 pub use Rattle.prl_stages.specs.Parts.{grammar_fault}

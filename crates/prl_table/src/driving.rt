@@ -12,9 +12,9 @@ ghost use Rattle.prl_exec.specs.Runs.{HasEnded};
 ghost use Rattle.prl_table.specs.Noted.{AreAllNoted, AreNoted, HaveRoom};
 ghost use Rattle.prl_table.specs.code.Driving.{next_act, AreFirst, IsBoardOf, IsDriven, IsJobDone, IsNextJob};
 
-use crate::noted::{Driver, Noted, Room};
+use crate::noted::{Driver, Room, TableRun};
 use prl_base::TaskNo;
-use prl_board::{Board, Closed, Gate, Steps, open_board};
+use prl_board::{Board, Gate, Steps, open_board};
 use prl_body::Bodies;
 use prl_edf::actions_end_once;
 use prl_exec::run_laws;
@@ -266,7 +266,7 @@ pub fn drive<L: Ledger>(
     horizon: Horizon,
     table: &Checked<'_>,
     steps: &mut Steps<L>,
-) -> Result<(Closed, Noted), AllocError>
+) -> Result<TableRun, AllocError>
     requires horizon { IsHorizon plan.now horizon }
     requires bodies { HaveTaskBodies plan.now.graph bodies.now }
     requires rows { HaveTypedRows plan.now.graph horizon.until sensors.now }
@@ -283,7 +283,5 @@ pub fn drive<L: Ledger>(
     let mut driver = Driver::new(&board, seats, clock, room);
     run_table(&mut driver, &board, plan, horizon, table, &mut next, steps);
     driver.stands();
-    let (closed, noted) = driver.close(board);
-    closed.stands();
-    Ok((closed, noted))
+    Ok(driver.close(board))
 }

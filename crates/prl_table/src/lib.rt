@@ -16,7 +16,7 @@ pub use laws::{
     makes_end_one_way, makes_or_faults_exist,
 };
 pub use making::{MakeFault, make};
-pub use noted::Noted;
+pub use noted::TableRun;
 pub use prl_tables::{
     Checked, Entry, Table, TableFault, check_table, checks_end_one_way, class_has_end, classes,
     classes_are_early, four_tests_tell_clashes, good_table_is_placing, pieces_are_short,

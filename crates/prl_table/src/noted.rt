@@ -9,6 +9,7 @@ ghost use Rattle.prl_rule.specs.declared.views.ClockPart.{ClockPart};
 ghost use Rattle.prl_rule.specs.declared.views.Constants.{Constants};
 ghost use Rattle.prl_seats.specs.JobSeats.{JobSeatView};
 ghost use Rattle.prl_board.specs.ClockSeats.{IsClockOf};
+ghost use Rattle.prl_board.specs.Closings.{IsClosed};
 ghost use Rattle.prl_board.specs.Lones.{AreSeatsOf, IsClockCall, IsLoneOf, IsTicked, IsWhole, StandAs};
 ghost use Rattle.prl_table.specs.Noted.{noted_at, with_noted, HaveRoom};
 ghost use Rattle.prl_table.specs.code.Driving.{IsBoardOf, IsDriven, IsJobDone, IsNextJob};
@@ -22,9 +23,9 @@ use std::alloc::{AllocError, Global};
 use std::marker::Model;
 use std::sync::ledger::Ledger;
 
-/// By task and job, the tick at which the job was done. It is written by a `Driver` alone, which does the job there on its board. Contracts see
-/// the lists.
-pub struct Noted {
+/// By task and job, the tick at which the job was done. It is written by a `Driver` alone, which does the job there on its board.
+/// Contracts see the lists.
+pub(crate) struct Noted {
     ticks: Vec<Vec<Option<u64>>>,
 }
 
@@ -51,7 +52,7 @@ impl Noted {
     }
 
     /// The tick at which a job was done; None where it was not.
-    pub fn tick(&self, task: TaskNo, job: u64) -> Option<u64>
+    fn tick(&self, task: TaskNo, job: u64) -> Option<u64>
         ensures { result ≡ noted_at self.now task.0 job }
     {
         match self.ticks.get(task.0 as usize) {
@@ -112,6 +113,43 @@ fn do_all<L: Ledger>(
         }
     }
     unreachable!()
+}
+
+/// What one thread has come to by a table: the board, which is closed, and at which tick each job was done on it. A `Driver` alone
+/// makes it. Contracts see both.
+#[derive(Drop)]
+pub struct TableRun {
+    closed: Closed,
+    noted: Noted,
+}
+
+impl Model for TableRun {
+    ghost use Rattle.std.specs.Prelude.{ℕ, List, Option};
+    ghost use Rattle.prl_board.specs.Closings.{ClosedView};
+    ghost use Rattle.prl_body.specs.contracts.codes.Code as code;
+    ghost use Rattle.std.specs.Coded.{codes};
+
+    ghost Value = { ClosedView × List (List (Option ℕ)) };
+
+    ghost coded = { Prim.hlevel (codes, code.the_row.coded) };
+
+    ghost view = { λ d. (d.closed, d.noted) };
+}
+
+impl TableRun {
+    /// The board.
+    pub fn closed(&self) -> &Closed
+        ensures { result.now ≡ self.now.0 }
+    {
+        &self.closed
+    }
+
+    /// The tick at which a job was done; None where it was not.
+    pub fn tick(&self, task: TaskNo, job: u64) -> Option<u64>
+        ensures { result ≡ noted_at self.now.1 task.0 job }
+    {
+        self.noted.tick(task, job)
+    }
 }
 
 /// Room for the notes of a run that has not begun.
@@ -224,14 +262,17 @@ impl Driver {
         self.lone.tick(board, steps)
     }
 
-    /// Closes the board, and hands out what was noted of it.
-    pub(crate) fn close(self, board: Board) -> (Closed, Noted)
+    /// Closes the board, with what was noted of it.
+    pub(crate) fn close(self, board: Board) -> TableRun
         requires { IsLoneOf board self.lone }
         ensures known { result.0.constants ≡ Some board.entry.known }
+        ensures is { (k : Constants) → result.0.constants ≡ Some k → IsClosed k result.0.words result.0.seats }
         ensures seats { StandAs self.lone.seats result.0.seats }
         ensures noted { result.1 ≡ self.noted }
     {
         let Driver { lone, noted } = self;
-        (lone.close(board), noted)
+        let closed = lone.close(board);
+        closed.stands();
+        TableRun { closed, noted }
     }
 }

@@ -77,7 +77,7 @@ const STOPPED: End = (5, false, true);
 fn end_of(status: &Status) -> End {
     match &status.ran {
         Ran::Ended(closed) => (status.code, closed.ended(), false),
-        Ran::Driven(closed, _) => (status.code, closed.ended(), false),
+        Ran::Driven(run) => (status.code, run.closed().ended(), false),
         Ran::Not => (status.code, false, false),
         Ran::Stopped(_) => (status.code, false, true),
     }

@@ -1,7 +1,7 @@
 use Rattle.prl_base.proofs.Standard.{ℕ, List, map, refl, subst, string_bytes}
 use Rattle.prl_endings.specs.Answers.{IsAnswerOf}
 use Rattle.prl_app.specs.Vocabulary.{Outside, IsWrittenBy}
-use Rattle.prl_app.proofs.Exact.{overrun_ends, stop_performs, written_ends}
+use Rattle.prl_app.proofs.Exact.{overrun_ends, stop_performs, written_ends, written_reads}
 use Rattle.prl_app.proofs.top.perform_run.Goals as goal
 
 pub returns-in-Ok-Ended-clause-ends : goal.returns-in-Ok-Ended-clause-ends
@@ -29,3 +29,10 @@ pub returns-in-Err-clause-ends : goal.returns-in-Err-clause-ends
 returns-in-Err-clause-ends g c =
     stop_performs (map string_bytes c.args.words.now) (g.F.Files.seen c.args.files.now) (g.F.Files.seen c.answer_threads.new.files) (g.S.Sink.seen c.args.out.now)
     c.args.command.now c.requires.asked c.in-Err.stop c.in-Err.ensures.stop
+
+pub returns-in-Ok-Ended-clause-read : goal.returns-in-Ok-Ended-clause-read
+returns-in-Ok-Ended-clause-read g c =
+    let old = g.S.Sink.seen c.args.out.now in
+    let new = g.S.Sink.seen c.written.new.out in
+    written_reads c.args.command.now (g.F.Files.seen c.args.files.now) (g.F.Files.seen c.answer_threads.new.files) old new c.in-Ok-Ended.text.items c.in-Ok-Ended.ran c.written.result
+    (subst (λ (t : List ℕ). IsWrittenBy old new t c.in-Ok-Ended.ran c.written.result) c.deref.ensures.value c.written.ensures) c.in-Ok-Ended.ensures.asked

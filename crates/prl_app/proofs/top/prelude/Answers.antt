@@ -15,5 +15,5 @@ returns-in-None g c =
           subst (λ (old : Outside). Answers words old new c.finish.result) c.in-None.ensures.untouched
           (answers_by c.stages_end_one_way.ensures words mid new c.finish.result c.perform_threads-command.result.0 c.perform_threads-command.result.1
           c.finish.ensures.code c.finish.ensures.ran (c.perform_threads-command.ensures.ends err told) c.perform_threads-command.ensures.line c.finish.ensures.told
-          c.perform_threads-command.ensures.kept);
+          c.perform_threads-command.ensures.read c.perform_threads-command.ensures.kept);
     }

@@ -12,7 +12,7 @@ returns-in-Some-clause-answers g c =
     let old : Outside = record { files = g.F.Files.seen c.args.files.now; out = g.S.Sink.seen c.args.out.now; err = err } in
     let new : Outside = record { files = g.F.Files.seen c.perform_alone.new.files; out = g.S.Sink.seen c.perform_alone.new.out; err = told } in
     answers_by c.stages_end_one_way.ensures words old new c.finish.result c.in-Some.command c.in-Some.ending c.finish.ensures.code c.finish.ensures.ran
-    (c.in-Some.ensures.ends err told) c.in-Some.ensures.line c.finish.ensures.told c.in-Some.ensures.kept
+    (c.in-Some.ensures.ends err told) c.in-Some.ensures.line c.finish.ensures.told c.in-Some.ensures.read c.in-Some.ensures.kept
 
 pub returns-in-Some-clause-alone : goal.returns-in-Some-clause-alone
 returns-in-Some-clause-alone g c = λ asks. c.finish.ensures.code ∙ ap status_of (c.in-Some.ensures.alone asks)

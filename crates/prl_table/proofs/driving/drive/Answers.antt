@@ -44,13 +44,13 @@ run_table-requires-clause-driven g c =
 pub returns-clause-ended : goal.returns-clause-ended
 returns-clause-ended g c = λ k s known last.
     let board : Constants = c.in_ok-board.board.known in
-    let same : c.in_ok-board.board.known ≡ k = same_constants c.in_ok-board.board.known k (sym c.close-closed.ensures.known ∙ known) in
+    let same : c.in_ok-board.board.known ≡ k = same_constants c.in_ok-board.board.known k (sym c.close.ensures.known ∙ known) in
     let end : c.args.horizon.end ≡ (run_of c.in_ok-board.board.known).end = ap (λ (x : Constants). x.horizon.end) (sym c.in_ok-board.ensures.known) in
     let driven : IsDriven c.in_ok-board.board.known c.args.table.now c.run_table.new.driver.lone c.run_table.new.next.items (run_of c.in_ok-board.board.known).end 0 =
     subst (λ (t : ℕ). IsDriven c.in_ok-board.board.known c.args.table.now c.run_table.new.driver.lone c.run_table.new.next.items t 0) end c.run_table.ensures.driven in
     let over = all_over c.in_ok-board.board.known c.args.table.now c.table_places.ensures c.run_laws.ensures.facts c.run_laws.ensures.state c.run_table.new.driver.lone c.run_table.new.next.items
     (c.stands.ensures c.in_ok-board.board.known c.run_table.ensures.lone.known) driven in
-    all_ended k c.close-closed.result.0.words c.run_table.new.driver.lone.seats c.close-closed.result.0.seats over c.close-closed.ensures.seats (c.stands-2.ensures k known) s last
+    all_ended k c.close.result.0.words c.run_table.new.driver.lone.seats c.close.result.0.seats over c.close.ensures.seats (c.close.ensures.is k known) s last
   where
     same_constants : (a b : Constants) → Some a ≡ Some b → a ≡ b
     same_constants a b e = cc
@@ -65,6 +65,6 @@ returns-clause-ticks g c =
     let end : c.args.horizon.end ≡ (run_of c.in_ok-board.board.known).end = ap (λ (x : Constants). x.horizon.end) (sym c.in_ok-board.ensures.known) in
     let after : AreNoted (run_of c.in_ok-board.board.known) (acts_at c.in_ok-board.board.known c.args.table.now) (run_of c.in_ok-board.board.known).end 0 c.run_table.new.driver.noted =
     subst (λ (t : ℕ). AreNoted (run_of c.in_ok-board.board.known) (acts_at c.in_ok-board.board.known c.args.table.now) t 0 c.run_table.new.driver.noted) end c.run_table.ensures.after in
-    subst (AreAllNoted (constants_of c.args.plan.now c.args.horizon) (last_unit c.args.plan.now.graph c.args.table.now.entries)) (sym c.close-closed.ensures.noted)
+    subst (AreAllNoted (constants_of c.args.plan.now c.args.horizon) (last_unit c.args.plan.now.graph c.args.table.now.entries)) (sym c.close.ensures.noted)
     (subst (λ (k : Constants). AreAllNoted (run_of k) (acts_at k c.args.table.now) c.run_table.new.driver.noted) c.in_ok-board.ensures.known
     (all_noted (run_of c.in_ok-board.board.known) c.run_laws.ensures.facts (acts_at c.in_ok-board.board.known c.args.table.now) c.table_places.ensures.placing c.run_table.new.driver.noted after))

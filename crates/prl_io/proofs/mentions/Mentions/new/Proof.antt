@@ -21,11 +21,11 @@ use denote.Triple.Entry.{on_entry, alive}
 use denote.Triple.Spec.{Meets, triple_of}
 use denote.Triple.Table.{entered}
 use denote.Triple.Walked.{says, Stays, walk_of, Walks, ends_at, walked, walk_Meets}
-use Rattle.prl_io.specs.contracts.failures.Failures.new.Key.{name as key}
-use Rattle.prl_io.specs.contracts.failures.Failures.new as f
-use Rattle.prl_io.proofs.failures.Failures.new.Statement as stated
-use Rattle.prl_io.proofs.failures.Failures.new.Code as code
-use Rattle.prl_io.specs.contracts.failures.Failures as made
+use Rattle.prl_io.specs.contracts.mentions.Mentions.new.Key.{name as key}
+use Rattle.prl_io.specs.contracts.mentions.Mentions.new as f
+use Rattle.prl_io.proofs.mentions.Mentions.new.Statement as stated
+use Rattle.prl_io.proofs.mentions.Mentions.new.Code as code
+use Rattle.prl_io.specs.contracts.mentions.Mentions as made
 
 abbrev stayed : Stays (f.ended).signature.params (f.ended).kept
 stayed = tt

@@ -30,11 +30,11 @@ use denote.Triple.Entry.{on_entry, alive, Args}
 use denote.Triple.Spec.{Meets, triple_of}
 use denote.Triple.Table.{entered}
 use denote.Triple.Walked.{says, stay_none_ref, stay_none_slice, Stays, walk_of, Walks, ends_at, walked, Goes-none_ref, Goes-none_slice, walk_Meets}
-use Rattle.prl_io.specs.contracts.failures.Failures.one_more.Key.{name as key}
-use Rattle.prl_io.specs.contracts.failures.Failures.one_more as f
-use Rattle.prl_io.proofs.failures.Failures.one_more.Statement as stated
-use Rattle.prl_io.proofs.failures.Failures.one_more.Code as code
-use Rattle.prl_io.specs.contracts.failures.Failures as made
+use Rattle.prl_io.specs.contracts.mentions.Mentions.one_more.Key.{name as key}
+use Rattle.prl_io.specs.contracts.mentions.Mentions.one_more as f
+use Rattle.prl_io.proofs.mentions.Mentions.one_more.Statement as stated
+use Rattle.prl_io.proofs.mentions.Mentions.one_more.Code as code
+use Rattle.prl_io.specs.contracts.mentions.Mentions as made
 
 abbrev stayed : Stays (f.ended).signature.params (f.ended).kept
 stayed = (stay_none_ref (0 ∷ []) tt (plain (λ _. made.the_row)) yes, (stay_none_slice (1 ∷ []) tt (plain (λ _. u8)) yes, tt))
