@@ -7,6 +7,7 @@ use prl_explain::explain;
 use prl_io::{MemFiles, MemSink};
 use prl_picture::draw;
 use prl_plot::plot;
+use prl_times::tell;
 
 /// What a call writes to.
 #[derive(Drop)]
@@ -63,6 +64,7 @@ fn status_on(
         "prelude_explain" => explain(alloc, words, line, files, &mut sinks.out, &mut sinks.err),
         "prelude_picture" => draw(alloc, words, files, &mut sinks.out, &mut sinks.err),
         "prelude_plot" => plot(alloc, words, files, &mut sinks.out, &mut sinks.err),
+        "prelude_times" => tell(alloc, words, files, &mut sinks.out, &mut sinks.err),
         _ => {
             report.refuse("no program");
             0

@@ -1,5 +1,5 @@
 -- Of the instances that reach a job one is the latest, by recursion along encoded releases.
-use Rattle.prl_base.proofs.Standard.{◌≡◌, ◌≢◌, ◌+◌, ◌*◌, ◌<◌, ◌≤◌, ◌<ℤ◌, ◌⊎◌, inl, inr, ℕ, pos, zero, suc, length, refl, sym, ◌∙◌, ap, subst, arith, ints, cases_eq, cases_lt, same_Some, slice_get_within, mul-le-mul_right}
+use Rattle.prl_base.proofs.Standard.{Bool, true, false, true≢false, ◌≡◌, ◌≢◌, ◌+◌, ◌*◌, ◌<◌, ◌≤◌, ◌<ℤ◌, ◌⊎◌, inl, inr, ℕ, List, pos, zero, suc, length, refl, sym, ◌∙◌, ap, subst, arith, ints, cases_eq, cases_lt, same_Some, slice_get_within, mul-le-mul_right}
 use Rattle.prl_base.specs.declared.numbers.TaskNo.{TaskNo}
 use Rattle.prl_base.specs.declared.values.Value.{Value}
 use Rattle.prl_plan.specs.declared.graphs.Edge.{Edge}
@@ -11,6 +11,7 @@ use Rattle.prl_plan.specs.declared.walks.Operand.TheVariants as operands
 use Rattle.prl_plan.specs.Vocabulary.{task_at, edge_at, IsWellFormed, IsPlan, PlanView, ComesFrom, Job, Precedes, operand_of, encoded_release, window_at, preceding}
 use Rattle.prl_plan.proofs.WalkLaws.{operand_walks, walk_preceding}
 use Rattle.prl_plan.proofs.RoundPeriods.{task_is}
+use Rattle.prl_ages.specs.Chains.{is_along}
 use Rattle.prl_ages.specs.Reaching.{Takes, Reaches, IsFreshest}
 use Rattle.prl_ages.specs.Reaching as reaching
 use Rattle.prl_ages.specs.Ages.{released}
@@ -33,15 +34,15 @@ same_job a b e = cc
 not_constant : (c : Value) (j : ℕ) → operands.Const c ≡ operands.From j → ⊥
 not_constant c j e = cc
 
-module _ (graph : TaskGraph) (good : IsWellFormed graph) (s : ℕ) (in_s : s < length graph.tasks) (date : ℕ → ℕ → ℕ)
-    (earlier : (t n i j : ℕ) → Takes graph t n i j → date i j < date t n) where
+module _ (graph : TaskGraph) (chain : List TaskNo) (good : IsWellFormed graph) (s : ℕ) (in_s : s < length graph.tasks) (date : ℕ → ℕ → ℕ)
+    (earlier : (t n i j : ℕ) → Takes graph chain t n i j → date i j < date t n) where
   -- instance m reaches job n of task t over one of the first e edges
   record Via (t n e m : ℕ) : Type 0 where
     task : ℕ
     job : ℕ
-    takes : Takes graph t n task job
+    takes : Takes graph chain t n task job
     below : takes.number < e
-    reaches : Reaches graph s m task job
+    reaches : Reaches graph chain s m task job
 
   -- the latest over these edges
   record IsBest (t n e m : ℕ) : Type 0 where
@@ -52,22 +53,22 @@ module _ (graph : TaskGraph) (good : IsWellFormed graph) (s : ℕ) (in_s : s < l
   BestOrNone t n e = ((m : ℕ) × IsBest t n e m) ⊎ ((m : ℕ) → Via t n e m → ⊥)
 
   abbrev FreshestOrNone : ℕ → ℕ → Type 0
-  FreshestOrNone t n = ((m : ℕ) × IsFreshest graph s m t n) ⊎ ((m : ℕ) → Reaches graph s m t n → ⊥)
+  FreshestOrNone t n = ((m : ℕ) × IsFreshest graph chain s m t n) ⊎ ((m : ℕ) → Reaches graph chain s m t n → ⊥)
 
   via_more : (t n e m : ℕ) → Via t n e m → Via t n (e + 1) m
   via_more t n e m via = record { task = via.task; job = via.job; takes = via.takes; below = omega (arith, via.below); reaches = via.reaches }
 
   -- over edge e itself nothing reaches the job, or what reaches the one job that is taken
   abbrev NoneHere : ℕ → ℕ → ℕ → Type 0
-  NoneHere t n e = (i j m : ℕ) (takes : Takes graph t n i j) → takes.number ≡ e → Reaches graph s m i j → ⊥
+  NoneHere t n e = (i j m : ℕ) (takes : Takes graph chain t n i j) → takes.number ≡ e → Reaches graph chain s m i j → ⊥
 
   record Here (t n e m : ℕ) : Type 0 where
     task : ℕ
     job : ℕ
-    takes : Takes graph t n task job
+    takes : Takes graph chain t n task job
     number : takes.number ≡ e
-    reaches : Reaches graph s m task job
-    latest : (i j l : ℕ) (other : Takes graph t n i j) → other.number ≡ e → Reaches graph s l i j → l ≤ m
+    reaches : Reaches graph chain s m task job
+    latest : (i j l : ℕ) (other : Takes graph chain t n i j) → other.number ≡ e → Reaches graph chain s l i j → l ≤ m
 
   join_none : (t n e : ℕ) → BestOrNone t n e → NoneHere t n e → BestOrNone t n (e + 1)
   join_none t n e (inl best) none = inl (best.0, record { via = via_more t n e best.0 best.1.via; latest = λ l via. at l via (cases_lt via.takes.number e) })
@@ -111,7 +112,7 @@ module _ (graph : TaskGraph) (good : IsWellFormed graph) (s : ℕ) (in_s : s < l
       )
 
   -- what is taken on an edge of a number is what the edge of that number gives
-  taken_on : (t n i j e : ℕ) (takes : Takes graph t n i j) → takes.number ≡ e →
+  taken_on : (t n i j e : ℕ) (takes : Takes graph chain t n i j) → takes.number ≡ e →
       ((edge_at graph e).to.0 ≡ t) × ComesFrom (edge_at graph e).from i × (operand_of (edge_at graph e) n ≡ operands.From j)
   taken_on t n i j e takes number =
       let inside : takes.number < length graph.edges = slice_get_within graph.edges takes.number takes.edge takes.at in
@@ -123,37 +124,44 @@ module _ (graph : TaskGraph) (good : IsWellFormed graph) (s : ℕ) (in_s : s < l
       )
 
   -- edge by edge, where what reaches earlier jobs is known
-  module _ (t n : ℕ) (known : (i j : ℕ) → Takes graph t n i j → FreshestOrNone i j) where
+  module _ (t n : ℕ) (known : (i j : ℕ) → Takes graph chain t n i j → FreshestOrNone i j) where
     over_edge : (e : ℕ) → e < length graph.edges → BestOrNone t n e → BestOrNone t n (e + 1)
     over_edge e inside so_far = to_task (cases_eq (edge_at graph e).to.0 t)
       where
-        none_by : ((i j : ℕ) (takes : Takes graph t n i j) → takes.number ≡ e → ⊥) → BestOrNone t n (e + 1)
+        none_by : ((i j : ℕ) (takes : Takes graph chain t n i j) → takes.number ≡ e → ⊥) → BestOrNone t n (e + 1)
         none_by not = join_none t n e so_far (λ i j m takes number reaches. not i j takes number)
 
         from_task : (edge_at graph e).to.0 ≡ t → (task : TaskNo) (out j : ℕ) → (edge_at graph e).from ≡ producers.Port task out →
             operand_of (edge_at graph e) n ≡ operands.From j → BestOrNone t n (e + 1)
-        from_task to task out j is reads = go (known task.0 j takes)
+        from_task to task out j is reads = on_chain (is_along chain task.0 t) refl
           where
-            takes : Takes graph t n task.0 j
-            takes = record { number = e; edge = edge_at graph e; at = edge_found graph e inside; to = to; from = port_comes (edge_at graph e).from task out is; reads = reads }
+            takes : is_along chain task.0 t ≡ true → Takes graph chain t n task.0 j
+            takes along =
+                record { number = e; edge = edge_at graph e; at = edge_found graph e inside; to = to; from = port_comes (edge_at graph e).from task out is; along = along; reads = reads }
 
-            one : (i l m : ℕ) (other : Takes graph t n i l) → other.number ≡ e → Reaches graph s m i l → Reaches graph s m task.0 j
+            giver : (i l : ℕ) (other : Takes graph chain t n i l) → other.number ≡ e → i ≡ task.0
+            giver i l other number = sym (same_source (edge_at graph e).from task out i is (taken_on t n i l e other number).1)
+
+            one : (i l m : ℕ) (other : Takes graph chain t n i l) → other.number ≡ e → Reaches graph chain s m i l → Reaches graph chain s m task.0 j
             one i l m other number reaches =
                 let on = taken_on t n i l e other number in
-                let same : i ≡ task.0 = sym (same_source (edge_at graph e).from task out i is on.1) in
                 let job : l ≡ j = same_job l j (sym on.2 ∙ reads) in
-                subst (λ (x : ℕ). Reaches graph s m x j) same (subst (λ (x : ℕ). Reaches graph s m i x) job reaches)
+                subst (λ (x : ℕ). Reaches graph chain s m x j) (giver i l other number) (subst (λ (x : ℕ). Reaches graph chain s m i x) job reaches)
 
-            go : FreshestOrNone task.0 j → BestOrNone t n (e + 1)
-            go (inl fresh) = join_here t n e fresh.0 so_far (record {
+            go : is_along chain task.0 t ≡ true → FreshestOrNone task.0 j → BestOrNone t n (e + 1)
+            go along (inl fresh) = join_here t n e fresh.0 so_far (record {
               task = task.0;
               job = j;
-              takes = takes;
+              takes = takes along;
               number = refl;
               reaches = fresh.1.reaches;
               latest = λ i l m other number reaches. fresh.1.latest m (one i l m other number reaches);
             })
-            go (inr never) = join_none t n e so_far (λ i l m other number reaches. never m (one i l m other number reaches))
+            go along (inr never) = join_none t n e so_far (λ i l m other number reaches. never m (one i l m other number reaches))
+
+            on_chain : (b : Bool) → is_along chain task.0 t ≡ b → BestOrNone t n (e + 1)
+            on_chain true along = go along (known task.0 j (takes along))
+            on_chain false off = none_by (λ i l other number. true≢false (sym other.along ∙ ap (λ (x : ℕ). is_along chain x t) (giver i l other number) ∙ off))
 
         from_operand : (edge_at graph e).to.0 ≡ t → (o : Operand) → operand_of (edge_at graph e) n ≡ o → (from : Producer) → (edge_at graph e).from ≡ from → BestOrNone t n (e + 1)
         from_operand to (operands.Const c) is from from_is = none_by (λ i j takes number. not_constant c j (sym is ∙ (taken_on t n i j e takes number).2))
@@ -172,7 +180,7 @@ module _ (graph : TaskGraph) (good : IsWellFormed graph) (s : ℕ) (in_s : s < l
         subst (λ (x : ℕ). BestOrNone t n x) f (over_edge e (omega (arith, within)) (over_edges e (omega (arith, within))))
 
   -- a job of another task is reached over an edge
-  via_all : (l b c : ℕ) → Reaches graph s l b c → b ≢ s → Via b c (length graph.edges) l
+  via_all : (l b c : ℕ) → Reaches graph chain s l b c → b ≢ s → Via b c (length graph.edges) l
   via_all l b c (reaching.itself x y task number) other = absurd (other task)
   via_all l b c (reaching.through x y i j takes rest) other =
       record { task = i; job = j; takes = takes; below = slice_get_within graph.edges takes.number takes.edge takes.at; reaches = rest }
@@ -187,12 +195,12 @@ module _ (graph : TaskGraph) (good : IsWellFormed graph) (s : ℕ) (in_s : s < l
   )
   of_edges t n other (inr never) = inr (λ m reaches. never m (via_all m t n reaches other))
 
-  job_of : (t n : ℕ) → ((i j : ℕ) → Takes graph t n i j → FreshestOrNone i j) → (t ≡ s) ⊎ (t ≢ s) → FreshestOrNone t n
+  job_of : (t n : ℕ) → ((i j : ℕ) → Takes graph chain t n i j → FreshestOrNone i j) → (t ≡ s) ⊎ (t ≢ s) → FreshestOrNone t n
   job_of t n known (inl same) = inl (
     n,
     record {
       reaches = reaching.itself t n same refl;
-      latest = λ l reaches. lower_number graph good s l n in_s (not_later graph good s l s n (subst (λ (x : ℕ). Reaches graph s l x n) same reaches));
+      latest = λ l reaches. lower_number graph good s l n in_s (not_later graph chain good s l s n (subst (λ (x : ℕ). Reaches graph chain s l x n) same reaches));
     },
   )
   job_of t n known (inr other) = of_edges t n other (over_edges t n known (length graph.edges) (omega arith))
@@ -209,8 +217,8 @@ abbrev pub KeepsOrder : PlanView → Type 0
 KeepsOrder plan = (before after : Job) → Precedes plan.graph before after →
     encoded_release plan.graph plan.windows before.task before.number <ℤ encoded_release plan.graph plan.windows after.task after.number
 
-taken_earlier : (plan : PlanView) → KeepsOrder plan → (t n i j : ℕ) → Takes plan.graph t n i j → date_of plan i j < date_of plan t n
-taken_earlier plan keeps t n i j takes =
+taken_earlier : (plan : PlanView) (chain : List TaskNo) → KeepsOrder plan → (t n i j : ℕ) → Takes plan.graph chain t n i j → date_of plan i j < date_of plan t n
+taken_earlier plan chain keeps t n i j takes =
     let before : Job = record { task = i; number = pos j } in
     let after : Job = record { task = t; number = pos n } in
     let number : pos j ≡ preceding takes.edge.ops (pos n) = sym (walk_preceding takes.edge.ops n j (operand_walks takes.edge n j takes.reads).2) in
@@ -218,7 +226,7 @@ taken_earlier plan keeps t n i j takes =
     let e = keeps before after precedes in
     omega (arith, ints, e)
 
-pub freshest_or_none : (plan : PlanView) → IsPlan plan → KeepsOrder plan → (s t n : ℕ) → s < length plan.graph.tasks →
-    ((m : ℕ) × IsFreshest plan.graph s m t n) ⊎ ((m : ℕ) → Reaches plan.graph s m t n → ⊥)
-freshest_or_none plan is keeps s t n in_s =
-    decide plan.graph is.graph s in_s (date_of plan) (taken_earlier plan keeps) (suc (date_of plan t n)) t n (omega arith)
+pub freshest_or_none : (plan : PlanView) (chain : List TaskNo) → IsPlan plan → KeepsOrder plan → (s t n : ℕ) → s < length plan.graph.tasks →
+    ((m : ℕ) × IsFreshest plan.graph chain s m t n) ⊎ ((m : ℕ) → Reaches plan.graph chain s m t n → ⊥)
+freshest_or_none plan chain is keeps s t n in_s =
+    decide plan.graph chain is.graph s in_s (date_of plan) (taken_earlier plan chain keeps) (suc (date_of plan t n)) t n (omega arith)

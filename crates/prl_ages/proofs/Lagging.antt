@@ -15,17 +15,13 @@ use Rattle.prl_plan.proofs.RoundLaws.{source_inside}
 use Rattle.prl_plan.proofs.WalkLaws.{walk_preceding}
 use Rattle.prl_plan.proofs.WordNumbers.{first_after_prefix}
 use Rattle.prl_plan.specs.declared.words.Word.{Word}
+use Rattle.prl_ages.specs.Chains.{is_along}
 use Rattle.prl_ages.specs.Reaching.{Takes, Reaches, jobs_of}
 use Rattle.prl_ages.specs.Reaching as reaching
-use Rattle.prl_ages.specs.Ages.{IsWorstBelow, IsNotOlder, IsAgeAt}
-use Rattle.prl_ages.specs.Verdicts.{IsWorst}
-use Rattle.prl_ages.specs.declared.ages.Age.{Age}
-use Rattle.prl_ages.specs.declared.ages.Until.{Until}
 use Rattle.prl_ages.specs.code.Lags.{AreLags, AreAllLags, CoversConstants, HasLag, IsKnownOn, IsLag, IsSpreading, lag_at, missing, missing_in}
-use Rattle.prl_ages.proofs.Counted.{edge_found, port_comes, same_source, constant_comes}
+use Rattle.prl_ages.proofs.Counted.{edge_found, one_giver}
 use Rattle.prl_ages.proofs.Operands.{operand_rises, operand_repeats}
 use Rattle.prl_ages.proofs.Reaching.{reaches_on}
-use Rattle.prl_ages.proofs.FirstJobs.{first_show_all}
 
 module _ (graph : TaskGraph) (good : IsWellFormed graph) (edge : Edge) (is : IsEdge graph edge) (i : ℕ) (comes : ComesFrom edge.from i) where
   -- so many hyperperiods later a job reads the instance as many hyperperiods later
@@ -46,13 +42,13 @@ module _ (graph : TaskGraph) (good : IsWellFormed graph) (edge : Edge) (is : IsE
   walk_reads n m walks = (reads_is edge i comes is.operators n m).1 (never_before edge.ty edge.ops is.operators n m walks, walk_preceding edge.ops n m walks)
 
 -- what is taken reaches
-taken_reaches : (graph : TaskGraph) (t n i j : ℕ) → Takes graph t n i j → Reaches graph i j t n
-taken_reaches graph t n i j takes = reaching.through t n i j takes (reaching.itself i j refl refl)
+taken_reaches : (graph : TaskGraph) (chain : List TaskNo) (t n i j : ℕ) → Takes graph chain t n i j → Reaches graph chain i j t n
+taken_reaches graph chain t n i j takes = reaching.through t n i j takes (reaching.itself i j refl refl)
 
 -- a lag goes on over an edge
-pub lag_through : (graph : TaskGraph) → IsWellFormed graph → (a e i lag turns : ℕ) → e < length graph.edges → ComesFrom (edge_at graph e).from i →
-    IsLag graph a (edge_at graph e).to.0 lag → CoversConstants graph e turns → IsLag graph a i (lag + turns)
-lag_through graph good a e i lag turns inside comes is covers = record { reaches = go }
+pub lag_through : (graph : TaskGraph) (chain : List TaskNo) → IsWellFormed graph → (a e i lag turns : ℕ) → e < length graph.edges → ComesFrom (edge_at graph e).from i →
+    is_along chain i (edge_at graph e).to.0 ≡ true → IsLag graph chain a (edge_at graph e).to.0 lag → CoversConstants graph e turns → IsLag graph chain a i (lag + turns)
+lag_through graph chain good a e i lag turns inside comes along is covers = record { reaches = go }
   where
     edge : Edge
     edge = edge_at graph e
@@ -60,7 +56,7 @@ lag_through graph good a e i lag turns inside comes is covers = record { reaches
     is_edge : IsEdge graph (edge_at graph e)
     is_edge = good.edges e (edge_at graph e) (edge_found graph e inside)
 
-    go : (x n : ℕ) → (lag + turns + x) * jobs_of graph a ≤ n → (j : ℕ) × (x * jobs_of graph i ≤ j) × Reaches graph i j a n
+    go : (x n : ℕ) → (lag + turns + x) * jobs_of graph a ≤ n → (j : ℕ) × (x * jobs_of graph i ≤ j) × Reaches graph chain i j a n
     go x n past =
         let same : lag + turns + x ≡ lag + (turns + x) = omega arith in
         let up = is.reaches (turns + x) n (subst (λ (y : ℕ). y * jobs_of graph a ≤ n) same past) in
@@ -70,16 +66,16 @@ lag_through graph good a e i lag turns inside comes is covers = record { reaches
         let split : (turns + x) * jobs_of graph (edge_at graph e).to.0 ≡ turns * jobs_of graph (edge_at graph e).to.0 + x * jobs_of graph (edge_at graph e).to.0 = omega arith in
         let rise = operand_rises graph good (edge_at graph e) is_edge i comes (covers.first + x * jobs_of graph (edge_at graph e).to.0) (first.0 + x * jobs_of graph i) up.0 later
         (omega (arith, covers.within, split, up.1)) in
-        let takes : Takes graph (edge_at graph e).to.0 up.0 i rise.0 =
-        record { number = e; edge = edge_at graph e; at = edge_found graph e inside; to = refl; from = comes; reads = rise.2 } in (
+        let takes : Takes graph chain (edge_at graph e).to.0 up.0 i rise.0 =
+        record { number = e; edge = edge_at graph e; at = edge_found graph e inside; to = refl; from = comes; along = along; reads = rise.2 } in (
           rise.0,
           omega (arith, rise.1),
-          reaches_on graph i rise.0 (edge_at graph e).to.0 up.0 a n
-              (taken_reaches graph (edge_at graph e).to.0 up.0 i rise.0 takes) up.2,
+          reaches_on graph chain i rise.0 (edge_at graph e).to.0 up.0 a n
+              (taken_reaches graph chain (edge_at graph e).to.0 up.0 i rise.0 takes) up.2,
         )
 
-own_lag : (graph : TaskGraph) (a : ℕ) → IsLag graph a a 0
-own_lag graph a = record { reaches = λ x n past. (n, (let e : 0 + x ≡ x = omega arith in subst (λ (y : ℕ). y * jobs_of graph a ≤ n) e past), reaching.itself a n refl refl) }
+own_lag : (graph : TaskGraph) (chain : List TaskNo) (a : ℕ) → IsLag graph chain a a 0
+own_lag graph chain a = record { reaches = λ x n past. (n, (let e : 0 + x ≡ x = omega arith in subst (λ (y : ℕ). y * jobs_of graph a ≤ n) e past), reaching.itself a n refl refl) }
 
 same_lag : (a b : ℕ) → Some a ≡ Some b → a ≡ b
 same_lag a b is = same_Some a b is
@@ -88,10 +84,10 @@ no_lag : (lag : ℕ) → None ≡ Some lag → ⊥
 no_lag lag is = cc
 
 -- the lags with one more
-pub filled_lags : (graph : TaskGraph) → IsWellFormed graph → (a e i lag turns : ℕ) (lags : List (Option ℕ)) → e < length graph.edges → i < length lags → ComesFrom (edge_at graph e).from i →
-    AreLags graph a lags → lag_at lags (edge_at graph e).to.0 ≡ Some lag → CoversConstants graph e turns → turns ≤ MAX_PREFIX → lag_at lags i ≡ None →
-    AreLags graph a (set lags i (Some (lag + turns))) × (missing_in (set lags i (Some (lag + turns))) < missing_in lags)
-filled_lags graph good a e i lag turns lags inside in_lags comes are at covers few none = (
+pub filled_lags : (graph : TaskGraph) (chain : List TaskNo) → IsWellFormed graph → (a e i lag turns : ℕ) (lags : List (Option ℕ)) → e < length graph.edges → i < length lags → ComesFrom (edge_at graph e).from i →
+    is_along chain i (edge_at graph e).to.0 ≡ true → AreLags graph chain a lags → lag_at lags (edge_at graph e).to.0 ≡ Some lag → CoversConstants graph e turns → turns ≤ MAX_PREFIX → lag_at lags i ≡ None →
+    AreLags graph chain a (set lags i (Some (lag + turns))) × (missing_in (set lags i (Some (lag + turns))) < missing_in lags)
+filled_lags graph chain good a e i lag turns lags inside in_lags comes along are at covers few none = (
   record {
     long = length-set lags i (Some (lag + turns)) ∙ are.long;
     own = own_now (cases_eq a i);
@@ -114,11 +110,11 @@ filled_lags graph good a e i lag turns lags inside in_lags comes are at covers f
     own_now (inl same) = (lag + turns, ap (λ (x : ℕ). lag_at (set lags i (Some (lag + turns))) x) same ∙ here)
     own_now (inr other) = (are.own.0, get_or-set_other lags i a (Some (lag + turns)) None other ∙ are.own.1)
 
-    each_now : (t q : ℕ) → lag_at (set lags i (Some (lag + turns))) t ≡ Some q → (t ≡ i) ⊎ (t ≢ i) → IsLag graph a t q
+    each_now : (t q : ℕ) → lag_at (set lags i (Some (lag + turns))) t ≡ Some q → (t ≡ i) ⊎ (t ≢ i) → IsLag graph chain a t q
     each_now t q is (inl same) =
         let number : lag + turns ≡ q = same_lag (lag + turns) q (sym here ∙ ap (λ (x : ℕ). lag_at (set lags i (Some (lag + turns))) x) (sym same) ∙ is) in
-        subst (λ (x : ℕ). IsLag graph a x q) (sym same) (subst (λ (x : ℕ). IsLag graph a i x) number
-        (lag_through graph good a e i lag turns inside comes (are.each (edge_at graph e).to.0 lag at) covers))
+        subst (λ (x : ℕ). IsLag graph chain a x q) (sym same) (subst (λ (x : ℕ). IsLag graph chain a i x) number
+        (lag_through graph chain good a e i lag turns inside comes along (are.each (edge_at graph e).to.0 lag at) covers))
     each_now t q is (inr other) = are.each t q (sym (get_or-set_other lags i t (Some (lag + turns)) None other) ∙ is)
 
     few_now : (t q : ℕ) → lag_at (set lags i (Some (lag + turns))) t ≡ Some q → (t ≡ i) ⊎ (t ≢ i) →
@@ -141,8 +137,8 @@ none_known_at (suc n) (suc t) = none_known_at n t
 missing_all : (n : ℕ) → missing_in (none_known n) ≡ n
 missing_all n = sum_by-replicate missing n None ∙ (let e : n * 1 ≡ n = omega arith in e)
 
-pub first_known : (graph : TaskGraph) (a : ℕ) → a < length graph.tasks → AreLags graph a (set (none_known (length graph.tasks)) a (Some 0))
-first_known graph a inside = record {
+pub first_known : (graph : TaskGraph) (chain : List TaskNo) (a : ℕ) → a < length graph.tasks → AreLags graph chain a (set (none_known (length graph.tasks)) a (Some 0))
+first_known graph chain a inside = record {
   long = length-set (none_known (length graph.tasks)) a (Some 0) ∙ in_all;
   own = (0, here);
   each = λ t q is. each_now t q is (cases_eq t a);
@@ -161,9 +157,9 @@ first_known graph a inside = record {
     other_at : (t q : ℕ) → lag_at (set (none_known (length graph.tasks)) a (Some 0)) t ≡ Some q → t ≢ a → ⊥
     other_at t q is other = no_lag q (sym (none_known_at (length graph.tasks) t) ∙ sym (get_or-set_other (none_known (length graph.tasks)) a t (Some 0) None other) ∙ is)
 
-    each_now : (t q : ℕ) → lag_at (set (none_known (length graph.tasks)) a (Some 0)) t ≡ Some q → (t ≡ a) ⊎ (t ≢ a) → IsLag graph a t q
+    each_now : (t q : ℕ) → lag_at (set (none_known (length graph.tasks)) a (Some 0)) t ≡ Some q → (t ≡ a) ⊎ (t ≢ a) → IsLag graph chain a t q
     each_now t q is (inl same) =
-        subst (λ (x : ℕ). IsLag graph a x q) (sym same) (subst (λ (x : ℕ). IsLag graph a a x) (zero_at t q is same) (own_lag graph a))
+        subst (λ (x : ℕ). IsLag graph chain a x q) (sym same) (subst (λ (x : ℕ). IsLag graph chain a a x) (zero_at t q is same) (own_lag graph chain a))
     each_now t q is (inr other) = absurd (other_at t q is other)
 
     few_now : (t q : ℕ) → lag_at (set (none_known (length graph.tasks)) a (Some 0)) t ≡ Some q → (t ≡ a) ⊎ (t ≢ a) →
@@ -175,30 +171,29 @@ first_known graph a inside = record {
     few_now t q is (inr other) = absurd (other_at t q is other)
 
 -- what an edge does to lags
-module _ (graph : TaskGraph) (good : IsWellFormed graph) (a e : ℕ) (lags : List (Option ℕ)) (inside : e < length graph.edges) (are : AreLags graph a lags)
-    (from : Producer) (is_from : from ≡ (edge_at graph e).from) where
+module _ (graph : TaskGraph) (chain : List TaskNo) (good : IsWellFormed graph) (a e : ℕ) (lags : List (Option ℕ)) (inside : e < length graph.edges) (are : AreLags graph chain a lags) where
   pub lag_small : (t lag : ℕ) → lag_at lags t ≡ Some lag → lag ≤ length graph.tasks * MAX_PREFIX
   lag_small t lag is = omega (arith, are.few t lag is)
 
-  pub unknown_known : lag_at lags (edge_at graph e).to.0 ≡ None → IsKnownOn graph lags e
-  unknown_known none i comes has = absurd (no_lag has.0 (sym none ∙ has.1))
+  pub unknown_known : lag_at lags (edge_at graph e).to.0 ≡ None → IsKnownOn graph chain lags e
+  unknown_known none i comes along has = absurd (no_lag has.0 (sym none ∙ has.1))
 
-  pub constant_known : (value : Value) → from ≡ producers.Constant value → IsKnownOn graph lags e
-  constant_known value is i comes has = absurd (constant_comes (edge_at graph e).from value i (sym is_from ∙ is) comes)
+  pub no_giver_known : ((i : ℕ) → ComesFrom (edge_at graph e).from i → is_along chain i (edge_at graph e).to.0 ≡ true → ⊥) → IsKnownOn graph chain lags e
+  no_giver_known none i comes along has = absurd (none i comes along)
 
-  pub port_in : (task : TaskNo) (out : ℕ) → from ≡ producers.Port task out → task.0 < length lags
-  port_in task out is =
+  pub giver_in : (task : TaskNo) → ComesFrom (edge_at graph e).from task.0 → task.0 < length lags
+  giver_in task comes =
       let is_edge : IsEdge graph (edge_at graph e) = good.edges e (edge_at graph e) (edge_found graph e inside) in
-      omega (arith, are.long, source_inside graph (edge_at graph e) is_edge (edge_at graph e).from refl task.0 (port_comes (edge_at graph e).from task out (sym is_from ∙ is)))
+      omega (arith, are.long, source_inside graph (edge_at graph e) is_edge (edge_at graph e).from refl task.0 comes)
 
-  module _ (task : TaskNo) (out : ℕ) (is : from ≡ producers.Port task out) (lag turns : ℕ) (at : lag_at lags (edge_at graph e).to.0 ≡ Some lag)
-      (covers : CoversConstants graph e turns) (few : turns ≤ MAX_PREFIX) (new : List (Option ℕ)) where
-    filled : lag_at lags task.0 ≡ None → AreLags graph a (set lags task.0 (Some (lag + turns))) × (missing_in (set lags task.0 (Some (lag + turns))) < missing_in lags)
-    filled none = filled_lags graph good a e task.0 lag turns lags inside (port_in task out is) (port_comes (edge_at graph e).from task out (sym is_from ∙ is)) are at covers few none
+  module _ (task : TaskNo) (comes : ComesFrom (edge_at graph e).from task.0) (along : is_along chain task.0 (edge_at graph e).to.0 ≡ true) (lag turns : ℕ)
+      (at : lag_at lags (edge_at graph e).to.0 ≡ Some lag) (covers : CoversConstants graph e turns) (few : turns ≤ MAX_PREFIX) (new : List (Option ℕ)) where
+    filled : lag_at lags task.0 ≡ None → AreLags graph chain a (set lags task.0 (Some (lag + turns))) × (missing_in (set lags task.0 (Some (lag + turns))) < missing_in lags)
+    filled none = filled_lags graph chain good a e task.0 lag turns lags inside (giver_in task comes) comes along are at covers few none
 
-    pub passed_lags : (b : Bool) → OnTrue b ((new ≡ set lags task.0 (Some (lag + turns))) × (lag_at lags task.0 ≡ None)) → OnFalse b ((new ≡ lags) × HasLag lags task.0) → AreLags graph a new
-    passed_lags true up kept = subst (λ (x : List (Option ℕ)). AreLags graph a x) (sym up.0) (filled up.1).0
-    passed_lags false up kept = subst (λ (x : List (Option ℕ)). AreLags graph a x) (sym kept.0) are
+    pub passed_lags : (b : Bool) → OnTrue b ((new ≡ set lags task.0 (Some (lag + turns))) × (lag_at lags task.0 ≡ None)) → OnFalse b ((new ≡ lags) × HasLag lags task.0) → AreLags graph chain a new
+    passed_lags true up kept = subst (λ (x : List (Option ℕ)). AreLags graph chain a x) (sym up.0) (filled up.1).0
+    passed_lags false up kept = subst (λ (x : List (Option ℕ)). AreLags graph chain a x) (sym kept.0) are
 
     pub passed_falls : (b : Bool) → OnTrue b ((new ≡ set lags task.0 (Some (lag + turns))) × (lag_at lags task.0 ≡ None)) → OnTrue b (missing_in new < missing_in lags)
     passed_falls true up = subst (λ (x : List (Option ℕ)). missing_in x < missing_in lags) (sym up.0) (filled up.1).1
@@ -208,10 +203,10 @@ module _ (graph : TaskGraph) (good : IsWellFormed graph) (a e : ℕ) (lags : Lis
     passed_same true kept = tt
     passed_same false kept = kept.0
 
-    pub passed_known : (b : Bool) → OnFalse b ((new ≡ lags) × HasLag lags task.0) → OnFalse b (IsKnownOn graph lags e)
+    pub passed_known : (b : Bool) → OnFalse b ((new ≡ lags) × HasLag lags task.0) → OnFalse b (IsKnownOn graph chain lags e)
     passed_known true kept = tt
-    passed_known false kept = λ i comes has.
-        (let source : task.0 ≡ i = same_source (edge_at graph e).from task out i (sym is_from ∙ is) comes in
+    passed_known false kept = λ i other_comes other_along has.
+        (let source : task.0 ≡ i = one_giver (edge_at graph e).from task.0 i comes other_comes in
         subst (λ (x : ℕ). HasLag lags x) source kept.1)
 
 -- the lag of the consumer
@@ -220,47 +215,48 @@ pub passed_at : (graph : TaskGraph) (e : ℕ) (lags : List (Option ℕ)) (to : T
 passed_at graph e lags to lag same is = subst (λ (x : TaskNo). lag_at lags x.0 ≡ Some lag) same is
 
 -- a round goes on by an edge
-pub spreads_on : (graph : TaskGraph) (a : ℕ) (old : List (Option ℕ)) (e : ℕ) (lags new : List (Option ℕ)) (came passed : Bool) → IsSpreading graph a old e lags came →
-    AreLags graph a new → OnTrue passed (missing_in new < missing_in lags) → OnFalse passed (new ≡ lags) → OnFalse passed (IsKnownOn graph lags e) →
-    IsSpreading graph a old (e + 1) new (came || passed)
-spreads_on graph a old e lags new true true way are falls same known =
+pub spreads_on : (graph : TaskGraph) (chain : List TaskNo) (a : ℕ) (old : List (Option ℕ)) (e : ℕ) (lags new : List (Option ℕ)) (came passed : Bool) → IsSpreading graph chain a old e lags came →
+    AreLags graph chain a new → OnTrue passed (missing_in new < missing_in lags) → OnFalse passed (new ≡ lags) → OnFalse passed (IsKnownOn graph chain lags e) →
+    IsSpreading graph chain a old (e + 1) new (came || passed)
+spreads_on graph chain a old e lags new true true way are falls same known =
     record { are = are; falls = omega (arith, way.falls, falls); same = tt; known = tt }
-spreads_on graph a old e lags new true false way are falls same known =
+spreads_on graph chain a old e lags new true false way are falls same known =
     let stays : missing_in new ≡ missing_in lags = ap missing_in same in
     record { are = are; falls = omega (arith, way.falls, stays); same = tt; known = tt }
-spreads_on graph a old e lags new false true way are falls same known =
+spreads_on graph chain a old e lags new false true way are falls same known =
     let stays : missing_in lags ≡ missing_in old = ap missing_in way.same in
     record { are = are; falls = omega (arith, falls, stays); same = tt; known = tt }
-spreads_on graph a old e lags new false false way are falls same known = record {
+spreads_on graph chain a old e lags new false false way are falls same known = record {
   are = are;
   falls = tt;
   same = same ∙ way.same;
-  known = below_more (IsKnownOn graph old) e way.known (subst (λ (x : List (Option ℕ)). IsKnownOn graph x e) way.same known);
+  known = below_more (IsKnownOn graph chain old) e way.known (subst (λ (x : List (Option ℕ)). IsKnownOn graph chain x e) way.same known);
 }
 
-pub spread_known : (graph : TaskGraph) (a : ℕ) (old : List (Option ℕ)) (e : ℕ) (lags : List (Option ℕ)) (came : Bool) → e ≡ length graph.edges → IsSpreading graph a old e lags came →
-    OnFalse came ((before : ℕ) → before < length graph.edges → IsKnownOn graph lags before)
-spread_known graph a old e lags true all way = tt
-spread_known graph a old e lags false all way = λ before below.
-    subst (λ (x : List (Option ℕ)). IsKnownOn graph x before) (sym way.same) (way.known before (omega (arith, all, below)))
+pub spread_known : (graph : TaskGraph) (chain : List TaskNo) (a : ℕ) (old : List (Option ℕ)) (e : ℕ) (lags : List (Option ℕ)) (came : Bool) → e ≡ length graph.edges → IsSpreading graph chain a old e lags came →
+    OnFalse came ((before : ℕ) → before < length graph.edges → IsKnownOn graph chain lags before)
+spread_known graph chain a old e lags true all way = tt
+spread_known graph chain a old e lags false all way = λ before below.
+    subst (λ (x : List (Option ℕ)). IsKnownOn graph chain x before) (sym way.same) (way.known before (omega (arith, all, below)))
 
 -- where no lag comes, what reaches a job has one
-pub known_all : (graph : TaskGraph) (a : ℕ) (lags : List (Option ℕ)) → AreLags graph a lags → ((e : ℕ) → e < length graph.edges → IsKnownOn graph lags e) → AreAllLags graph a lags
-known_all graph a lags are known = record {
+pub known_all : (graph : TaskGraph) (chain : List TaskNo) (a : ℕ) (lags : List (Option ℕ)) → AreLags graph chain a lags → ((e : ℕ) → e < length graph.edges → IsKnownOn graph chain lags e) → AreAllLags graph chain a lags
+known_all graph chain a lags are known = record {
   long = are.long;
   each = are.each;
   few = λ t lag is. omega (arith, are.few t lag is);
   never = λ t none m k reaches. (let has = go t m a k reaches are.own in no_lag has.0 (sym none ∙ has.1));
 }
   where
-    back : (t n i j : ℕ) → Takes graph t n i j → HasLag lags t → HasLag lags i
+    back : (t n i j : ℕ) → Takes graph chain t n i j → HasLag lags t → HasLag lags i
     back t n i j takes has =
         let inside : takes.number < length graph.edges = slice_get_within graph.edges takes.number takes.edge takes.at in
         let same : takes.edge ≡ edge_at graph takes.number = same_Some takes.edge (edge_at graph takes.number) (sym takes.at ∙ edge_found graph takes.number inside) in
         known takes.number inside i (subst (λ (x : Edge). ComesFrom x.from i) same takes.from)
+        (subst (λ (x : Edge). is_along chain i x.to.0 ≡ true) same (subst (λ (x : ℕ). is_along chain i x ≡ true) (sym takes.to) takes.along))
         (subst (λ (x : Edge). HasLag lags x.to.0) same (subst (λ (x : ℕ). HasLag lags x) (sym takes.to) has))
 
-    go : (s m t n : ℕ) → Reaches graph s m t n → HasLag lags t → HasLag lags s
+    go : (s m t n : ℕ) → Reaches graph chain s m t n → HasLag lags t → HasLag lags s
     go s m t n (reaching.itself b c task number) has = subst (λ (x : ℕ). HasLag lags x) task has
     go s m t n (reaching.through b c i j takes rest) has = go s m i j rest (back b c i j takes has)
 
@@ -310,33 +306,9 @@ prefix_first plan is e inside w d at =
     (first_after_prefix (edge_at plan.graph e).ops each.0 each.2)
 
 -- what is read of lags
-pub lag_read : (graph : TaskGraph) (a s lag : ℕ) (lags : List (Option ℕ)) (x : Option ℕ) → AreAllLags graph a lags → s < length graph.tasks →
+pub lag_read : (graph : TaskGraph) (chain : List TaskNo) (a s lag : ℕ) (lags : List (Option ℕ)) (x : Option ℕ) → AreAllLags graph chain a lags → s < length graph.tasks →
     x ≡ get_or lags s x → x ≡ Some lag → lag_at lags s ≡ Some lag
-lag_read graph a s lag lags x all inside is at = get_or_default lags s None x (omega (arith, all.long, inside)) ∙ sym is ∙ at
+lag_read graph chain a s lag lags x all inside is at = get_or_default lags s None x (omega (arith, all.long, inside)) ∙ sym is ∙ at
 
-pub lags_small : (graph : TaskGraph) → IsWellFormed graph → (a s lag : ℕ) (lags : List (Option ℕ)) → AreAllLags graph a lags → lag_at lags s ≡ Some lag → lag ≤ 64 * 1000000
-lags_small graph good a s lag lags all at = omega (arith, all.few s lag at, mul-le-mul_right MAX_PREFIX good.few_tasks)
-
--- the verdict
-module _ (graph : TaskGraph) (good : IsWellFormed graph) (s a : ℕ) (until : Until) (in_s : s < length graph.tasks) (in_a : a < length graph.tasks) (lag : ℕ) (is : IsLag graph a s lag) where
-  pub reached_by : (m : ℕ) × (k : ℕ) × Reaches graph s m a k × (k + jobs_of graph a ≤ (lag + 1) * jobs_of graph a)
-  reached_by =
-      let e : lag + 0 ≡ lag = omega arith in
-      let r = is.reaches 0 (lag * jobs_of graph a) (subst (λ (x : ℕ). x * jobs_of graph a ≤ lag * jobs_of graph a) (sym e) (omega arith)) in
-      (r.0, lag * jobs_of graph a, r.2, (let f : (lag + 1) * jobs_of graph a ≡ lag * jobs_of graph a + jobs_of graph a = omega arith in omega (arith, f)))
-
-  pub none_absurd : IsWorstBelow graph s a until ((lag + 1) * jobs_of graph a) None → ⊥
-  none_absurd below =
-      let each = below.each reached_by.1 (omega (arith, reached_by.3, jobs_some graph good a in_a)) in
-      go each.0 each.1 each.2
-    where
-      go : (age : Option Age) → IsAgeAt graph s a until reached_by.1 age → IsNotOlder age None → ⊥
-      go None at older = at reached_by.0 reached_by.2
-      go (Some age) at older = older
-
-  pub worst_is : (age : Age) → IsWorstBelow graph s a until ((lag + 1) * jobs_of graph a) (Some age) → IsWorst graph s a until age
-  worst_is age below = record {
-    worst = first_show_all graph good s a until in_s in_a ((lag + 1) * jobs_of graph a) age reached_by.0 reached_by.1 reached_by.2 reached_by.3 below;
-    fresh = below.attained.1.1;
-    ticks = below.attained.1.2;
-  }
+pub lags_small : (graph : TaskGraph) (chain : List TaskNo) → IsWellFormed graph → (a s lag : ℕ) (lags : List (Option ℕ)) → AreAllLags graph chain a lags → lag_at lags s ≡ Some lag → lag ≤ 64 * 1000000
+lags_small graph chain good a s lag lags all at = omega (arith, all.few s lag at, mul-le-mul_right MAX_PREFIX good.few_tasks)

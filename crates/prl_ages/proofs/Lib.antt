@@ -1,8 +1,13 @@
 pub mod Operands
 pub mod Reaching
 mod Counted
-mod FirstJobs
+mod Falling
+mod SpanJobs
 mod Lagging
 mod Freshest
 mod Reacting
-mod Settling
+mod CutWays
+mod Settled
+mod Turning
+mod Windows
+mod GreatestSkews

@@ -1,10 +1,10 @@
 -- How old a value is: from the release of a sensor's job, before which it is not sampled, to a deadline of the actuator, after
 -- which it counts no longer.
-use Rattle.std.specs.Prelude.{◌≡◌, ◌+◌, ◌-◌, ◌*◌, ◌<◌, ◌≤◌, ℕ, Option, Some, None}
+use Rattle.std.specs.Prelude.{◌≡◌, ◌+◌, ◌-◌, ◌*◌, ◌<◌, ◌≤◌, ℕ, List}
+use Rattle.prl_base.specs.declared.numbers.TaskNo.{TaskNo}
 use Rattle.prl_plan.specs.declared.graphs.TaskGraph.{TaskGraph}
 use Rattle.prl_plan.specs.Vocabulary.{task_at}
-use Rattle.prl_ages.specs.Reaching.{Reaches, IsFreshest}
-use Rattle.prl_ages.specs.declared.ages.Age.{Age}
+use Rattle.prl_ages.specs.Reaching.{IsFreshest}
 use Rattle.prl_ages.specs.declared.ages.Until.{Until}
 use Rattle.prl_ages.specs.declared.ages.Until.TheVariants as untils
 
@@ -27,28 +27,16 @@ age_of graph s m a until k = due_by graph a (k + jobs_later until) - released gr
 
 -- The worst age: of all jobs of actuator a that an instance of sensor s reaches, each taken with the latest that does, none
 -- uses an older one, and one uses one as old.
-pub record IsWorstAge (graph : TaskGraph) (s a : ℕ) (until : Until) (ticks : ℕ) : Type 0 where
-  pub above : (k m : ℕ) → IsFreshest graph s m a k → age_of graph s m a until k ≤ ticks
-  pub attained : (k : ℕ) × (m : ℕ) × IsFreshest graph s m a k × (ticks ≡ age_of graph s m a until k)
+pub record IsWorstAge (graph : TaskGraph) (chain : List TaskNo) (s a : ℕ) (until : Until) (ticks : ℕ) : Type 0 where
+  pub above : (k m : ℕ) → IsFreshest graph chain s m a k → age_of graph s m a until k ≤ ticks
+  pub attained : (k : ℕ) × (m : ℕ) × IsFreshest graph chain s m a k × (ticks ≡ age_of graph s m a until k)
 
--- the age at job k, and none where no instance reaches it
-abbrev pub IsAgeAt : TaskGraph → ℕ → ℕ → Until → ℕ → Option Age → Type 0
-IsAgeAt graph s a until k None = (m : ℕ) → Reaches graph s m a k → ⊥
-IsAgeAt graph s a until k (Some age) =
-    (age.job ≡ k) × IsFreshest graph s age.instance a k × (age.ticks ≡ age_of graph s age.instance a until k)
+-- the best age: none of all these jobs uses a newer one, and one uses one as new
+pub record IsBestAge (graph : TaskGraph) (chain : List TaskNo) (s a ticks : ℕ) : Type 0 where
+  pub below : (k m : ℕ) → IsFreshest graph chain s m a k → ticks ≤ age_of graph s m a untils.Used k
+  pub attained : (k : ℕ) × (m : ℕ) × IsFreshest graph chain s m a k × (ticks ≡ age_of graph s m a untils.Used k)
 
--- the one age is not above the other, if there is one
-abbrev pub IsNotOlder : Option Age → Option Age → Type 0
-IsNotOlder None worst = Unit {0}
-IsNotOlder (Some age) None = ⊥
-IsNotOlder (Some age) (Some worst) = age.ticks ≤ worst.ticks
-
--- an age is one of a job below this number
-abbrev pub IsAttainedBelow : TaskGraph → ℕ → ℕ → Until → ℕ → Option Age → Type 0
-IsAttainedBelow graph s a until jobs None = Unit {0}
-IsAttainedBelow graph s a until jobs (Some worst) = (worst.job < jobs) × IsAgeAt graph s a until worst.job (Some worst)
-
--- the worst age among the first jobs of actuator a, and none where no instance reaches one of them
-pub record IsWorstBelow (graph : TaskGraph) (s a : ℕ) (until : Until) (jobs : ℕ) (worst : Option Age) : Type 0 where
-  pub each : (k : ℕ) → k < jobs → (age : Option Age) × IsAgeAt graph s a until k age × IsNotOlder age worst
-  pub attained : IsAttainedBelow graph s a until jobs worst
+-- The settled age, the worst that comes again and again: from some job on none is older, and after each job one is as old.
+pub record IsSettledAge (graph : TaskGraph) (chain : List TaskNo) (s a ticks : ℕ) : Type 0 where
+  pub above : (from : ℕ) × ((k m : ℕ) → from ≤ k → IsFreshest graph chain s m a k → age_of graph s m a untils.Used k ≤ ticks)
+  pub again : (from : ℕ) → (k : ℕ) × (m : ℕ) × (from ≤ k) × IsFreshest graph chain s m a k × (ticks ≡ age_of graph s m a untils.Used k)

@@ -8,13 +8,13 @@ ghost use Rattle.prl_ages.specs.Reaching.{jobs_of};
 ghost use Rattle.prl_ages.specs.code.Lags.{AreLags, AreAllLags, CoversConstants, HasLag, IsKnownOn, lag_at, missing_in};
 
 use crate::ages::clock_of;
-use crate::needs::{consumer_of, either, source_of};
+use crate::needs::{consumer_of, either, giver_of};
 use prl_base::{EdgeNo, TaskNo};
-use prl_plan::{Plan, Producer};
+use prl_plan::Plan;
 use std::alloc::{AllocError, Global};
 
 /// How many jobs a task has in a hyperperiod.
-pub(crate) fn jobs_of(plan: &Plan, i: TaskNo) -> u64
+pub fn jobs_of(plan: &Plan, i: TaskNo) -> u64
     requires { i.0 < length plan.now.graph.tasks }
     ensures jobs { result ≡ jobs_of plan.now.graph i.0 }
     ensures some { 1 ≤ result }
@@ -36,7 +36,7 @@ fn constants_on(plan: &Plan, e: EdgeNo) -> u64
 }
 
 /// Within how many hyperperiods the consumer of an edge has read all the constants that come first on it.
-fn turns_of_constants(plan: &Plan, e: EdgeNo) -> u64
+pub(crate) fn turns_of_constants(plan: &Plan, e: EdgeNo) -> u64
     requires { e.0 < length plan.now.graph.edges }
     ensures covers { CoversConstants plan.now.graph e.0 result }
     ensures few { result ≤ MAX_PREFIX }
@@ -63,68 +63,79 @@ fn fill(lags: &mut [Option<u64>], task: TaskNo, lag: u64) -> bool
 }
 
 /// Takes an edge into account, and tells whether a lag came.
-fn pass_on(plan: &Plan, e: EdgeNo, a: TaskNo, lags: &mut [Option<u64>]) -> bool
+fn pass_on(plan: &Plan, chain: &[TaskNo], e: EdgeNo, a: TaskNo, lags: &mut [Option<u64>]) -> bool
     requires edge { e.0 < length plan.now.graph.edges }
-    requires are { AreLags plan.now.graph a.0 lags.old }
-    ensures are { AreLags plan.now.graph a.0 lags.new }
+    requires are { AreLags plan.now.graph chain.now a.0 lags.old }
+    ensures are { AreLags plan.now.graph chain.now a.0 lags.new }
     ensures falls { OnTrue result (missing_in lags.new < missing_in lags.old) }
     ensures same { OnFalse result (lags.new ≡ lags.old) }
-    ensures known { OnFalse result (IsKnownOn plan.now.graph lags.old e.0) }
+    ensures known { OnFalse result (IsKnownOn plan.now.graph chain.now lags.old e.0) }
 {
     let _ = a;
     let to = consumer_of(plan, e);
-    let from = source_of(plan, e);
+    let giver = giver_of(plan, chain, e);
     let turns = turns_of_constants(plan, e);
     match lags[to.0 as usize] {
         None => false,
-        Some(lag) => match from {
-            Producer::Port { task, .. } => fill(lags, task, lag + turns),
-            Producer::Constant(_) => false,
+        Some(lag) => match giver {
+            Some(task) => fill(lags, task, lag + turns),
+            None => false,
         },
     }
 }
 
 /// Takes each edge into account once, and tells whether a lag came.
-fn spread(plan: &Plan, a: TaskNo, lags: &mut [Option<u64>]) -> bool
-    requires are { AreLags plan.now.graph a.0 lags.old }
-    ensures are { AreLags plan.now.graph a.0 lags.new }
+fn spread(plan: &Plan, chain: &[TaskNo], a: TaskNo, lags: &mut [Option<u64>]) -> bool
+    requires are { AreLags plan.now.graph chain.now a.0 lags.old }
+    ensures are { AreLags plan.now.graph chain.now a.0 lags.new }
     ensures falls { OnTrue result (missing_in lags.new < missing_in lags.old) }
-    ensures known { OnFalse result ((e : ℕ) → e < length plan.now.graph.edges → IsKnownOn plan.now.graph lags.new e) }
+    ensures known { OnFalse result ((e : ℕ) → e < length plan.now.graph.edges → IsKnownOn plan.now.graph chain.now lags.new e) }
 {
     let mut came = false;
     for e in 0..plan.graph().edges.len() {
-        let passed = pass_on(plan, EdgeNo(e as u32), a, lags);
+        let passed = pass_on(plan, chain, EdgeNo(e as u32), a, lags);
         came = either(came, passed);
     }
     came
 }
 
 /// Takes the edges into account until no lag comes.
-fn spread_all(plan: &Plan, a: TaskNo, lags: &mut [Option<u64>])
-    requires are { AreLags plan.now.graph a.0 lags.old }
-    ensures are { AreLags plan.now.graph a.0 lags.new }
-    ensures known { (e : ℕ) → e < length plan.now.graph.edges → IsKnownOn plan.now.graph lags.new e }
+fn spread_all(plan: &Plan, chain: &[TaskNo], a: TaskNo, lags: &mut [Option<u64>])
+    requires are { AreLags plan.now.graph chain.now a.0 lags.old }
+    ensures are { AreLags plan.now.graph chain.now a.0 lags.new }
+    ensures known { (e : ℕ) → e < length plan.now.graph.edges → IsKnownOn plan.now.graph chain.now lags.new e }
 {
-    'more: while spread(plan, a, lags) {}
+    'more: while spread(plan, chain, a, lags) {}
 }
 
 /// The lags to begin with: of task `a` none, and the others unknown.
-fn first_lags(alloc: Global, plan: &Plan, a: TaskNo) -> Result<Vec<Option<u64>>, AllocError>
+fn first_lags(
+    alloc: Global,
+    plan: &Plan,
+    chain: &[TaskNo],
+    a: TaskNo,
+) -> Result<Vec<Option<u64>>, AllocError>
     requires { a.0 < length plan.now.graph.tasks }
-    ensures { IfOk result (λ lags. AreLags plan.now.graph a.0 lags.items) }
+    ensures { IfOk result (λ lags. AreLags plan.now.graph chain.now a.0 lags.items) }
 {
+    let _ = chain;
     let mut lags = vec![in alloc; None; plan.graph().tasks.len()]?;
     lags[a.0 as usize] = Some(0);
     Ok(lags)
 }
 
 /// By task, after how many hyperperiods each job of task `a` depends on it, if one ever does.
-pub(crate) fn lags(alloc: Global, plan: &Plan, a: TaskNo) -> Result<Vec<Option<u64>>, AllocError>
+pub(crate) fn lags(
+    alloc: Global,
+    plan: &Plan,
+    chain: &[TaskNo],
+    a: TaskNo,
+) -> Result<Vec<Option<u64>>, AllocError>
     requires { a.0 < length plan.now.graph.tasks }
-    ensures { IfOk result (λ lags. AreAllLags plan.now.graph a.0 lags.items) }
+    ensures { IfOk result (λ lags. AreAllLags plan.now.graph chain.now a.0 lags.items) }
 {
     let _graph = plan.graph();
-    let mut lags = first_lags(alloc, plan, a)?;
-    spread_all(plan, a, lags.as_mut_slice());
+    let mut lags = first_lags(alloc, plan, chain, a)?;
+    spread_all(plan, chain, a, lags.as_mut_slice());
     Ok(lags)
 }

@@ -33,7 +33,7 @@ pub enum ForEverFault {
 }
 
 /// How many ticks the jobs of a hyperperiod cost.
-fn load_of(plan: &Plan) -> u64
+pub fn load_of(plan: &Plan) -> u64
     ensures { result ≡ load_of plan.now }
 {
     plan_is_one(plan);

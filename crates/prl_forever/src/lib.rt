@@ -4,7 +4,7 @@
 mod deciding;
 mod laws;
 
-pub use deciding::{ForEver, ForEverFault, serves_for_ever};
+pub use deciding::{ForEver, ForEverFault, load_of, serves_for_ever};
 pub use laws::{
     answers_tell_for_ever, good_table_runs, good_table_serves_for_ever, light_runs_are_steady,
     served_for_ever, served_plans_meet_all_windows, tables_tell_for_ever,

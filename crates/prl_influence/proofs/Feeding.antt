@@ -1,5 +1,5 @@
 -- What feeds a job: no fresher than what reaches it.
-use Rattle.prl_base.proofs.Standard.{◌≡◌, ◌+◌, ◌-◌, ◌<◌, ◌≤◌, ℕ, zero, suc, length, refl, subst, arith}
+use Rattle.prl_base.proofs.Standard.{◌≡◌, ◌+◌, ◌-◌, ◌<◌, ◌≤◌, ℕ, zero, suc, [], length, refl, subst, arith}
 use Rattle.prl_plan.specs.declared.graphs.TaskGraph.{TaskGraph}
 use Rattle.prl_plan.specs.Vocabulary.{IsWellFormed}
 use Rattle.prl_plan.proofs.RoundLaws.{source_inside}
@@ -22,17 +22,17 @@ kept_on graph s m t n l feeds past =
     subst (λ (x : ℕ). Feeds graph s m t x) e (kept_by graph s m t n (l - n) feeds)
 
 -- what feeds a job reaches it, or a later instance does
-pub feeds_reaches : (graph : TaskGraph) → IsWellFormed graph → (s m t n : ℕ) → Feeds graph s m t n → (l : ℕ) × (m ≤ l) × Reaches graph s l t n
+pub feeds_reaches : (graph : TaskGraph) → IsWellFormed graph → (s m t n : ℕ) → Feeds graph s m t n → (l : ℕ) × (m ≤ l) × Reaches graph [] s l t n
 feeds_reaches graph good s m t n (feeding.itself b c task number) = (m, omega arith, reaching.itself t n task number)
 feeds_reaches graph good s m t n (feeding.through b c i j takes rest) =
     let up = feeds_reaches graph good s m i j rest in
     (up.0, up.1, reaching.through t n i j takes up.2)
 feeds_reaches graph good s m t n (feeding.kept b c rest) =
     let up = feeds_reaches graph good s m b c rest in
-    let on = rises graph good s up.0 b c (c + 1) up.2 (omega arith) in
+    let on = rises graph [] good s up.0 b c (c + 1) up.2 (omega arith) in
     (on.0, omega (arith, up.1, on.1), on.2)
 
-pub none_fresher : (graph : TaskGraph) → IsWellFormed graph → (s m t n f : ℕ) → Feeds graph s m t n → IsFreshest graph s f t n → m ≤ f
+pub none_fresher : (graph : TaskGraph) → IsWellFormed graph → (s m t n f : ℕ) → Feeds graph s m t n → IsFreshest graph [] s f t n → m ≤ f
 none_fresher graph good s m t n f feeds fresh =
     let up = feeds_reaches graph good s m t n feeds in
     let most = fresh.latest up.0 up.2 in

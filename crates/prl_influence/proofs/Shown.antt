@@ -72,7 +72,7 @@ module _ (graph : TaskGraph) (bodies : List CheckedBody) (rows other : Rows) whe
       ((t j : ℕ) → AgreeOnFeeding graph rows other t j → v t j ≡ w t j) → reads_of_job graph v i m ≡ reads_of_job graph w i m
   reads_agree v w i n m below agree known =
       reads_same v w graph.edges i m (λ e edge at to. value_same v w edge.from (operand_of edge m) (λ t j comes reads.
-      (let takes : Takes graph i m t j = record { number = e; edge = edge; at = at; to = to; from = comes; reads = reads } in
+      (let takes : Takes graph [] i m t j = record { number = e; edge = edge; at = at; to = to; from = comes; along = refl; reads = reads } in
       known t j (λ s k x kind feeds. agree s k x kind (kept_on graph s x i m n (feeding.through i m t j takes feeds) below)))))
 
   pub values_same : (rounds i n : ℕ) → AgreeOnFeeding graph rows other i n → values_after graph bodies rows rounds i n ≡ values_after graph bodies other rounds i n
@@ -85,9 +85,9 @@ module _ (graph : TaskGraph) (bodies : List CheckedBody) (rows other : Rows) whe
 
 -- inputs that agree up to the freshest agree on what feeds
 pub agree_on_feeding : (graph : TaskGraph) → IsWellFormed graph → (rows other : Rows) (i n : ℕ) → i < length graph.tasks →
-    ((s : ℕ) → s < length graph.tasks → ((m : ℕ) × IsFreshest graph s m i n) ⊎ ((m : ℕ) → Reaches graph s m i n → ⊥)) → AgreeUpToFreshest graph rows other i n → AgreeOnFeeding graph rows other i n
+    ((s : ℕ) → s < length graph.tasks → ((m : ℕ) × IsFreshest graph [] s m i n) ⊎ ((m : ℕ) → Reaches graph [] s m i n → ⊥)) → AgreeUpToFreshest graph rows other i n → AgreeOnFeeding graph rows other i n
 agree_on_feeding graph good rows other i n inside each agree s k m kind feeds = go (each s (feeds_inside graph good s m i n feeds inside))
   where
-    go : ((f : ℕ) × IsFreshest graph s f i n) ⊎ ((f : ℕ) → Reaches graph s f i n → ⊥) → slice_get (rows_of rows k) m ≡ slice_get (rows_of other k) m
+    go : ((f : ℕ) × IsFreshest graph [] s f i n) ⊎ ((f : ℕ) → Reaches graph [] s f i n → ⊥) → slice_get (rows_of rows k) m ≡ slice_get (rows_of other k) m
     go (inl fresh) = agree s k fresh.0 m kind fresh.1 (none_fresher graph good s m i n fresh.0 feeds fresh.1)
     go (inr never) = (let up = feeds_reaches graph good s m i n feeds in absurd (never up.0 up.2))

@@ -1,6 +1,6 @@
 //! Laws of what a job's value depends on, as functions that do nothing: the contract of each is the law.
 
-ghost use Rattle.std.specs.Prelude.{◌≡◌, ◌<◌, ◌≤◌, ℕ, List, length};
+ghost use Rattle.std.specs.Prelude.{◌≡◌, ◌<◌, ◌≤◌, ℕ, List, [], length};
 ghost use Rattle.prl_body.specs.declared.bodies.CheckedBody.{CheckedBody};
 ghost use Rattle.prl_flow.specs.Rows.{Rows};
 ghost use Rattle.prl_plan.specs.declared.graphs.TaskGraph.{TaskGraph};
@@ -19,7 +19,7 @@ pub fn values_follow_what_feeds_them()
 
 /// What a task keeps in registers is not fresher than what reaches it at once.
 pub fn nothing_fresher_feeds()
-    ensures { (graph : TaskGraph) → IsWellFormed graph → (s m t n f : ℕ) → Feeds graph s m t n → IsFreshest graph s f t n → m ≤ f }
+    ensures { (graph : TaskGraph) → IsWellFormed graph → (s m t n f : ℕ) → Feeds graph s m t n → IsFreshest graph [] s f t n → m ≤ f }
 {}
 
 /// A job gives the same for two inputs that agree, at each sensor, up to the latest sample that reaches the job: no later sample

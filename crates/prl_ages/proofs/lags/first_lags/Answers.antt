@@ -9,5 +9,5 @@ returns c =
     let count : c.len.result ≡ length c.args.plan.now.graph.tasks = c.len.ensures ∙ ap (λ (g : TaskGraph). length g.tasks) c.graph.ensures.graph in
     let made : c.in_ok-lags.lags.items ≡ none_known (length c.args.plan.now.graph.tasks) =
     c.in_ok-lags.ensures.items_if_clones_equal (λ y h. search (rules, h)) ∙ ap none_known count in
-    subst (λ (xs : List (Option ℕ)). AreLags c.args.plan.now.graph c.args.a.0 (set xs c.args.a.0 (Some 0))) (sym made)
-    (first_known c.args.plan.now.graph c.args.a.0 c.requires)
+    subst (λ (xs : List (Option ℕ)). AreLags c.args.plan.now.graph c.args.chain.now c.args.a.0 (set xs c.args.a.0 (Some 0))) (sym made)
+    (first_known c.args.plan.now.graph c.args.chain.now c.args.a.0 c.requires)

@@ -1,4 +1,4 @@
-use Rattle.prl_ages.proofs.Settling.{settles_later, settles_earlier}
+use Rattle.prl_ages.proofs.CutWays.{settles_later, settles_earlier}
 use Rattle.prl_ages.proofs.laws.freshest_instances_settle.Goals as goal
 
 pub returns : goal.returns

@@ -12,5 +12,5 @@ returns c =
     let count : c.len.result ≡ length c.args.plan.now.graph.tasks = c.len.ensures ∙ ap (λ (g : TaskGraph). length g.tasks) c.graph.ensures.graph in
     let made : c.in_ok-counts.counts.items ≡ none_counted (length c.args.plan.now.graph.tasks) =
     c.in_ok-counts.ensures.items_if_clones_equal (λ y h. h) ∙ ap none_counted count in
-    subst (λ (xs : List ℕ). AreFound c.args.plan.now.graph c.args.a.0 c.args.k (set xs c.args.a.0 (c.args.k + 1))) (sym made)
-    (first_found c.args.plan.now.graph c.args.a.0 c.args.k c.requires.task)
+    subst (λ (xs : List ℕ). AreFound c.args.plan.now.graph c.args.chain.now c.args.a.0 c.args.k (set xs c.args.a.0 (c.args.k + 1))) (sym made)
+    (first_found c.args.plan.now.graph c.args.chain.now c.args.a.0 c.args.k c.requires.task)

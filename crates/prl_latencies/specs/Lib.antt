@@ -1,2 +1,0 @@
--- what the program tells
-pub mod Told

@@ -1,0 +1,2 @@
+-- the times of a task, piece by piece
+pub mod PieceTimes
