@@ -1,0 +1,5 @@
+mod Cited
+mod Held
+mod Tasks
+mod Values
+mod Ones

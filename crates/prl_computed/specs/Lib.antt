@@ -1,0 +1,2 @@
+-- what the jobs of a command compute
+pub mod Computed
