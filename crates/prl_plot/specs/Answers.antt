@@ -9,7 +9,7 @@ use Rattle.prl_plot.specs.Asked.{AreChosen, IsAsked, IsRange}
 
 -- the plots of flows over the range that the words ask for
 abbrev pub IsInRange : List (List ℕ) → List FlowView → List ℕ → Type 0
-IsInRange words flows text = (scale : Scale) × IsRange words scale × ArePlotsOf scale flows text
+IsInRange words flows text = (scale : Scale) × IsRange words flows scale × ArePlotsOf scale flows text
 
 -- the plots of the flows that the words ask for and choose
 pub record IsPlotted (folder : Folder) (words : List (List ℕ)) (text : List ℕ) : Type 0 where

@@ -1,10 +1,10 @@
 //! The words of a command line, and the range that they ask for.
 
-ghost use Rattle.std.specs.Prelude.{◌≡◌, ◌-◌, ◌<◌, ◌≤◌, IfSome, MatchOption, Some, codes, map};
+ghost use Rattle.std.specs.Prelude.{◌≡◌, ◌<◌, ◌≤◌, IfSome, MatchOption, Some, codes, map, min};
 ghost use Rattle.std.specs.String.{string_bytes};
 ghost use Rattle.prl_base.specs.Decimals.{decimal_of};
 ghost use Rattle.prl_io.specs.Pairs.{value_of};
-ghost use Rattle.prl_plot.specs.Asked.{IsRange};
+ghost use Rattle.prl_plot.specs.Asked.{IsRange, default_end, held_until};
 
 use prl_drawing::{Scale, Unit, unit_of};
 use prl_io::{number_up_to, value_of};
@@ -60,35 +60,40 @@ fn first_of(words: &[String]) -> Option<u64>
     }
 }
 
-/// The tick up to which a flow's last value holds as long as the one before it; the next tick where there is one value alone.
-fn end_of(samples: &[Sample]) -> u64 {
+/// The tick up to which a flow's last value holds as long as the one before it; the next tick where it is the only one.
+fn end_of(samples: &[Sample]) -> u64
+    ensures { result ≡ min (held_until samples.now) MAX_UNTIL }
+{
     let count = samples.len();
     if count == 0 {
         return 0;
     }
     let last = samples[count - 1].date;
-    if count == 1 {
-        return last.saturating_add(1);
-    }
-    last.saturating_add(last.saturating_sub(samples[count - 2].date))
+    let held = if count == 1 {
+        1
+    } else {
+        last.saturating_sub(samples[count - 2].date)
+    };
+    last.saturating_add(held).min(MAX_UNTIL)
 }
 
 /// The tick after the range where the words do not tell it.
 fn default_end(flows: &[Flow], from: u64) -> u64
     requires { from < MAX_UNTIL }
-    ensures { (from < result) × (result ≤ MAX_UNTIL) }
+    ensures { result ≡ default_end flows.now from }
 {
     let mut end = from + 1;
-    for flow in flows {
-        end = end.max(end_of(flow.samples()).min(MAX_UNTIL));
+    for back in 0..flows.len() {
+        end = end_of(flows[flows.len() - 1 - back].samples()).max(end);
     }
     end
 }
 
 /// The tick after the last one that the words ask for.
+#[tactic(auto, using(crate::proofs::Ends::end_within))]
 fn last_of(words: &[String], flows: &[Flow], from: u64) -> Option<u64>
     ensures small { IfSome result (λ tick. tick ≤ MAX_UNTIL) }
-    ensures exact { IfSome result (λ tick. MatchOption (value_of (codes "--until") (map string_bytes words.now)) (from < tick) (λ word. decimal_of word ≡ Some tick)) }
+    ensures exact { IfSome result (λ tick. MatchOption (value_of (codes "--until") (map string_bytes words.now)) (tick ≡ default_end flows.now from) (λ word. decimal_of word ≡ Some tick)) }
 {
     match value_of(b"--until", words) {
         None => {
@@ -104,10 +109,7 @@ fn last_of(words: &[String], flows: &[Flow], from: u64) -> Option<u64>
 
 /// The range that the words ask for.
 pub(crate) fn range_of(words: &[String], flows: &[Flow]) -> Option<Scale>
-    ensures range { IfSome result (λ scale. IsRange (map string_bytes words.now) scale) }
-    ensures some { IfSome result (λ scale. scale.from < scale.until) }
-    ensures small { IfSome result (λ scale. scale.until ≤ MAX_UNTIL) }
-    ensures span { IfSome result (λ scale. scale.span ≡ scale.until - scale.from) }
+    ensures { IfSome result (IsRange (map string_bytes words.now) flows.now) }
 {
     let from = first_of(words)?;
     let until = last_of(words, flows, from)?;

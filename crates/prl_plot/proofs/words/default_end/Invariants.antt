@@ -1,7 +1,7 @@
-use Rattle.std.proofs.Common.{◌<◌, ◌≤◌}
-use Rattle.prl_plot.specs.declared.words.TheConstants.{MAX_UNTIL}
+use Rattle.std.specs.Prelude.{◌≡◌, ◌-◌, drop, length}
+use Rattle.prl_plot.specs.Asked.{default_end}
 use Rattle.prl_plot.proofs.words.default_end.Given as goal
 
--- behind the first tick, and no later than the greatest that may be asked for
-abbrev pub invariant-loop-flow : goal.invariant-loop-flow
-invariant-loop-flow l = (l.from < l.end) × (l.end ≤ MAX_UNTIL)
+-- the end by the last flows
+abbrev pub invariant-loop-back : goal.invariant-loop-back
+invariant-loop-back l = l.end ≡ default_end (drop (length l.flows - l.back) l.flows) l.from
