@@ -1,0 +1,2 @@
+-- a bar for each task
+pub mod Bars

@@ -1,0 +1,2 @@
+-- the task whose jobs may take longest
+pub mod Longest
