@@ -4,7 +4,7 @@ use Rattle.prl_base.specs.declared.numbers.TaskNo.{TaskNo}
 use Rattle.prl_plan.specs.declared.graphs.TaskGraph.{TaskGraph}
 use Rattle.prl_plan.specs.Vocabulary.{is_actuator, is_sensor, task_at}
 use Rattle.prl_times.specs.Rows.{Subject, about, age, ages_at, is_asked, sensors_at, task, tasks_to}
-use Rattle.prl_times.specs.declared.rows.Row.{Row}
+use Rattle.prl_timetext.specs.declared.rows.Row.{Row}
 
 -- the sensors with one more
 pub sensors_more : (graph : TaskGraph) (only : Option TaskNo) (a s : ℕ) (base old new : List Subject) → old ≡ base ++ sensors_at graph only a s →
@@ -27,10 +27,6 @@ ages_more graph sensor actuator a base old new before more =
 -- a row more
 pub about_push : (old : List Row) (row : Row) → map about (old ++ row ∷ []) ≡ map about old ++ about row ∷ []
 about_push old row = map-append about old (row ∷ [])
-
--- two pieces one after another
-pub joined : {X : Type 0} (w a b x y : List X) → x ≡ w ++ a → y ≡ x ++ b → y ≡ w ++ (a ++ b)
-joined {X} w a b x y first second = second ∙ ap (λ (xs : List X). xs ++ b) first ∙ append_assoc w a b
 
 -- what holds twice of an outcome
 pub both : {X E : Type 0} (r : Result X E) (P Q S : X → Type 0) → IfOk r P → IfOk r Q → ((x : X) → P x → Q x → S x) → IfOk r S

@@ -1,10 +1,8 @@
--- the names of tasks in words and lines
+-- lists of tasks
 pub mod Names
 -- what is told, row by row
 pub mod Rows
--- rows as lines and as JSON
-pub mod Texts
-pub mod Objects
+-- rows above a limit
 pub mod Limits
 -- what a call answers
 pub mod Told

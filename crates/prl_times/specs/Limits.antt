@@ -5,8 +5,8 @@ use Rattle.prl_ages.specs.declared.skews.SkewVerdict.{SkewVerdict}
 use Rattle.prl_ages.specs.declared.skews.SkewVerdict.TheVariants as skews
 use Rattle.prl_ages.specs.declared.verdicts.Verdict.{Verdict}
 use Rattle.prl_ages.specs.declared.verdicts.Verdict.TheVariants as verdicts
-use Rattle.prl_times.specs.declared.rows.Row.{Row}
-use Rattle.prl_times.specs.declared.rows.Row.TheVariants as rows
+use Rattle.prl_timetext.specs.declared.rows.Row.{Row}
+use Rattle.prl_timetext.specs.declared.rows.Row.TheVariants as rows
 
 -- an age is above a limit, or not known
 abbrev pub is_old : ℕ → Verdict → Bool

@@ -15,8 +15,8 @@ use Rattle.prl_ages.specs.Skews.{IsSkewVerdict}
 use Rattle.prl_ages.specs.Verdicts.{IsVerdict}
 use Rattle.prl_responses.specs.Responses.{IsTimesOf}
 use Rattle.prl_responses.specs.declared.responses.Times.{Times}
-use Rattle.prl_times.specs.declared.rows.Row.{Row}
-use Rattle.prl_times.specs.declared.rows.Row.TheVariants as rows
+use Rattle.prl_timetext.specs.declared.rows.Row.{Row}
+use Rattle.prl_timetext.specs.declared.rows.Row.TheVariants as rows
 
 -- the run by earliest deadline first of the jobs before a tick meets all deadlines, and the jobs of a task end in it so soon
 abbrev pub EndSo : PlanView → ℕ → ℕ → Option Times → Type 0

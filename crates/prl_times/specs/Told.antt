@@ -11,11 +11,12 @@ use Rattle.prl_plan.specs.Plans.{PlanView}
 use Rattle.prl_plan.specs.Vocabulary.{is_actuator, is_sensor, task_at}
 use Rattle.prl_plantext.specs.ReadTexts.{IsTextOf}
 use Rattle.prl_times.specs.Limits.{rows_above}
-use Rattle.prl_times.specs.Names.{has_twice, names_joined, AreOfPlan}
-use Rattle.prl_times.specs.Objects.{json_text}
+use Rattle.prl_times.specs.Names.{has_twice, AreOfPlan}
+use Rattle.prl_timetext.specs.Names.{names_joined}
+use Rattle.prl_timetext.specs.Objects.{json_text}
 use Rattle.prl_times.specs.Rows.{Subject, about, age, ages_at, chain, load, overload, skew, tasks_to, IsRow}
-use Rattle.prl_times.specs.Texts.{rows_text}
-use Rattle.prl_times.specs.declared.rows.Row.{Row}
+use Rattle.prl_timetext.specs.Texts.{rows_text}
+use Rattle.prl_timetext.specs.declared.rows.Row.{Row}
 
 -- the task of a plan that an option names, if the words have it: a sensor, or an actuator
 abbrev pub IsSensorAsked : PlanView → List (List ℕ) → Option TaskNo → Type 0

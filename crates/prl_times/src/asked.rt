@@ -10,10 +10,10 @@ ghost use Rattle.prl_times.specs.Told.{AreAllRows, AreRowsAsked, AreTasksAsked, 
 
 use crate::collected::{chain_row, load_row, one_row, push_ages, push_run, skew_row};
 use crate::names::{actuator_named, has_twice, sensor_named, tasks_named};
-use crate::rows::Row;
 use prl_base::TaskNo;
 use prl_io::{Fault, Piece, Stop, number_up_to, unfit_for, value_of, why_with};
 use prl_plan::{Horizon, Plan};
+use prl_timetext::Row;
 use std::alloc::Global;
 
 /// The greatest tick that may be asked for.

@@ -10,13 +10,13 @@ ghost use Rattle.prl_times.specs.Rows.{about, age, ages_at, chain, is_asked, loa
 ghost use Rattle.prl_responses.specs.Responses.{times_at};
 
 use crate::names::{is_actuator, is_sensor};
-use crate::rows::Row;
 use prl_ages::{Verdict, skew_of, verdicts_at};
 use prl_base::TaskNo;
 use prl_edf::{Timed, Verdict as RunVerdict, analyse};
 use prl_forever::load_of;
 use prl_plan::{Horizon, Plan, plan_is_one};
 use prl_responses::{Times, times_of};
+use prl_timetext::Row;
 use std::alloc::{AllocError, Global};
 
 /// The row of the load of a hyperperiod.

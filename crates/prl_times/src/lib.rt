@@ -7,10 +7,6 @@ mod asked;
 mod collected;
 mod limits;
 mod names;
-mod objects;
-mod rows;
 mod telling;
-mod texts;
 
-pub use rows::Row;
 pub use telling::{MAX_PLAN, tell};

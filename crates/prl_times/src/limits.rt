@@ -3,8 +3,8 @@
 ghost use Rattle.std.specs.Prelude.{◌≡◌, ◌++◌, ◌∷◌, [], IfOk, OnOk, cond};
 ghost use Rattle.prl_times.specs.Limits.{is_above, is_far, is_old, rows_above};
 
-use crate::rows::Row;
 use prl_ages::{SkewVerdict, Verdict};
+use prl_timetext::Row;
 use std::alloc::{AllocError, Global};
 
 /// Whether an age is above a limit, or not known.

@@ -1,22 +1,14 @@
 //! The tasks of a plan and their names.
 
-ghost use Rattle.std.specs.Prelude.{◌≡◌, ◌<◌, ◌≤◌, ◌++◌, IfOk, IfSome, OnOk, length, true};
+ghost use Rattle.std.specs.Prelude.{◌≡◌, ◌<◌, ◌≤◌, IfOk, IfSome, length, true};
 ghost use Rattle.prl_plan.specs.Vocabulary.{task_at, is_sensor, is_actuator};
-ghost use Rattle.prl_times.specs.Names.{has_twice, is_one_of, names_joined, AreOfPlan};
+ghost use Rattle.prl_times.specs.Names.{has_twice, is_one_of, AreOfPlan};
+ghost use Rattle.prl_timetext.specs.Names.{names_joined};
 
 use prl_base::TaskNo;
 use prl_plan::{Kind, Plan, plan_is_one};
+use prl_timetext::push_names;
 use std::alloc::{AllocError, Global};
-
-/// The name of a task; no bytes where the plan has no such one.
-pub(crate) fn name_of(plan: &Plan, i: TaskNo) -> &[u8]
-    ensures { result.now ≡ (task_at plan.now.graph i.0).name }
-{
-    match plan.graph().tasks.as_slice().get(i.0 as usize) {
-        Some(task) => task.name.bytes(),
-        None => b"",
-    }
-}
 
 /// What a task is for.
 fn kind_of(plan: &Plan, i: TaskNo) -> Kind
@@ -137,25 +129,6 @@ pub(crate) fn has_twice(tasks: &[TaskNo]) -> bool
     match tasks {
         [] => false,
         [first, rest @ ..] => is_one_of(*first, rest) || has_twice(rest),
-    }
-}
-
-/// Appends the names of some tasks, with commas between them.
-pub(crate) fn push_names(
-    text: &mut Vec<u8>,
-    plan: &Plan,
-    tasks: &[TaskNo],
-) -> Result<(), AllocError>
-    ensures { OnOk result (text.new.items ≡ text.old.items ++ names_joined plan.now.graph tasks.now) }
-{
-    match tasks {
-        [] => Ok(()),
-        [task] => text.extend_from_slice(name_of(plan, *task)),
-        [task, rest @ ..] => {
-            text.extend_from_slice(name_of(plan, *task))?;
-            text.extend_from_slice(b",")?;
-            push_names(text, plan, rest)
-        }
     }
 }
 

@@ -4,15 +4,12 @@ ghost use Rattle.std.specs.Prelude.{◌≡◌, IfOk, OnOk, cond, drop, map, true
 ghost use Rattle.std.specs.Bool.{OnFalse};
 ghost use Rattle.std.specs.String.{string_bytes};
 ghost use Rattle.prl_io.specs.Pairs.{asks_help};
-ghost use Rattle.prl_times.specs.Objects.{json_text};
-ghost use Rattle.prl_times.specs.Texts.{rows_text};
+ghost use Rattle.prl_timetext.specs.Objects.{json_text};
+ghost use Rattle.prl_timetext.specs.Texts.{rows_text};
 ghost use Rattle.prl_times.specs.Told.{asks_json, Answers, AreWithin, IsTold, IsToldBy, IsToldOf};
 
 use crate::asked::{FORM, HELP, OPTIONS, are_apart, chain_asked, rows_asked};
 use crate::limits::above;
-use crate::objects::json_of;
-use crate::rows::Row;
-use crate::texts::{push_row, text_of};
 use prl_base::{TaskNo, push_number};
 use prl_io::{
     Fault, Files, Sink, Stop, after_name, are_pairs, asks_help, end, number_up_to, read_named,
@@ -20,6 +17,7 @@ use prl_io::{
 };
 use prl_plan::Plan;
 use prl_plantext::{PlanFault, read_plan};
+use prl_timetext::{Row, json_of, push_row, text_of};
 use std::alloc::{AllocError, Global};
 
 /// The most bytes of a plan's text.
@@ -92,13 +90,13 @@ fn written(
     json: bool,
     chain: &[TaskNo],
     rows: &[Row],
-) -> Result<Vec<u8>, Fault>
+) -> Result<Vec<u8>, AllocError>
     ensures { IfOk result (λ text. text.items ≡ cond json (json_text plan.now.graph rows.now) (rows_text plan.now.graph chain.now rows.now)) }
 {
     if json {
         json_of(alloc, plan, rows)
     } else {
-        Ok(text_of(alloc, plan, chain, rows)?)
+        text_of(alloc, plan, chain, rows)
     }
 }
 
@@ -109,7 +107,7 @@ fn told(alloc: Global, words: &[String], json: bool, plan: &Plan) -> Result<Vec<
     let chain = chain_asked(alloc, words, plan)?;
     let rows = rows_asked(alloc, words, plan, &chain)?;
     within(alloc, words, plan, &chain, &rows)?;
-    written(alloc, plan, json, &chain, &rows)
+    Ok(written(alloc, plan, json, &chain, &rows)?)
 }
 
 /// What the words ask for, of the plan in the file that they name.

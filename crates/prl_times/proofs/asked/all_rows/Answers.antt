@@ -1,6 +1,6 @@
 use Rattle.prl_base.proofs.Standard.{◌≡◌, ◌++◌, ◌∙◌, List, [], ◌∷◌, All, All-cons, All-nil, ap, length, map, refl, sym, subst}
 use Rattle.prl_times.specs.Rows.{IsRow, Subject, about, ages_at}
-use Rattle.prl_times.specs.declared.rows.Row.{Row}
+use Rattle.prl_timetext.specs.declared.rows.Row.{Row}
 use Rattle.prl_times.proofs.asked.all_rows.Goals as goal
 
 pub returns : goal.returns

@@ -1,7 +1,7 @@
 use Rattle.prl_base.proofs.Standard.{◌≡◌, ℕ, List, [], All, Option, MatchOption, IfOk-weaker, codes, map, string_bytes, sym, subst}
 use Rattle.prl_base.specs.declared.numbers.TaskNo.{TaskNo}
 use Rattle.prl_io.specs.Pairs.{value_of}
-use Rattle.prl_times.specs.Names.{names_joined}
+use Rattle.prl_timetext.specs.Names.{names_joined}
 use Rattle.prl_times.specs.Rows.{IsRow}
 use Rattle.prl_times.specs.Told.{AreAllRows, IsChainRow, IsSkewRow}
 use Rattle.prl_times.proofs.RowLists.{both}

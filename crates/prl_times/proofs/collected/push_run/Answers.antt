@@ -4,8 +4,8 @@ use Rattle.prl_edf.specs.declared.analysis.Verdict.{Verdict}
 use Rattle.prl_overlaps.specs.Demand.{wcets_of}
 use Rattle.prl_plan.specs.Vocabulary.{constants_of}
 use Rattle.prl_times.specs.Rows.{IsRow, about, overload}
-use Rattle.prl_times.specs.declared.rows.Row.{Row}
-use Rattle.prl_times.specs.declared.rows.Row.TheVariants as rows
+use Rattle.prl_timetext.specs.declared.rows.Row.{Row}
+use Rattle.prl_timetext.specs.declared.rows.Row.TheVariants as rows
 use Rattle.prl_times.proofs.RowLists.{about_push}
 use Rattle.prl_times.proofs.collected.push_run.Goals as goal
 

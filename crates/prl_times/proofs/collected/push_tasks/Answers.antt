@@ -1,8 +1,8 @@
 use Rattle.prl_base.proofs.Standard.{◌≡◌, ◌++◌, ◌<◌, ◌∙◌, List, [], ◌∷◌, All, All-push, ap, arith, length, map, sym, subst}
 use Rattle.prl_responses.specs.Responses.{times_at}
 use Rattle.prl_times.specs.Rows.{IsRow, about}
-use Rattle.prl_times.specs.declared.rows.Row.{Row}
-use Rattle.prl_times.specs.declared.rows.Row.TheVariants as rows
+use Rattle.prl_timetext.specs.declared.rows.Row.{Row}
+use Rattle.prl_timetext.specs.declared.rows.Row.TheVariants as rows
 use Rattle.prl_times.proofs.RowLists.{about_push, tasks_more}
 use Rattle.prl_times.proofs.collected.push_tasks.Goals as goal
 
