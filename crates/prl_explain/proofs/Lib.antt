@@ -1,4 +1,3 @@
-mod Flats
 mod Lefts
 mod Lines
 mod Named

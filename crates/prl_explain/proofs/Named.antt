@@ -52,3 +52,14 @@ most_small parts.Plan = omega arith
 pub below : (part : Part) (found : Option (Bor (List ℕ))) → IfSome found (λ t. length t.now ≤ most_of part) → IfSome found (λ t. length t.now < 2 ^ 32)
 below part None h = tt
 below part (Some text) h = let k = most_small part in omega (arith, h, k)
+
+-- no file is longer than it may be where none was read
+pub few_none : (texts : Texts) → texts.program ≡ None → texts.bodies ≡ None → texts.sensors ≡ None → texts.schedule ≡ None
+    → texts.table ≡ None → texts.cores ≡ None → texts.plan ≡ None → AreFew texts
+few_none texts program bodies sensors schedule table cores plan parts.Program = rw program tt
+few_none texts program bodies sensors schedule table cores plan parts.Bodies = rw bodies tt
+few_none texts program bodies sensors schedule table cores plan parts.Sensors = rw sensors tt
+few_none texts program bodies sensors schedule table cores plan parts.Schedule = rw schedule tt
+few_none texts program bodies sensors schedule table cores plan parts.Table = rw table tt
+few_none texts program bodies sensors schedule table cores plan parts.Cores = rw cores tt
+few_none texts program bodies sensors schedule table cores plan parts.Plan = rw plan tt

@@ -1,9 +1,10 @@
 -- The explanation of a line of `prelude`.
-use Rattle.std.specs.Prelude.{◌≡◌, ◌++◌, ℕ, Bool, false, true, List, [], ◌∷◌, Option, Some, None, Result, IfOk, IfErr, codes, decimal}
-use Rattle.std.specs.Bool.{OnFalse}
+use Rattle.std.specs.Prelude.{◌≡◌, ◌++◌, ◌⊎◌, ℕ, Bool, false, true, List, [], ◌∷◌, Option, Some, None, Result, IfOk, IfErr, codes, decimal}
+use Rattle.std.specs.Bool.{OnFalse, OnTrue}
 use Rattle.std.specs.Str.{bytes_eq}
 use Rattle.prl_base.specs.Decimals.{decimal_of}
 use Rattle.prl_spots.specs.Counted.{IsCounted}
+use Rattle.prl_hints.specs.Hints.{IsHintTold}
 use Rattle.prl_io.specs.Views.{FolderView, SinkView}
 use Rattle.prl_io.specs.declared.endings.Stop.{Stop}
 use Rattle.prl_io.specs.declared.endings.Stop.TheVariants as stops
@@ -20,6 +21,7 @@ use Rattle.prl_sentences.specs.declared.kinds.Target.{Target}
 use Rattle.prl_sentences.specs.declared.kinds.Target.TheVariants as targets
 use Rattle.prl_sentences.specs.Kinds.{IsLineOf, argument_of, rest_of}
 use Rattle.prl_sentences.specs.Sentences.{sentence_text, word_at}
+use Rattle.prl_explain.specs.declared.explanations.TheConstants.{HELP, VERSION}
 use Rattle.prl_explain.specs.declared.texts.Texts.{Texts}
 use Rattle.prl_explain.specs.Details.{IsLeftIn, IsOfSchedule, IsPlacingIn, IsPlanFrom}
 use Rattle.prl_spots.specs.Places.{lead, line_front, line_rest, place_of}
@@ -31,7 +33,7 @@ use Rattle.prl_spots.specs.Twice.{IsTwice}
 use Rattle.prl_spots.specs.Unexpected.{IsUnexpectedAt, IsWordTold}
 use Rattle.prl_arguments.specs.Dashes.{before_dashes, from_dashes}
 use Rattle.prl_arguments.specs.WrongTexts.{words_text}
-use Rattle.prl_explain.specs.Ways.{IsChainTold, IsCircleTold, IsClashTold, IsCycleTold}
+use Rattle.prl_waytext.specs.Ways.{IsChainTold, IsCircleTold, IsClashTold, IsCycleTold}
 
 -- the file in which a place is told
 abbrev pub part_of : Target → Option Part
@@ -64,16 +66,17 @@ marked source at = marked_line (shown true (line_front source at)) (line_rest so
 abbrev pub shown_text : Kind → List ℕ → List ℕ → List ℕ → ℕ → List ℕ
 shown_text kind line name source at = line ++ place_text name source at ++ marked source at ++ sentence_text kind line
 
--- the line, where the file has its place that one, and what is said of the line
-abbrev pub text_at : Kind → List ℕ → List ℕ → List ℕ → Option ℕ → List ℕ
-text_at kind line name source None = line ++ sentence_text kind line
-text_at kind line name source (Some at) = shown_text kind line name source at
+-- the line, where the file has its place that one, what is said of the line, and a hint that may be given at the place
+abbrev pub IsTextAt : Kind → List ℕ → List ℕ → List ℕ → Option ℕ → List ℕ → Type 0
+IsTextAt kind line name source None text = text ≡ line ++ sentence_text kind line
+IsTextAt kind line name source (Some at) text =
+    (hint : List ℕ) × IsHintTold source at hint × (text ≡ shown_text kind line name source at ++ hint)
 
 -- the explanation of a line of a kind by a file: with the place that the line tells, where the file has it
 abbrev pub IsByFile : Kind → List ℕ → List ℕ → List ℕ → List ℕ → Type 0
 IsByFile kind line name source text =
     (found : Option ℕ) × IsSpot kind.target (argument_of kind line) source found
-    × (text ≡ text_at kind line name source found)
+    × IsTextAt kind line name source found text
 
 -- by the name and the bytes of the file, where both are there
 abbrev pub IsByNamed : Kind → List ℕ → Option (List ℕ) → Option (List ℕ) → List ℕ → Type 0
@@ -157,15 +160,30 @@ IsOfKind words command texts kind line text =
     × (detail : List ℕ) × IsDetail texts command kind.detail (rest_of kind line) detail
     × (text ≡ front ++ detail)
 
--- the explanation of a line, by the files that the words name and by those of the command that was refused, as a terminal may show it
+-- files are needed for what is told of a line: it tells a place, or something beside that is not of the command's words
+abbrev pub needs_files : Target → Detail → Bool
+needs_files targets.Nowhere details.Nothing = false
+needs_files targets.Nowhere details.Words = false
+needs_files target detail = true
+
+-- the explanation of a line, by the files that the words name, where they are needed, and by those of the command that was refused,
+-- as a terminal may show it
 pub record IsExplanation (folder : Folder) (words : List (List ℕ)) (command : Option (List (List ℕ))) (line text : List ℕ) : Type 0 where
   pub kind : Kind
   pub is_line : IsLineOf kind line
   pub texts : Texts
-  pub are_named : AreNamed folder words texts
+  pub are_named : OnTrue (needs_files kind.target kind.detail) (AreNamed folder words texts)
   pub told : List ℕ
   pub is_told : IsOfKind words command texts kind line told
   pub is_text : text ≡ shown true told
+
+-- what the options mean, behind the program's name and version
+unfoldable pub help_text : List ℕ
+help_text = codes "prelude_explain " ++ VERSION.now ++ codes "\n" ++ HELP.now
+
+-- without words it may be what the options mean
+abbrev pub IsAnswer : Folder → List (List ℕ) → Option (List (List ℕ)) → List ℕ → List ℕ → Type 0
+IsAnswer folder words command line text = ((words ≡ []) × (text ≡ help_text)) ⊎ IsExplanation folder words command line text
 
 -- why there is no explanation
 abbrev pub IsStop : FolderView → FolderView → List (List ℕ) → Stop → Type 0
@@ -187,5 +205,5 @@ pub record Answers (words : List (List ℕ)) (line : List ℕ) (files files' : F
     (code : ℕ) : Type 0 where
   pub outcome : Result (List ℕ) Stop
   pub ends : Ends (λ text. text) outcome out out' err err' code
-  pub text : OnFalse (asks_help words) (IfOk outcome (IsExplanation files.folder (before_dashes words) (from_dashes words) line))
+  pub text : OnFalse (asks_help words) (IfOk outcome (IsAnswer files.folder (before_dashes words) (from_dashes words) line))
   pub stop : IfErr outcome (IsStop files files' (before_dashes words))

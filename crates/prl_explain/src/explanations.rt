@@ -3,20 +3,21 @@
 
 ghost use Rattle.std.specs.Prelude.{◌≡◌, ◌++◌, ◌≤◌, ◌<◌, ◌^◌, Some, drop, map, IfOk, IfErr, IfSome, OnOk, length};
 ghost use Rattle.std.specs.Option.{option_map};
-ghost use Rattle.std.specs.Bool.{OnFalse};
+ghost use Rattle.std.specs.Bool.{OnFalse, OnTrue};
 ghost use Rattle.std.specs.String.{string_bytes};
 ghost use Rattle.prl_sentences.specs.Kinds.{IsLineOf};
 ghost use Rattle.prl_sentences.specs.Sentences.{sentence_text};
-ghost use Rattle.prl_explain.specs.Explanations.{Answers, asks_help, IsByFile, IsByNamed, IsByPart, IsExplanation, IsFront, IsOfKind, IsStop, marked, marked_line, part_of, place_text, shown_text};
+ghost use Rattle.prl_explain.specs.Explanations.{Answers, asks_help, IsAnswer, IsByFile, IsByNamed, IsByPart, IsFront, IsOfKind, IsStop, IsTextAt, help_text, marked, marked_line, needs_files, part_of, place_text, shown_text};
 ghost use Rattle.prl_shown.specs.Shown.{shown};
-ghost use Rattle.prl_explain.specs.Texts.{AreFew, IsStopOfFile};
+ghost use Rattle.prl_explain.specs.Texts.{AreFew, AreNamed, IsStopOfFile};
 
-use crate::texts::{Texts, option_of, read_texts, text_in};
+use crate::texts::{Texts, no_texts, option_of, read_texts, text_in};
 use crate::told::detail_of;
 use prl_arguments::{before_dashes, from_dashes};
 use prl_base::push_number;
+use prl_hints::hint_told;
 use prl_io::{Files, Sink, Stop, after_name, are_pairs, finish, value_of};
-use prl_sentences::{Kind, Part, Target, argument_of, line_kind, push_sentence, rest_of};
+use prl_sentences::{Detail, Kind, Part, Target, argument_of, line_kind, push_sentence, rest_of};
 use prl_shown::{push_shown, shown};
 use prl_spots::{line_front, line_rest, place_of, push_lead, spot_of};
 use std::alloc::{AllocError, Global};
@@ -25,8 +26,11 @@ use std::alloc::{AllocError, Global};
 const FORM: &str = "prelude_explain [--program FILE] [--bodies FILE] [--sensors FILE] \
     [--schedule FILE] [--table FILE] [--cores FILE] [--plan FILE] [--node NAME] [-- WORD ..], or --help";
 
+/// The version of the program.
+pub const VERSION: &str = "0.1.0";
+
 /// What the options mean.
-const HELP: &str = "prelude_explain [OPTION VALUE ..] [-- WORD ..] < LINE\n\
+pub const HELP: &str = "prelude_explain [OPTION VALUE ..] [-- WORD ..] < LINE\n\
     Explains a line that `prelude` wrote on `err`: where it is, what is wrong, what would mend it.\n\n\
     --program FILE   the program\n\
     --bodies FILE    the bodies of its imported nodes\n\
@@ -39,7 +43,24 @@ const HELP: &str = "prelude_explain [OPTION VALUE ..] [-- WORD ..] < LINE\n\
     --help           this text\n\
     -- WORD ..       the words after `prelude` of the command that was refused\n\n\
     Name the files that the command had: the more there are, the more is told. Of `usage` is told\n\
-    which word is wrong, where the words are given.\n";
+    which word is wrong, where the words are given.\n\n\
+    The modes of `prelude`, each option with one value, in any order; those in brackets may be left out:\n\n\
+    print --program FILE\n\
+    check --program FILE [--bodies FILE] [--node NAME]\n\
+    plan --program FILE [--node NAME]\n\
+    schedule --program FILE --until DATE [--node NAME]\n\
+    edf --program FILE --until DATE [--node NAME]\n\
+    table --program FILE [--node NAME]\n\
+    flows --program FILE --sensors FILE --until DATE [--bodies FILE] [--node NAME]\n\
+    replay --program FILE --sensors FILE --schedule FILE --until DATE [--bodies \
+    FILE] [--node NAME]\n\
+    run --program FILE --sensors FILE --until DATE [--bodies FILE] [--node NAME] \
+    [--workers COUNT] [--clock gated|free]\n\
+    cycle --program FILE --sensors FILE --table FILE --until DATE [--bodies FILE] \
+    [--node NAME]\n\
+    cores --program FILE --sensors FILE --cores FILE --until DATE [--bodies FILE] \
+    [--schedule FILE] [--node NAME]\n\
+    generate --seed NUMBER --size LANES\n";
 
 /// Why there is no explanation.
 const NO_LINE: &str = "standard input is not one line of prelude";
@@ -137,6 +158,25 @@ fn with_place(
     Ok(text)
 }
 
+/// The explanation with the place of a byte of a file, and a hint at what stands there, where one may be given.
+#[tactic(auto, using(crate::proofs::Sayings::hinted_is))]
+fn with_hint(
+    alloc: Global,
+    kind: &Kind,
+    line: &[u8],
+    name: &[u8],
+    source: &[u8],
+    at: usize,
+) -> Result<Vec<u8>, AllocError>
+    requires { at ≤ length source.now }
+    ensures { IfOk result (λ text. IsTextAt kind.now line.now name.now source.now (Some at) text.items) }
+{
+    let mut text = with_place(alloc, kind, line, name, source, at)?;
+    let hint = hint_told(alloc, kind.front, source, at)?;
+    text.extend_from_slice(&hint)?;
+    Ok(text)
+}
+
 /// The explanation without a place.
 fn without_place(alloc: Global, kind: &Kind, line: &[u8]) -> Result<Vec<u8>, AllocError>
     ensures { IfOk result (λ text. text.items ≡ line.now ++ sentence_text kind.now line.now) }
@@ -159,7 +199,7 @@ fn by_file(
 {
     match spot_of(alloc, source, kind.target, argument_of(kind, line))? {
         None => without_place(alloc, kind, line),
-        Some(at) => with_place(alloc, kind, line, name, source, at),
+        Some(at) => with_hint(alloc, kind, line, name, source, at),
     }
 }
 
@@ -237,6 +277,37 @@ fn of_kind(
     Ok(text)
 }
 
+/// Whether files are needed for what is told of a line of a kind: it tells a place, or something beside that is not of the
+/// command's words.
+fn needs_files(kind: &Kind) -> bool
+    ensures { result ≡ needs_files kind.now.target kind.now.detail }
+{
+    match (kind.target, kind.detail) {
+        (Target::Nowhere, Detail::Nothing) | (Target::Nowhere, Detail::Words) => false,
+        _ => true,
+    }
+}
+
+/// Reads the files that the words name, where they are needed.
+fn needed_texts<F: Files>(
+    alloc: Global,
+    files: &mut F,
+    words: &[String],
+    kind: &Kind,
+) -> Result<Texts, Stop>
+    ensures texts { IfOk result (λ texts. OnTrue (needs_files kind.now.target kind.now.detail) (AreNamed (F.seen files.old).folder (map string_bytes words.now) texts)) }
+    ensures few { IfOk result AreFew }
+    ensures stop { IfErr result (IsStopOfFile (F.seen files.old) (F.seen files.new) (map string_bytes words.now)) }
+    ensures failed { IfOk result (λ _. (F.seen files.new).failed ≡ (F.seen files.old).failed) }
+    ensures kept { (F.seen files.new).folder ≡ (F.seen files.old).folder }
+{
+    if needs_files(kind) {
+        read_texts(alloc, files, words)
+    } else {
+        Ok(no_texts())
+    }
+}
+
 /// The explanation of a line of a kind, by the files that the words name.
 #[tactic(auto, using(crate::proofs::Sayings::explained))]
 fn by_words<F: Files>(
@@ -248,16 +319,30 @@ fn by_words<F: Files>(
     files: &mut F,
 ) -> Result<Vec<u8>, Stop>
     requires { IsLineOf kind.now line.now }
-    ensures text { IfOk result (λ text. IsExplanation (F.seen files.old).folder (map string_bytes words.now) (option_map (λ rest. map string_bytes rest.now) command.entry) line.now text.items) }
+    ensures text { IfOk result (λ text. IsAnswer (F.seen files.old).folder (map string_bytes words.now) (option_map (λ rest. map string_bytes rest.now) command.entry) line.now text.items) }
     ensures stop { IfErr result (IsStopOfFile (F.seen files.old) (F.seen files.new) (map string_bytes words.now)) }
     ensures kept { (F.seen files.new).folder ≡ (F.seen files.old).folder }
 {
-    let texts = read_texts(alloc, files, words)?;
+    let texts = needed_texts(alloc, files, words, kind)?;
     let text = of_kind(alloc, words, command, &texts, kind, line)?;
     Ok(shown(alloc, true, &text)?)
 }
 
-/// The explanation of a line, by the files that the words name and by those of the command that was refused.
+/// What the options mean, behind the program's name and version.
+#[tactic(auto, unfolding(crate::specs::Explanations::help_text))]
+fn help(alloc: Global) -> Result<Vec<u8>, AllocError>
+    ensures { IfOk result (λ text. text.items ≡ help_text) }
+{
+    let mut text = Vec::from_slice(alloc, b"prelude_explain ")?;
+    text.extend_from_slice(VERSION.as_bytes())?;
+    text.push(b'\n')?;
+    text.extend_from_slice(HELP.as_bytes())?;
+    Ok(text)
+}
+
+/// The explanation of a line, by the files that the words name and by those of the command that was refused; what the options
+/// mean, where there are no words and the text is no line.
+#[tactic(auto, using(crate::proofs::Sayings::helped))]
 fn explanation<F: Files>(
     alloc: Global,
     words: &[String],
@@ -265,16 +350,17 @@ fn explanation<F: Files>(
     line: &[u8],
     files: &mut F,
 ) -> Result<Vec<u8>, Stop>
-    ensures text { IfOk result (λ text. IsExplanation (F.seen files.old).folder (map string_bytes words.now) (option_map (λ rest. map string_bytes rest.now) command.entry) line.now text.items) }
+    ensures text { IfOk result (λ text. IsAnswer (F.seen files.old).folder (map string_bytes words.now) (option_map (λ rest. map string_bytes rest.now) command.entry) line.now text.items) }
     ensures stop { IfErr result (IsStop (F.seen files.old) (F.seen files.new) (map string_bytes words.now)) }
     ensures kept { (F.seen files.new).folder ≡ (F.seen files.old).folder }
 {
     if !are_pairs(&OPTIONS, words) {
         return Err(Stop::Words(FORM));
     }
-    match line_kind(line) {
-        None => Err(Stop::Refused(NO_LINE)),
-        Some(kind) => by_words(alloc, words, command, &kind, line, files),
+    match (line_kind(line), words) {
+        (Some(kind), _) => by_words(alloc, words, command, &kind, line, files),
+        (None, []) => Ok(help(alloc)?),
+        (None, _) => Err(Stop::Refused(NO_LINE)),
     }
 }
 
@@ -289,18 +375,19 @@ fn answer<F: Files>(
     files: &mut F,
 ) -> Result<Vec<u8>, Stop>
     ensures text { OnFalse (asks_help (map string_bytes words.now))
-        (IfOk result (λ text. IsExplanation (F.seen files.old).folder (map string_bytes own.now) (option_map (λ rest. map string_bytes rest.now) command.entry) line.now text.items)) }
+        (IfOk result (λ text. IsAnswer (F.seen files.old).folder (map string_bytes own.now) (option_map (λ rest. map string_bytes rest.now) command.entry) line.now text.items)) }
     ensures stop { IfErr result (IsStop (F.seen files.old) (F.seen files.new) (map string_bytes own.now)) }
 {
     if asks_help(words) {
-        return Ok(Vec::from_slice(alloc, HELP.as_bytes())?);
+        return Ok(help(alloc)?);
     }
     explanation(alloc, own, command, line, files)
 }
 
 /// Explains a line that `prelude` wrote on `err`: the explanation goes to `out`, and at every status but 0 one line goes to
 /// `err`. The first word is the program's own name, which is passed over; behind `--` stand the words of the command that was
-/// refused. Where `--help` is the only other word, `out` gets what the options mean.
+/// refused. Where `--help` is the only other word, `out` gets what the options mean; so too where there is no other word and the
+/// text is no line of `prelude`.
 pub fn explain<F: Files, S: Sink, E: Sink>(
     alloc: Global,
     words: &[String],

@@ -2,16 +2,14 @@
 //! mark under the place, and sentences in plain words; and what the files tell beside: the two places of a name, what might stand
 //! where something else has to, which job of a schedule acts and which other one it overtakes, the flows round a cycle, the chain of
 //! jobs that one waits for. It stands on `prl_sentences` for what is said of each line, on `prl_spots` for places, on `prl_calls`
-//! for the plan of a program, on `prl_plantext` for the text of a plan, on `prl_schedules` and on `prl_ways`.
+//! for the plan of a program, on `prl_plantext` for the text of a plan, on `prl_schedules`, and on `prl_waytext` for ways.
 #![tactic(auto)]
 
 mod details;
 mod explanations;
 mod placings;
-mod program_texts;
 mod texts;
 mod told;
-mod ways;
 
 pub use explanations::explain;
 pub use texts::Texts;

@@ -28,6 +28,23 @@ pub struct Texts {
     pub node: Option<Label>,
 }
 
+/// No files, and no name of a node.
+#[tactic(auto, using(crate::proofs::Named::few_none))]
+pub(crate) fn no_texts() -> Texts
+    ensures { AreFew result }
+{
+    Texts {
+        program: None,
+        bodies: None,
+        sensors: None,
+        schedule: None,
+        table: None,
+        cores: None,
+        plan: None,
+        node: None,
+    }
+}
+
 /// The bytes of two files.
 type Two = (Option<Vec<u8>>, Option<Vec<u8>>);
 

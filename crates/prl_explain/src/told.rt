@@ -10,15 +10,15 @@ ghost use Rattle.prl_explain.specs.Details.{IsLeftIn, IsOfSchedule, IsPlacingIn,
 ghost use Rattle.prl_explain.specs.Explanations.{IsByPlan, IsCountedAt, IsCountedIn, IsDetail, IsTwiceIn, IsUnexpectedIn, ask_text, program_in, words_told};
 ghost use Rattle.prl_explain.specs.Placings.{tasks_text};
 ghost use Rattle.prl_explain.specs.Texts.{AreFew, text_in};
-ghost use Rattle.prl_explain.specs.Ways.{IsChainTold, IsCircleTold, IsClashTold, IsCycleTold};
+ghost use Rattle.prl_waytext.specs.Ways.{IsChainTold, IsCircleTold, IsClashTold, IsCycleTold};
 
 use crate::details::{broken_told, left_told, placing_in, plan_from, tasks_told};
 use crate::texts::{Texts, text_in};
-use crate::ways::{byte_of, chain_told, circle_told, clash_told, cycle_told};
 use prl_arguments::words_told;
 use prl_plan::{Plan, Rule};
 use prl_sentences::{Detail, Part, word_at};
 use prl_spots::{counts_told, here_of, twice_told, unexpected_told};
+use prl_waytext::{byte_of, chain_told, circle_told, clash_told, cycle_told};
 use std::alloc::{AllocError, Global};
 
 /// The plan that the texts give.

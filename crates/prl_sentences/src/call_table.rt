@@ -1,7 +1,7 @@
 //! What is to be said of the lines of words, files, memory and limits.
 
 /// The rows of these lines.
-static ROWS: [&str; 21] = [
+static ROWS: [&str; 22] = [
     "usage: prelude MODE --OPTION VALUE ..|\n|\
         The words after `prelude` are no command. A mode stands first, and then its options in \
         any order, each with one value and none twice; those in brackets may be left out.\n\
@@ -42,6 +42,11 @@ static ROWS: [&str; 21] = [
         replaced in cell \x05: there it wanted the number \x07 and found \x09, where instance N \
         of a flow has the number N + 1. Under the free clock a job came too late. Run under the \
         gated clock, or see that each job ends by its encoded deadline.",
+    "overload |\n|\
+        One processor can not serve the jobs of this run: those that are released at \x00 or later \
+        and due by \x01 ask for \x03 ticks, and there are \x05. Make a wcet smaller, allow a \
+        later deadline, or choose longer periods; a delay by `fby` between two tasks gives their \
+        jobs more time. Mode `cores` has several processors.",
     "4 limit name found |\n|\
         A name has \x00 bytes, and may have 64. Shorten it.",
     "4 limit depth found |\n|\

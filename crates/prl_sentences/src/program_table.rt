@@ -15,9 +15,11 @@ static ROWS: [&str; 25] = [
         This number is out of its range. A period, a factor, a wcet and a denominator are 1 to \
         2147483647, a numerator and a due 0 to 2147483647; a constant has 64 bits with its sign.",
     "10 unknown |\n|\
-        No import, sensor, actuator, node or variable `\x00` can be seen where it is used. Mend \
-        its spelling, or declare it: an input of main by `sensor \x00 wcet N;`, an output of main \
-        by `actuator \x00 wcet N;`.",
+        No import, sensor, actuator, node or variable `\x00` can be seen where it is used. \
+        Mend its spelling, where capital letters count, or declare it: an input of main by \
+        `sensor \x00 wcet N;`, an output of main by `actuator \x00 wcet N;`. Main is the \
+        last node of the text: where another one is meant, put that one last or name it by \
+        `--node`.",
     "11 twice |\n|\
         `\x00` stands for two things, or has two equations, or is an input and has one; the mark \
         is under its first place, in a node if it stands in one. Give one of the two things \
@@ -34,8 +36,9 @@ static ROWS: [&str; 25] = [
         An integer stands where a Boolean is needed. Change the value, or the type that is \
         declared for it. Where the value is right here, what first gave it its type is wrong.",
     "14 no main|\n|\
-        No node can be main. Write one node whose inputs are all sensors and whose outputs are \
-        all actuators, or name it by `--node`.",
+        No node can be main: the program has none, or none of the name after `--node`; an \
+        imported node is none. Write one node whose inputs are all sensors and whose outputs \
+        are all actuators, or name it by `--node` as the program spells it.",
     "15 undefined |\n|\
         No equation says what `\x00` is, an output or a variable. Write one, with its name on the \
         left.",
@@ -45,8 +48,9 @@ static ROWS: [&str; 25] = [
     "17 type free |\n|\
         Nothing says whether `\x00` is an integer or a Boolean. Declare its type, as in `x: int`.",
     "20 body missing |\n|\
-        The bodies have none for the imported node `\x00`, or no bodies are named. Write `body \
-        \x00 { .. }` for it in the file of `--bodies`.",
+        The bodies have none for the imported node `\x00`, or no bodies are named. Write \
+        `body \x00 { .. }` for it in the file of `--bodies`, spelt as the import is: capital \
+        letters count.",
     "21 body arity at |\n|\
         This body does not say what each output is. Write one statement for each output of the \
         imported node.",
@@ -62,12 +66,15 @@ static ROWS: [&str; 25] = [
         output can not be read. It has no other variables: write the expression out, or a \
         register, which keeps its value for the next job.",
     "30 cycle |\n|\
-        Flow `\x00` needs its own value of the same instant. Delay it somewhere around the loop, \
-        as `0 fby x` does, and let the loop go through an imported node; `::` and `tail` do not \
-        delay.",
+        Flow `\x00` is made of itself, and round the loop either no delay stands or no \
+        imported node. Delay it somewhere around the loop, as `0 fby x` does, and let the \
+        loop go through an imported node, which gives its value by a job of its own; `::` \
+        and `tail` do not delay.",
     "40 clock mismatch at |\n|\
-        The flow has one rate by its own equation and another by its use or by what is declared. \
-        Bring both to one rate by *^, /^ or ~>, or change the declared rate.",
+        The flow has one rate by its own equation and another by its use or by what is \
+        declared. Bring both to one rate by *^, /^ or ~>, or change the declared rate. What \
+        stands behind a flow is done before what stands in front of it: `0 fby x *^ 3` is `0 \
+        fby (x *^ 3)`, and `(0 fby x) *^ 3` has other values.",
     "41 clock free |\n|\
         Nothing says at what rate `\x00` runs. Declare `rate (PERIOD, PHASE)` for an input or \
         output that it is connected to.",
@@ -81,9 +88,10 @@ static ROWS: [&str; 25] = [
     "51 due range |\n|\
         `\x00` has due \x02 and period \x04, and a due is 1 to the period. Choose one of these.",
     "60 narrow |\n|\
-        Job \x01 of \x00 ends at \x03 at the earliest, and has to end by \x05: it takes too long, \
-        with the jobs that it waits for. Allow a later deadline, make a wcet smaller, or put a \
-        delay between them.",
+        Job \x01 of \x00 ends at \x03 at the earliest, and has to end by \x05: it takes too \
+        long, with the jobs that it waits for. Look first for a task whose wcet is above its \
+        period or its due: it can not keep up, and may make jobs late that wait for it. Else \
+        allow a later deadline, make a wcet smaller, or put a delay between them.",
     "61 loop |\n|\
         Job \x01 of \x00 waits for a loop of jobs that wait for one another: each turn of it \
         needs more time than it has. Put a longer delay into the loop, or make a wcet smaller.",

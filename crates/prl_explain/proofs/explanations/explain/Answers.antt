@@ -2,7 +2,7 @@ use Rattle.prl_base.proofs.Standard.{◌≡◌, ◌∙◌, ℕ, List, Option, ma
 use Rattle.prl_io.specs.Views.{SinkView}
 use Rattle.prl_io.specs.declared.endings.Stop.{Stop}
 use Rattle.prl_io.specs.Endings.{Ends}
-use Rattle.prl_explain.specs.Explanations.{IsExplanation, IsStop, asks_help}
+use Rattle.prl_explain.specs.Explanations.{IsAnswer, IsStop, asks_help}
 use Rattle.prl_arguments.specs.Dashes.{before_dashes, from_dashes}
 use Rattle.prl_explain.proofs.explanations.explain.Goals as goal
 
@@ -43,9 +43,9 @@ returns g c =
     record {
       outcome = outcome;
       ends = ends_so vec_items c.answer-outcome.result _ _ _ _ _ c.finish.ensures;
-      text = subst (λ (ws : List (List ℕ)). OnFalse (asks_help ws) (IfOk outcome (IsExplanation files.folder (before_dashes (drop 1 all)) (from_dashes (drop 1 all)) line))) words
+      text = subst (λ (ws : List (List ℕ)). OnFalse (asks_help ws) (IfOk outcome (IsAnswer files.folder (before_dashes (drop 1 all)) (from_dashes (drop 1 all)) line))) words
           (OnFalse_from (asks_help (map string_bytes c.after_name-words.result.now)) _
-          (λ no. given_so (λ (ws : List (List ℕ)) (rest : Option (List (List ℕ))). IfOk outcome (IsExplanation files.folder ws rest line)) _ _ _ _ own command
+          (λ no. given_so (λ (ws : List (List ℕ)) (rest : Option (List (List ℕ))). IfOk outcome (IsAnswer files.folder ws rest line)) _ _ _ _ own command
           (text_so vec_items c.answer-outcome.result _ (OnFalse_at no c.answer-outcome.ensures.text))));
       stop = subst (λ (ws : List (List ℕ)). IfErr outcome (IsStop files after ws)) own (stop_so vec_items c.answer-outcome.result _ c.answer-outcome.ensures.stop);
     }

@@ -11,7 +11,7 @@ use Rattle.prl_clock.specs.Outcomes.{AreOnlyClocks}
 use Rattle.prl_graph.specs.TaskGraphs.{AreSmallClocks, IsGraphOf}
 use Rattle.prl_plan.specs.declared.graphs.TaskGraph.{TaskGraph}
 use Rattle.prl_stages.proofs.SmallClocks.{small_clocks}
-use Rattle.prl_explain.specs.ProgramTexts.{IsFlatOf, IsGraphIn}
+use Rattle.prl_waytext.specs.ProgramTexts.{IsFlatOf, IsGraphIn}
 
 pub small : (flat : FlatProgram) (clocks : List Clock) → AreOnlyClocks flat clocks → AreSmallClocks clocks
 small flat clocks only = small_clocks flat clocks only

@@ -8,7 +8,7 @@ ghost use Rattle.prl_types.specs.Typing.{IsTyped};
 ghost use Rattle.prl_clock.specs.Outcomes.{AreOnlyClocks};
 ghost use Rattle.prl_flow.specs.Uses.{HasNoCycle};
 ghost use Rattle.prl_graph.specs.TaskGraphs.{IsGraphOf};
-ghost use Rattle.prl_explain.specs.ProgramTexts.{IsFlatOf, IsGraphIn};
+ghost use Rattle.prl_waytext.specs.ProgramTexts.{IsFlatOf, IsGraphIn};
 
 use prl_ast::Program;
 use prl_base::Label;

@@ -2,8 +2,8 @@
 
 ghost use Rattle.std.specs.Prelude.{◌≡◌, ◌<◌, ◌^◌, IfOk, IfSome, Some, length};
 ghost use Rattle.std.specs.Option.{option_copied, option_map};
-ghost use Rattle.prl_explain.specs.ProgramTexts.{IsFlatOf, IsGraphIn};
-ghost use Rattle.prl_explain.specs.Ways.{IsChainTold, IsCircleTold, IsClashTold, IsCycleTold, IsDated, IsJobNamed};
+ghost use Rattle.prl_waytext.specs.ProgramTexts.{IsFlatOf, IsGraphIn};
+ghost use Rattle.prl_waytext.specs.Ways.{IsChainTold, IsCircleTold, IsClashTold, IsCycleTold, IsDated, IsJobNamed};
 ghost use Rattle.prl_plan.specs.Jobs.{task_at};
 ghost use Rattle.prl_sentences.specs.Sentences.{word_at};
 ghost use Rattle.prl_ways.specs.Chains.{job_of};
@@ -21,7 +21,7 @@ use prl_ways::{
 use std::alloc::{AllocError, Global};
 
 /// What is told of a cycle of the flat program.
-#[tactic(auto, using(crate::proofs::Sayings::cycle_is, crate::proofs::Sayings::no_cycle))]
+#[tactic(auto, using(crate::proofs::Told::cycle_is, crate::proofs::Told::no_cycle))]
 fn cycle_in(
     alloc: Global,
     program: &[u8],
@@ -46,8 +46,8 @@ fn cycle_in(
 }
 
 /// What is told of a cycle through the flow of this label.
-#[tactic(auto, using(crate::proofs::Sayings::no_cycle))]
-pub(crate) fn cycle_told(
+#[tactic(auto, using(crate::proofs::Told::no_cycle))]
+pub fn cycle_told(
     alloc: Global,
     program: Option<&[u8]>,
     node: Option<&Label>,
@@ -66,7 +66,7 @@ pub(crate) fn cycle_told(
 }
 
 /// What is told of a clock mismatch of the flat program.
-#[tactic(auto, using(crate::proofs::Sayings::clash_is, crate::proofs::Sayings::no_clash))]
+#[tactic(auto, using(crate::proofs::Told::clash_is, crate::proofs::Told::no_clash))]
 fn clash_in(
     alloc: Global,
     program: &[u8],
@@ -91,8 +91,8 @@ fn clash_in(
 }
 
 /// What is told of a clock mismatch at this byte: two clocks of a flow, and the ways that give it them.
-#[tactic(auto, using(crate::proofs::Sayings::no_clash))]
-pub(crate) fn clash_told(
+#[tactic(auto, using(crate::proofs::Told::no_clash))]
+pub fn clash_told(
     alloc: Global,
     program: Option<&[u8]>,
     node: Option<&Label>,
@@ -111,7 +111,7 @@ pub(crate) fn clash_told(
 }
 
 /// The byte that a number tells; None past 32 bits.
-pub(crate) fn byte_of(number: &[u8]) -> Option<u32>
+pub fn byte_of(number: &[u8]) -> Option<u32>
     ensures { IfSome result (λ at. decimal_of number.now ≡ Some at) }
 {
     let at = decimal_of(number)?;
@@ -157,7 +157,7 @@ fn job_named(graph: &TaskGraph, name: &[u8], number: &[u8]) -> Option<WayJob>
 }
 
 /// What is told of a chain of jobs of the graph, by the words of the line.
-#[tactic(auto, using(crate::proofs::Sayings::chain_is, crate::proofs::Sayings::no_chain))]
+#[tactic(auto, using(crate::proofs::Told::chain_is, crate::proofs::Told::no_chain))]
 fn chain_in(
     alloc: Global,
     program: &[u8],
@@ -186,8 +186,8 @@ fn chain_in(
 }
 
 /// What is told of a job that has too little time: the chain of jobs that it waits for, by the words of the line.
-#[tactic(auto, using(crate::proofs::Sayings::no_chain))]
-pub(crate) fn chain_told(
+#[tactic(auto, using(crate::proofs::Told::no_chain))]
+pub fn chain_told(
     alloc: Global,
     program: Option<&[u8]>,
     node: Option<&Label>,
@@ -207,7 +207,7 @@ pub(crate) fn chain_told(
 }
 
 /// What is told of a loop of jobs of the graph, by the words of the line.
-#[tactic(auto, using(crate::proofs::Sayings::circle_is, crate::proofs::Sayings::no_circle))]
+#[tactic(auto, using(crate::proofs::Told::circle_is, crate::proofs::Told::no_circle))]
 fn circle_in(
     alloc: Global,
     program: &[u8],
@@ -232,8 +232,8 @@ fn circle_in(
 }
 
 /// What is told of a job that waits for a loop of jobs: the jobs round it.
-#[tactic(auto, using(crate::proofs::Sayings::no_circle))]
-pub(crate) fn circle_told(
+#[tactic(auto, using(crate::proofs::Told::no_circle))]
+pub fn circle_told(
     alloc: Global,
     program: Option<&[u8]>,
     node: Option<&Label>,

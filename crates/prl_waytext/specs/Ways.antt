@@ -13,7 +13,7 @@ use Rattle.prl_ways.specs.Chains.{IsChainTo, IsCircle}
 use Rattle.prl_ways.specs.ChainTexts.{chain_text, circle_text}
 use Rattle.prl_ways.specs.Rounds.{IsRound}
 use Rattle.prl_ways.specs.RoundTexts.{flow_label, round_text}
-use Rattle.prl_explain.specs.ProgramTexts.{IsFlatOf, IsGraphIn}
+use Rattle.prl_waytext.specs.ProgramTexts.{IsFlatOf, IsGraphIn}
 
 -- the flows round a cycle of the program through the flow of this label
 pub record IsCycleOf (program : List ℕ) (asked : Option (List ℕ)) (label : List ℕ) (flat : FlatProgram) (round : Round) : Type 0 where

@@ -1,0 +1,2 @@
+mod Flats
+mod Told
