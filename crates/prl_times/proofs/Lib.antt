@@ -1,1 +1,3 @@
+mod Commas
+mod Refusals
 mod RowLists

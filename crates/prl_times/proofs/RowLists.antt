@@ -1,5 +1,5 @@
 -- Lists of rows, one more at their end.
-use Rattle.prl_base.proofs.Standard.{◌≡◌, ◌+◌, ◌++◌, ◌∙◌, ◌&&◌, ℕ, suc, List, [], ◌∷◌, All, Option, Result, Ok, Err, IfOk, length, map, cond, ap, sym, subst, arith, append_assoc, map-append}
+use Rattle.prl_base.proofs.Standard.{◌≡◌, ◌+◌, ◌++◌, ◌∙◌, ◌&&◌, ℕ, suc, List, [], ◌∷◌, Option, Result, Ok, Err, IfOk, length, map, cond, ap, subst, arith, append_assoc, map-append}
 use Rattle.prl_base.specs.declared.numbers.TaskNo.{TaskNo}
 use Rattle.prl_plan.specs.declared.graphs.TaskGraph.{TaskGraph}
 use Rattle.prl_plan.specs.Vocabulary.{is_actuator, is_sensor, task_at}

@@ -1,11 +1,8 @@
 -- What is told of a plan, as the words of a command line ask for it.
-use Rattle.std.specs.Prelude.{◌≡◌, ◌<◌, ◌++◌, ◌⊎◌, ℕ, Bool, true, false, List, [], ◌∷◌, All, Option, Some, None, IfSome, MatchOption, codes, cond, drop, length, map}
-use Rattle.std.specs.Bool.{OnTrue, OnFalse}
-use Rattle.std.specs.Str.{bytes_eq}
+use Rattle.std.specs.Prelude.{◌≡◌, ◌<◌, ◌++◌, ◌⊎◌, ℕ, Bool, true, false, List, [], ◌∷◌, All, Option, Some, None, IfSome, MatchOption, codes, cond, length, map}
 use Rattle.prl_base.specs.Decimals.{decimal_of}
 use Rattle.prl_base.specs.declared.numbers.TaskNo.{TaskNo}
-use Rattle.prl_io.specs.Views.{FolderView, SinkView}
-use Rattle.prl_io.specs.Faults.{AnswersBy, Folder}
+use Rattle.prl_io.specs.Faults.{Folder}
 use Rattle.prl_io.specs.Pairs.{value_of}
 use Rattle.prl_plan.specs.Plans.{PlanView}
 use Rattle.prl_plan.specs.Vocabulary.{is_actuator, is_sensor, task_at}
@@ -13,8 +10,9 @@ use Rattle.prl_plantext.specs.ReadTexts.{IsTextOf}
 use Rattle.prl_times.specs.Limits.{rows_above}
 use Rattle.prl_times.specs.Names.{has_twice, AreOfPlan}
 use Rattle.prl_timetext.specs.Names.{names_joined}
+use Rattle.prl_times.specs.Options.{asks_json, other_words}
 use Rattle.prl_timetext.specs.Objects.{json_text}
-use Rattle.prl_times.specs.Rows.{Subject, about, age, ages_at, chain, load, overload, skew, tasks_to, IsRow}
+use Rattle.prl_times.specs.Rows.{Subject, about, ages_at, chain, load, overload, skew, tasks_to, IsRow}
 use Rattle.prl_timetext.specs.Texts.{rows_text}
 use Rattle.prl_timetext.specs.declared.rows.Row.{Row}
 
@@ -84,16 +82,6 @@ IsToldBy json folder words text =
     (name source : List ℕ) × (value_of (codes "--plan") words ≡ Some name) × IfSome folder (λ f. f name ≡ Some source)
     × ((plan : PlanView) × IsTextOf plan source × IsToldOf plan json words text)
 
--- the first word asks for JSON
-abbrev pub asks_json : List (List ℕ) → Bool
-asks_json [] = false
-asks_json (word ∷ words) = bytes_eq word (codes "--json")
-
--- what the words ask for, as lines, or as JSON where they begin with the word for it
+-- what the words ask for, as lines, or as JSON where they ask for it
 abbrev pub IsTold : Folder → List (List ℕ) → List ℕ → Type 0
-IsTold folder words text =
-    OnTrue (asks_json words) (IsToldBy true folder (drop 1 words) text) × OnFalse (asks_json words) (IsToldBy false folder words text)
-
--- what a call answers: what is told, unless the words ask for what the options mean, and how it ends
-abbrev pub Answers : List (List ℕ) → FolderView → SinkView → SinkView → SinkView → SinkView → ℕ → Type 0
-Answers = AnswersBy IsTold
+IsTold folder words text = IsToldBy (asks_json words) folder (other_words words) text

@@ -1,17 +1,21 @@
 //! The rows that the words ask for.
 
-ghost use Rattle.std.specs.Prelude.{◌≡◌, ◌<◌, ◌++◌, ◌∷◌, ℕ, List, [], All, IfOk, IfSome, OnOk, Some, codes, false, length, map};
+ghost use Rattle.std.specs.Prelude.{◌≡◌, ◌≢◌, ◌<◌, ◌++◌, ◌∷◌, ◌⊎◌, ℕ, List, [], All, IfErr, IfOk, IfSome, None, OnOk, Some, codes, false, length, map, true};
 ghost use Rattle.std.specs.String.{string_bytes};
 ghost use Rattle.prl_io.specs.Pairs.{value_of};
 ghost use Rattle.prl_base.specs.declared.numbers.TaskNo.{TaskNo as AnyTask};
 ghost use Rattle.prl_times.specs.Rows.{about, skew, IsRow, Subject};
 ghost use Rattle.prl_times.specs.Names.{has_twice, AreOfPlan};
+ghost use Rattle.prl_times.specs.Options.{file_of, has};
+ghost use Rattle.prl_times.specs.Refused.{IsRefusedOf, IsUnfitWhere, IsUsageWhere, LacksTask};
+ghost use Rattle.prl_io.specs.Faults.{IsUnfit};
 ghost use Rattle.prl_times.specs.Told.{AreAllRows, AreRowsAsked, AreTasksAsked, IsActuatorAsked, IsChainRow, IsRunAsked, IsSensorAsked, IsSkewRow};
 
 use crate::collected::{chain_row, load_row, one_row, push_ages, push_run, skew_row};
 use crate::names::{actuator_named, has_twice, sensor_named, tasks_named};
+use crate::options::{FORM, file_of, number_in};
 use prl_base::TaskNo;
-use prl_io::{Fault, Piece, Stop, number_up_to, unfit_for, value_of, why_with};
+use prl_io::{Fault, Piece, Stop, unfit_for, value_of, why_with};
 use prl_plan::{Horizon, Plan};
 use prl_timetext::Row;
 use std::alloc::Global;
@@ -25,52 +29,18 @@ const TOO_MANY: &str = "too many jobs or events up to the tick of --until";
 /// Why a chain is refused.
 const TWICE: &str = "a chain that names each task once";
 
-/// The form of the words.
-pub(crate) const FORM: &str =
-    "prelude_times [--json] --plan FILE [--sensor NAME] [--actuator NAME] [--until TICK] [--limit AGE], \
-    or [--json] --plan FILE --chain NAME,NAME,.. [--limit AGE], \
-    or [--json] --plan FILE --skew NAME,NAME --actuator NAME [--limit AGE], or --help";
-
-/// What the options mean.
-pub(crate) const HELP: &str = "prelude_times [--json] --plan FILE [OPTION VALUE ..]\n\
-    Tells how old the values of sensors are where the actuators of a plan use them, over all jobs,\n\
-    in ticks: the worst age, from the release of the sensor's job to the deadline of the actuator's;\n\
-    the worst reaction to a change at the sensor; the worst age once all has settled; the best age.\n\n\
-    --plan FILE      the text of the plan, as `prelude plan` writes it\n\
-    --sensor NAME    this sensor alone\n\
-    --actuator NAME  this actuator alone\n\
-    --until TICK     and how soon the jobs before TICK end by earliest deadline first: by task the\n\
-    \x20                worst response and the least slack, or an overload\n\
-    --chain NAMES    the age of the first task's values at the last, along these tasks, as a,b,c\n\
-    --skew A,B       how far apart in time the values of two sensors are in one job of --actuator\n\
-    --limit AGE      status 1 where an age, or a skew, is above AGE, with those that are\n\
-    --json           as JSON; the first word\n\
-    --help           this text\n";
-
-/// The options of the words.
-pub(crate) static OPTIONS: [&[u8]; 7] = [
-    b"--plan",
-    b"--sensor",
-    b"--actuator",
-    b"--until",
-    b"--chain",
-    b"--skew",
-    b"--limit",
-];
-
-/// What a plan that is asked for a task does not have.
-fn no_task(alloc: Global, words: &[String], what: &[u8], name: &[u8]) -> Fault {
-    let file = value_of(b"--plan", words).unwrap_or(b"");
-    unfit_for(
-        alloc,
-        file,
-        why_with(alloc, &[Piece::Text(what), Piece::Text(name)]),
-    )
+/// What the plan does not have.
+fn no_task(alloc: Global, words: &[String], what: &[u8], name: &[u8]) -> Fault
+    ensures { IsUnfit (file_of (map string_bytes words.now)) (what.now ++ name.now) result }
+{
+    let why = why_with(alloc, &[Piece::Text(what), Piece::Text(name)]);
+    unfit_for(alloc, file_of(words), why)
 }
 
 /// The sensor that the words name, if they name one.
 fn sensor_asked(alloc: Global, words: &[String], plan: &Plan) -> Result<Option<TaskNo>, Fault>
-    ensures { IfOk result (IsSensorAsked plan.now (map string_bytes words.now)) }
+    ensures told { IfOk result (IsSensorAsked plan.now (map string_bytes words.now)) }
+    ensures refused { IfErr result (IsRefusedOf plan.now (map string_bytes words.now)) }
 {
     let Some(name) = value_of(b"--sensor", words) else {
         return Ok(None);
@@ -83,7 +53,8 @@ fn sensor_asked(alloc: Global, words: &[String], plan: &Plan) -> Result<Option<T
 
 /// The actuator that the words name, if they name one.
 fn actuator_asked(alloc: Global, words: &[String], plan: &Plan) -> Result<Option<TaskNo>, Fault>
-    ensures { IfOk result (IsActuatorAsked plan.now (map string_bytes words.now)) }
+    ensures told { IfOk result (IsActuatorAsked plan.now (map string_bytes words.now)) }
+    ensures refused { IfErr result (IsRefusedOf plan.now (map string_bytes words.now)) }
 {
     let Some(name) = value_of(b"--actuator", words) else {
         return Ok(None);
@@ -101,13 +72,14 @@ fn push_until(
     words: &[String],
     plan: &Plan,
 ) -> Result<(), Fault>
-    ensures { OnOk result ((until : ℕ) × (run : List Subject) × IsRunAsked plan.now (map string_bytes words.now) until run × (map about rows.new.items ≡ map about rows.old.items ++ run)
+    ensures told { OnOk result ((until : ℕ) × (run : List Subject) × IsRunAsked plan.now (map string_bytes words.now) until run × (map about rows.new.items ≡ map about rows.old.items ++ run)
         × (All (IsRow plan.now [] until) rows.old.items → All (IsRow plan.now [] until) rows.new.items)) }
+    ensures refused { IfErr result (IsRefusedOf plan.now (map string_bytes words.now)) }
 {
     let Some(word) = value_of(b"--until", words) else {
         return Ok(());
     };
-    let Some(until) = number_up_to(MAX_UNTIL, word) else {
+    let Some(until) = number_in(word, MAX_UNTIL) else {
         return Err(Fault::Stop(Stop::Words(FORM)));
     };
     let Ok(horizon) = Horizon::new(plan, until as u32) else {
@@ -118,7 +90,8 @@ fn push_until(
 
 /// The rows of a plan: the load, the ages, and the run.
 fn all_rows(alloc: Global, words: &[String], plan: &Plan) -> Result<Vec<Row>, Fault>
-    ensures { IfOk result (λ rows. (until : ℕ) × AreAllRows plan.now (map string_bytes words.now) [] until rows.items × All (IsRow plan.now [] until) rows.items) }
+    ensures told { IfOk result (λ rows. (until : ℕ) × AreAllRows plan.now (map string_bytes words.now) [] until rows.items × All (IsRow plan.now [] until) rows.items) }
+    ensures refused { IfErr result (IsRefusedOf plan.now (map string_bytes words.now)) }
 {
     let sensor = sensor_asked(alloc, words, plan)?;
     let actuator = actuator_asked(alloc, words, plan)?;
@@ -133,6 +106,7 @@ fn chain_rows(alloc: Global, plan: &Plan, chain: &[TaskNo]) -> Result<Vec<Row>, 
     requires { AreOfPlan plan.now.graph chain.now }
     ensures shape { IfOk result (λ rows. IsChainRow chain.now rows.items) }
     ensures right { IfOk result (λ rows. (until : ℕ) → All (IsRow plan.now chain.now until) rows.items) }
+    ensures short { IfErr result (IsUsageWhere (length chain.now < 2)) }
 {
     match chain {
         [first, .., last] => Ok(one_row(alloc, chain_row(alloc, plan, chain, *first, *last)?)?),
@@ -152,6 +126,7 @@ fn skew_rows(
     ensures shape { IfOk result (λ rows. (first : AnyTask) × (second : AnyTask) × (a : AnyTask) × (sensors.now ≡ first ∷ second ∷ []) × (actuator ≡ Some a)
         × (map about rows.items ≡ skew first.0 second.0 a.0 ∷ [])) }
     ensures right { IfOk result (λ rows. (tasks : List AnyTask) (until : ℕ) → All (IsRow plan.now tasks until) rows.items) }
+    ensures other { IfErr result (IsUsageWhere ((length sensors.now ≢ 2) ⊎ (actuator ≡ None))) }
 {
     match (sensors, actuator) {
         ([first, second], Some(a)) => {
@@ -168,7 +143,8 @@ fn tasks_asked(
     plan: &Plan,
     option: &[u8],
 ) -> Result<Vec<TaskNo>, Fault>
-    ensures { IfOk result (λ tasks. AreTasksAsked plan.now (map string_bytes words.now) option.now tasks.items) }
+    ensures told { IfOk result (λ tasks. AreTasksAsked plan.now (map string_bytes words.now) option.now tasks.items) }
+    ensures lacks { IfErr result (IsUnfitWhere (file_of (map string_bytes words.now)) (LacksTask plan.now (map string_bytes words.now) option.now)) }
 {
     let Some(word) = value_of(option, words) else {
         return Ok(Vec::new(alloc));
@@ -187,6 +163,7 @@ pub(crate) fn chain_asked(
 ) -> Result<Vec<TaskNo>, Fault>
     ensures asked { IfOk result (λ tasks. AreTasksAsked plan.now (map string_bytes words.now) (codes "--chain") tasks.items) }
     ensures once { IfOk result (λ tasks. has_twice tasks.items ≡ false) }
+    ensures refused { IfErr result (IsRefusedOf plan.now (map string_bytes words.now)) }
 {
     let tasks = tasks_asked(alloc, words, plan, b"--chain")?;
     if has_twice(&tasks) {
@@ -197,8 +174,10 @@ pub(crate) fn chain_asked(
 
 /// The row of the skew of the sensors that the words name.
 fn skew_asked(alloc: Global, words: &[String], plan: &Plan) -> Result<Vec<Row>, Fault>
+    requires { has (codes "--skew") (map string_bytes words.now) ≡ true }
     ensures shape { IfOk result (λ rows. IsSkewRow plan.now (map string_bytes words.now) rows.items) }
     ensures right { IfOk result (λ rows. (tasks : List AnyTask) (until : ℕ) → All (IsRow plan.now tasks until) rows.items) }
+    ensures refused { IfErr result (IsRefusedOf plan.now (map string_bytes words.now)) }
 {
     let sensors = tasks_asked(alloc, words, plan, b"--skew")?;
     let actuator = actuator_asked(alloc, words, plan)?;
@@ -214,21 +193,12 @@ pub(crate) fn rows_asked(
 ) -> Result<Vec<Row>, Fault>
     requires asked { AreTasksAsked plan.now (map string_bytes words.now) (codes "--chain") chain.now }
     requires once { has_twice chain.now ≡ false }
-    ensures { IfOk result (λ rows. AreRowsAsked plan.now (map string_bytes words.now) chain.now rows.items) }
+    ensures told { IfOk result (λ rows. AreRowsAsked plan.now (map string_bytes words.now) chain.now rows.items) }
+    ensures refused { IfErr result (IsRefusedOf plan.now (map string_bytes words.now)) }
 {
     match (value_of(b"--chain", words), value_of(b"--skew", words)) {
         (Some(_), _) => chain_rows(alloc, plan, chain),
         (None, Some(_)) => skew_asked(alloc, words, plan),
         (None, None) => all_rows(alloc, words, plan),
     }
-}
-
-/// Whether the words ask for one thing: for a chain or a skew alone, or for neither.
-pub(crate) fn are_apart(words: &[String]) -> bool {
-    let chain = value_of(b"--chain", words).is_some();
-    let skew = value_of(b"--skew", words).is_some();
-    let sensor = value_of(b"--sensor", words).is_some();
-    let actuator = value_of(b"--actuator", words).is_some();
-    let until = value_of(b"--until", words).is_some();
-    !(chain && (skew || sensor || actuator || until)) && !(skew && (sensor || until))
 }

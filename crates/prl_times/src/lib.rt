@@ -7,6 +7,7 @@ mod asked;
 mod collected;
 mod limits;
 mod names;
+mod options;
 mod telling;
 
 pub use telling::{MAX_PLAN, tell};

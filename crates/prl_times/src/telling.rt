@@ -1,19 +1,25 @@
 //! What is told of a plan, and the call that tells it.
 
-ghost use Rattle.std.specs.Prelude.{◌≡◌, IfOk, OnOk, cond, drop, map, true};
-ghost use Rattle.std.specs.Bool.{OnFalse};
+ghost use Rattle.std.specs.Prelude.{◌≡◌, IfErr, IfOk, OnOk, codes, cond, drop, map};
+ghost use Rattle.std.specs.Bool.{OnFalse, OnTrue};
 ghost use Rattle.std.specs.String.{string_bytes};
+ghost use Rattle.prl_io.specs.Faults.{IsUnfit};
 ghost use Rattle.prl_io.specs.Pairs.{asks_help};
+ghost use Rattle.prl_io.specs.declared.endings.Stop.TheVariants.{Memory};
+ghost use Rattle.prl_io.specs.declared.faults.Fault.TheVariants as faults;
 ghost use Rattle.prl_timetext.specs.Objects.{json_text};
 ghost use Rattle.prl_timetext.specs.Texts.{rows_text};
-ghost use Rattle.prl_times.specs.Told.{asks_json, Answers, AreWithin, IsTold, IsToldBy, IsToldOf};
+ghost use Rattle.prl_times.specs.Answers.{Answers};
+ghost use Rattle.prl_times.specs.Options.{file_of, other_words};
+ghost use Rattle.prl_times.specs.Refused.{above_line, IsRefused, IsRefusedOf};
+ghost use Rattle.prl_times.specs.Told.{AreRowsAsked, AreWithin, IsTold, IsToldBy, IsToldOf};
 
-use crate::asked::{FORM, HELP, OPTIONS, are_apart, chain_asked, rows_asked};
+use crate::asked::{chain_asked, rows_asked};
 use crate::limits::above;
+use crate::options::{FORM, HELP, asks_json, file_of, is_command, number_in, other_words};
 use prl_base::{TaskNo, push_number};
 use prl_io::{
-    Fault, Files, Sink, Stop, after_name, are_pairs, asks_help, end, number_up_to, read_named,
-    unfit_for, value_of,
+    Fault, Files, Sink, Stop, after_name, asks_help, end, read_named, unfit_for, value_of,
 };
 use prl_plan::Plan;
 use prl_plantext::{PlanFault, read_plan};
@@ -26,18 +32,10 @@ pub const MAX_PLAN: u64 = 33_554_432;
 /// Why there is nothing to tell.
 const NO_PLAN: &str = "not the text of a plan";
 
-/// Whether the first word asks for JSON.
-fn asks_json(words: &[String]) -> bool
-    ensures { result ≡ asks_json (map string_bytes words.now) }
-{
-    match words {
-        [] => false,
-        [word, ..] => word.as_bytes() == b"--json".as_slice(),
-    }
-}
-
 /// Says that the file of a name is no plan.
-fn no_plan(alloc: Global, name: &[u8]) -> Fault {
+fn no_plan(alloc: Global, name: &[u8]) -> Fault
+    ensures { IsUnfit name.now (codes "not the text of a plan") result }
+{
     unfit_for(alloc, name, Vec::from_slice(alloc, NO_PLAN.as_bytes()))
 }
 
@@ -48,7 +46,9 @@ fn above_line(
     chain: &[TaskNo],
     limit: u64,
     rows: &[Row],
-) -> Result<Vec<u8>, AllocError> {
+) -> Result<Vec<u8>, AllocError>
+    ensures { IfOk result (λ line. line.items ≡ above_line plan.now.graph chain.now limit rows.now) }
+{
     let mut line = Vec::new(alloc);
     line.extend_from_slice(b"above ")?;
     push_number(&mut line, limit)?;
@@ -59,6 +59,21 @@ fn above_line(
     Ok(line)
 }
 
+/// The fault that tells the rows that are above a limit.
+fn above_fault(
+    alloc: Global,
+    words: &[String],
+    plan: &Plan,
+    chain: &[TaskNo],
+    limit: u64,
+    above: &[Row],
+) -> Fault
+    ensures { IsUnfit (file_of (map string_bytes words.now)) (above_line plan.now.graph chain.now limit above.now) result }
+{
+    let line = above_line(alloc, plan, chain, limit, above);
+    unfit_for(alloc, file_of(words), line)
+}
+
 /// Nothing, where no row is above the limit that the words name, if they name one; else a fault that tells those that are.
 fn within(
     alloc: Global,
@@ -67,20 +82,21 @@ fn within(
     chain: &[TaskNo],
     rows: &[Row],
 ) -> Result<(), Fault>
-    ensures { OnOk result (AreWithin (map string_bytes words.now) rows.now) }
+    requires { AreRowsAsked plan.now (map string_bytes words.now) chain.now rows.now }
+    ensures told { OnOk result (AreWithin (map string_bytes words.now) rows.now) }
+    ensures refused { IfErr result (IsRefusedOf plan.now (map string_bytes words.now)) }
 {
     let Some(word) = value_of(b"--limit", words) else {
         return Ok(());
     };
-    let Some(limit) = number_up_to(u64::MAX, word) else {
+    let Some(limit) = number_in(word, u64::MAX) else {
         return Err(Fault::Stop(Stop::Words(FORM)));
     };
     let above = above(alloc, limit, rows)?;
     if above.is_empty() {
         return Ok(());
     }
-    let name = value_of(b"--plan", words).unwrap_or(b"");
-    Err(unfit_for(alloc, name, above_line(alloc, plan, chain, limit, &above)))
+    Err(above_fault(alloc, words, plan, chain, limit, &above))
 }
 
 /// Rows as lines or as JSON.
@@ -102,7 +118,8 @@ fn written(
 
 /// The rows that the words ask for, as lines or as JSON.
 fn told(alloc: Global, words: &[String], json: bool, plan: &Plan) -> Result<Vec<u8>, Fault>
-    ensures { IfOk result (λ text. IsToldOf plan.now json (map string_bytes words.now) text.items) }
+    ensures told { IfOk result (λ text. IsToldOf plan.now json (map string_bytes words.now) text.items) }
+    ensures refused { IfErr result (IsRefusedOf plan.now (map string_bytes words.now)) }
 {
     let chain = chain_asked(alloc, words, plan)?;
     let rows = rows_asked(alloc, words, plan, &chain)?;
@@ -117,14 +134,13 @@ fn times<F: Files>(
     json: bool,
     files: &mut F,
 ) -> Result<Vec<u8>, Fault>
-    ensures { IfOk result (λ text. IsToldBy json (F.seen files.old).folder (map string_bytes words.now) text.items) }
+    ensures told { IfOk result (λ text. IsToldBy json (F.seen files.old).folder (map string_bytes words.now) text.items) }
+    ensures refused { IfErr result (IsRefused (F.seen files.old) (F.seen files.new) (map string_bytes words.now)) }
 {
-    if !are_pairs(&OPTIONS, words) || !are_apart(words) {
+    if !is_command(words) {
         return Err(Fault::Stop(Stop::Words(FORM)));
     }
-    let Some(name) = value_of(b"--plan", words) else {
-        return Err(Fault::Stop(Stop::Words(FORM)));
-    };
+    let name = file_of(words);
     let source = read_named(alloc, files, name, MAX_PLAN)?;
     match read_plan(alloc, &source) {
         Ok(plan) => told(alloc, words, json, &plan),
@@ -133,24 +149,25 @@ fn times<F: Files>(
     }
 }
 
-/// What the words after the first ask for, as JSON.
-fn in_json<F: Files>(alloc: Global, words: &[String], files: &mut F) -> Result<Vec<u8>, Fault>
-    ensures { IfOk result (λ text. IsToldBy true (F.seen files.old).folder (drop 1 (map string_bytes words.now)) text.items) }
+/// What the words ask for, as lines, or as JSON where they ask for it.
+fn answer<F: Files>(alloc: Global, words: &[String], files: &mut F) -> Result<Vec<u8>, Fault>
+    ensures told { IfOk result (λ text. IsTold (F.seen files.old).folder (map string_bytes words.now) text.items) }
+    ensures refused { IfErr result (IsRefused (F.seen files.old) (F.seen files.new) (other_words (map string_bytes words.now))) }
 {
-    times(alloc, after_name(words), true, files)
+    let others = other_words(alloc, words)?;
+    times(alloc, &others, asks_json(words), files)
 }
 
-/// What the words ask for: what the options mean, or what is told of a plan.
-fn answer<F: Files>(alloc: Global, words: &[String], files: &mut F) -> Result<Vec<u8>, Fault>
-    ensures { OnFalse (asks_help (map string_bytes words.now)) (IfOk result (λ text. IsTold (F.seen files.old).folder (map string_bytes words.now) text.items)) }
+/// What the options mean, or what the words ask for.
+fn outcome<F: Files>(alloc: Global, words: &[String], files: &mut F) -> Result<Vec<u8>, Fault>
+    ensures told { OnFalse (asks_help (map string_bytes words.now)) (IfOk result (λ text. IsTold (F.seen files.old).folder (map string_bytes words.now) text.items)) }
+    ensures refused { OnFalse (asks_help (map string_bytes words.now)) (IfErr result (IsRefused (F.seen files.old) (F.seen files.new) (other_words (map string_bytes words.now)))) }
+    ensures helped { OnTrue (asks_help (map string_bytes words.now)) (IfErr result (λ fault. fault ≡ faults.Stop Memory)) }
 {
     if asks_help(words) {
         return Ok(Vec::from_slice(alloc, HELP.as_bytes())?);
     }
-    if asks_json(words) {
-        return in_json(alloc, words, files);
-    }
-    times(alloc, words, false, files)
+    answer(alloc, words, files)
 }
 
 /// Tells what the words ask for of a plan: the lines, or JSON, go to `out`, and at every status but 0 one line goes to `err`. The
@@ -162,9 +179,9 @@ pub fn tell<F: Files, S: Sink, E: Sink>(
     out: &mut S,
     err: &mut E,
 ) -> u8
-    ensures { Answers (drop 1 (map string_bytes words.now)) (F.seen files.old) (S.seen out.old) (S.seen out.new)
+    ensures { Answers (drop 1 (map string_bytes words.now)) (F.seen files.old) (F.seen files.new) (S.seen out.old) (S.seen out.new)
         (E.seen err.old) (E.seen err.new) result }
 {
-    let outcome = answer(alloc, after_name(words), files);
+    let outcome = outcome(alloc, after_name(words), files);
     end(out, err, outcome)
 }

@@ -1,17 +1,17 @@
-use Rattle.prl_base.proofs.Standard.{◌≡◌, ◌++◌, ◌∙◌, List, [], ◌∷◌, All, All-cons, All-nil, ap, length, map, refl, sym, subst}
+use Rattle.prl_base.proofs.Standard.{◌++◌, ◌∙◌, List, [], ◌∷◌, All, All-cons, All-nil, ap, length, map, refl, sym, subst}
 use Rattle.prl_times.specs.Rows.{IsRow, Subject, about, ages_at}
 use Rattle.prl_timetext.specs.declared.rows.Row.{Row}
 use Rattle.prl_times.proofs.asked.all_rows.Goals as goal
 
-pub returns : goal.returns
-returns c =
-    let told = c.in_ok-push_until.ensures in
+pub returns-clause-told : goal.returns-clause-told
+returns-clause-told c =
+    let told = c.in_ok-push_until.ensures.told in
     let first = ap (λ (xs : List Row). map about xs) c.in_ok-rows.ensures ∙ ap (λ (x : Subject). x ∷ []) c.load_row.ensures.about in
     let second = c.in_ok-push_ages.ensures.about
     ∙ ap (λ (xs : List Subject). xs ++ ages_at c.args.plan.now.graph c.in_ok-sensor.sensor c.in_ok-actuator.actuator (length c.args.plan.now.graph.tasks)) first in
     let third = told.3 ∙ ap (λ (xs : List Subject). xs ++ told.1) second in (
       told.0,
-      (refl, (c.in_ok-sensor.sensor, c.in_ok-actuator.actuator, told.1, c.in_ok-sensor.ensures, c.in_ok-actuator.ensures, told.2, third)),
+      (refl, (c.in_ok-sensor.sensor, c.in_ok-actuator.actuator, told.1, c.in_ok-sensor.ensures.told, c.in_ok-actuator.ensures.told, told.2, third)),
       told.4
           (c.in_ok-push_ages.ensures.rows told.0 (subst (λ (xs : List Row). All (IsRow c.args.plan.now [] told.0) xs) (sym c.in_ok-rows.ensures)
           (All-cons (IsRow c.args.plan.now [] told.0) c.load_row.result [] (c.load_row.ensures.row [] told.0) (All-nil (IsRow c.args.plan.now [] told.0))))),

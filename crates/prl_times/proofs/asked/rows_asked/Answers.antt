@@ -1,14 +1,15 @@
-use Rattle.prl_base.proofs.Standard.{◌≡◌, ℕ, List, [], All, Option, MatchOption, IfOk-weaker, codes, map, string_bytes, sym, subst}
+use Rattle.prl_base.proofs.Standard.{◌≡◌, ℕ, List, [], All, Option, MatchOption, IfOk-weaker, ap, codes, inl, inr, is_some, map, string_bytes, sym, subst}
 use Rattle.prl_base.specs.declared.numbers.TaskNo.{TaskNo}
 use Rattle.prl_io.specs.Pairs.{value_of}
 use Rattle.prl_timetext.specs.Names.{names_joined}
 use Rattle.prl_times.specs.Rows.{IsRow}
 use Rattle.prl_times.specs.Told.{AreAllRows, IsChainRow, IsSkewRow}
+use Rattle.prl_times.proofs.Refusals.{outcome_refused, refused_by_usage}
 use Rattle.prl_times.proofs.RowLists.{both}
 use Rattle.prl_times.proofs.asked.rows_asked.Goals as goal
 
-pub returns-in-Some-default : goal.returns-in-Some-default
-returns-in-Some-default c =
+pub returns-in-Some-default-clause-told : goal.returns-in-Some-default-clause-told
+returns-in-Some-default-clause-told c =
     both c.chain_rows.result _ _ _ c.chain_rows.ensures.shape c.chain_rows.ensures.right
     (λ rows shape right. record {
       until = 0;
@@ -21,8 +22,8 @@ returns-in-Some-default c =
           (λ word. IsChainRow c.args.chain.now rows.items)) c.in-Some-default.ensures shape;
     })
 
-pub returns-in-None-Some : goal.returns-in-None-Some
-returns-in-None-Some c =
+pub returns-in-None-Some-clause-told : goal.returns-in-None-Some-clause-told
+returns-in-None-Some-clause-told c =
     both c.skew_asked.result _ _ _ c.skew_asked.ensures.shape c.skew_asked.ensures.right
     (λ rows shape right. record {
       until = 0;
@@ -37,8 +38,8 @@ returns-in-None-Some c =
           (λ word. IsSkewRow c.args.plan.now (map string_bytes c.args.words.now) rows.items)) c.in-None-Some.ensures' shape);
     })
 
-pub returns-in-None-None : goal.returns-in-None-None
-returns-in-None-None c =
+pub returns-in-None-None-clause-told : goal.returns-in-None-None-clause-told
+returns-in-None-None-clause-told c =
     let empty : c.args.chain.now ≡ [] =
     subst (λ (o : Option (List ℕ)). MatchOption o (c.args.chain.now ≡ []) (λ word. names_joined c.args.plan.now.graph c.args.chain.now ≡ word)) (sym c.in-None-None.ensures) c.requires.asked.1 in
     IfOk-weaker c.all_rows.result _ _
@@ -55,4 +56,10 @@ returns-in-None-None c =
           (λ word. IsSkewRow c.args.plan.now (map string_bytes c.args.words.now) rows.items)) c.in-None-None.ensures'
           (subst (λ (xs : List TaskNo). AreAllRows c.args.plan.now (map string_bytes c.args.words.now) xs told.0 rows.items) (sym empty) told.1));
     })
-    c.all_rows.ensures
+    c.all_rows.ensures.told
+
+pub returns-in-Some-default-clause-refused : goal.returns-in-Some-default-clause-refused
+returns-in-Some-default-clause-refused c =
+    outcome_refused c.chain_rows.result _ _ c.chain_rows.ensures.short
+    (λ fault is. refused_by_usage c.args.plan.now (map string_bytes c.args.words.now) _ fault is
+    (λ short. inr (inr (inl (c.args.chain.now, c.requires.asked, sym (ap is_some c.in-Some-default.ensures), inl short)))))

@@ -1,4 +1,4 @@
-use Rattle.prl_base.proofs.Standard.{List, [], ◌∷◌, All, All-cons, All-nil, sym, subst}
+use Rattle.prl_base.proofs.Standard.{List, [], All, All-cons, All-nil, sym, subst}
 use Rattle.prl_times.specs.Rows.{IsRow}
 use Rattle.prl_timetext.specs.declared.rows.Row.{Row}
 use Rattle.prl_times.proofs.asked.skew_rows.Goals as goal

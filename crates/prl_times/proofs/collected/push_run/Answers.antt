@@ -1,4 +1,4 @@
-use Rattle.prl_base.proofs.Standard.{◌≡◌, ◌++◌, ◌∙◌, List, [], ◌∷◌, All, All-push, ap, inr, map, refl, sym, subst}
+use Rattle.prl_base.proofs.Standard.{◌∙◌, List, [], ◌∷◌, All, All-push, ap, inr, map, refl, sym, subst}
 use Rattle.prl_edf.specs.Vocabulary.{IsVerdict}
 use Rattle.prl_edf.specs.declared.analysis.Verdict.{Verdict}
 use Rattle.prl_overlaps.specs.Demand.{wcets_of}

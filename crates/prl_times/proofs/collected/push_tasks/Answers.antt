@@ -1,4 +1,4 @@
-use Rattle.prl_base.proofs.Standard.{◌≡◌, ◌++◌, ◌<◌, ◌∙◌, List, [], ◌∷◌, All, All-push, ap, arith, length, map, sym, subst}
+use Rattle.prl_base.proofs.Standard.{◌<◌, ◌∙◌, List, [], All, All-push, ap, arith, length, map, sym, subst}
 use Rattle.prl_responses.specs.Responses.{times_at}
 use Rattle.prl_times.specs.Rows.{IsRow, about}
 use Rattle.prl_timetext.specs.declared.rows.Row.{Row}

@@ -1,4 +1,4 @@
-use Rattle.prl_base.proofs.Standard.{◌≡◌, ◌++◌, ℕ, [], All, map}
+use Rattle.prl_base.proofs.Standard.{◌≡◌, ◌++◌, [], All, map}
 use Rattle.prl_times.specs.Rows.{about, tasks_to, IsRow}
 use Rattle.prl_times.proofs.collected.push_tasks.Given as goal
 

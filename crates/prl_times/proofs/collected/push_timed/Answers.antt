@@ -1,4 +1,4 @@
-use Rattle.prl_base.proofs.Standard.{◌≡◌, ◌<◌, ◌∙◌, ℕ, List, Option, length, refl, ap, sym, subst, arith}
+use Rattle.prl_base.proofs.Standard.{◌≡◌, ◌<◌, List, Option, length, refl, ap, sym, subst, arith}
 use Rattle.prl_responses.specs.Responses.{times_at}
 use Rattle.prl_responses.specs.declared.responses.Times.{Times}
 use Rattle.prl_times.specs.Rows.{EndSo}

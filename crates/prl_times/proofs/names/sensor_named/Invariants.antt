@@ -1,0 +1,7 @@
+use Rattle.prl_base.proofs.Standard.{◌≡◌, ◌≢◌, ◌<◌, ℕ, true}
+use Rattle.prl_plan.specs.Vocabulary.{is_sensor, task_at}
+use Rattle.prl_times.proofs.names.sensor_named.Given as goal
+
+-- the sensors that were passed have other names
+abbrev pub invariant-loop-i : goal.invariant-loop-i
+invariant-loop-i l = (j : ℕ) → j < l.i → is_sensor (task_at l.plan.graph j).kind ≡ true → (task_at l.plan.graph j).name ≢ l.name
