@@ -19,11 +19,7 @@ pub(crate) fn name_of(plan: &Plan, i: TaskNo) -> &[u8]
 }
 
 /// Appends the names of some tasks, with commas between them.
-pub fn push_names(
-    text: &mut Vec<u8>,
-    plan: &Plan,
-    tasks: &[TaskNo],
-) -> Result<(), AllocError>
+pub fn push_names(text: &mut Vec<u8>, plan: &Plan, tasks: &[TaskNo]) -> Result<(), AllocError>
     ensures { OnOk result (text.new.items ≡ text.old.items ++ names_joined plan.now.graph tasks.now) }
 {
     match tasks {
