@@ -103,7 +103,7 @@ pub fn push_times(
 
 /// Appends what the times are told in.
 pub fn push_unit_name(text: &mut Vec<u8>, unit: &Unit, axis: Axis) -> Result<(), AllocError> {
-    let front = "<text class=\"u\" x=\"1500\" y=\"";
+    let front = "<text class=\"u\" x=\"1240\" y=\"";
     push_all(text, &[(front, axis.times)], "\">")?;
     push(text, unit.name)?;
     push(text, "</text>\n")

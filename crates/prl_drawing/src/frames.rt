@@ -26,7 +26,7 @@ const STYLE: &str = "<style>text{font-family:sans-serif;font-size:120px;fill:#22
     stroke-opacity:.8;paint-order:stroke;pointer-events:none}.g{stroke:#ddd;stroke-width:8;fill:none}\
     .l{stroke:#bbb;stroke-width:10;fill:none}.o{stroke:#222;stroke-width:14;fill:none}\
     .a{stroke:#555;stroke-width:9;fill:none;stroke-linejoin:round;marker-end:url(#p)}\
-    .d{stroke-dasharray:50 30}.v{stroke:#222;stroke-width:3}\
+    .d{stroke-dasharray:50 30}.v{fill-opacity:0;stroke:#222;stroke-width:8;stroke-dasharray:32 20}\
     .e0{stroke:#9A6A00}.e1{stroke:#1F7FB8}.e2{stroke:#00664B}.e3{stroke:#8C8200}\
     .e4{stroke:#004B7A}.e5{stroke:#A34700}.e6{stroke:#9C4A7B}.e7{stroke:#555}\
     .w{fill-opacity:.35;stroke:#444;stroke-width:8}.h{fill-opacity:0}.s{stroke:#222;stroke-width:6}\
@@ -42,7 +42,7 @@ const STYLE: &str = "<style>text{font-family:sans-serif;font-size:120px;fill:#22
 /// What the signs mean.
 const LEGEND: &str = "<rect class=\"w t7\" x=\"1600\" y=\"330\" width=\"300\" height=\"160\"/>\
     <text x=\"1960\" y=\"455\">window: encoded release to encoded deadline</text>\
-    <rect class=\"t7\" x=\"4900\" y=\"410\" width=\"300\" height=\"80\"/>\
+    <rect class=\"v t7\" x=\"4900\" y=\"410\" width=\"300\" height=\"80\"/>\
     <text x=\"5260\" y=\"455\">WCET</text>\
     <path class=\"o\" d=\"M5900 320v180\"/>\
     <text x=\"5960\" y=\"455\">own release or deadline</text>\n";

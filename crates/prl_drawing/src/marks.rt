@@ -1,8 +1,9 @@
-//! Marks of jobs: the bars of their WCETs, lines at their own dates, frames round their windows, and
-//! arrows from one to another.
+//! Marks of jobs: the outlines of their WCETs, lines at their own dates, frames round their windows,
+//! and arrows from one to another.
 
 use crate::boxes::{CLOSED, LEAST, push_place};
 use crate::rows::{COLOURS, GAP, colour_of, row_of};
+use crate::scales::LEFT;
 use crate::shapes::Shape;
 use crate::texts::{push, push_all, push_attribute};
 use crate::window_texts::HIGH;
@@ -20,8 +21,12 @@ const NEAR: u64 = 50;
 /// How far trunks lie apart.
 const APART: u64 = 13;
 
-/// Appends the bar of a job's WCET, at least so wide that it can be seen.
+/// Appends the outline of a job's WCET, at least so wide that it can be seen; none, where that is over
+/// at the first tick.
 pub fn push_bar(text: &mut Vec<u8>, shape: &Shape) -> Result<(), AllocError> {
+    if shape.bar <= LEFT {
+        return Ok(());
+    }
     let width = shape.bar.saturating_sub(shape.left).max(LEAST);
     push_attribute(text, "<rect class=\"v t", colour_of(shape.task))?;
     let top = row_of(shape.row) + 180;
@@ -59,7 +64,7 @@ fn trunk_of(before: &Shape, after: &Shape) -> u64 {
     after.left.saturating_sub(NEAR + APART * place)
 }
 
-/// Appends an arrow from the bar of one job to the window of another, dashed where a delay lies
+/// Appends an arrow from the outline of one job to the window of another, dashed where a delay lies
 /// between: along the lane of the first one's row, and then up or down left of the second one.
 pub fn push_arrow(
     text: &mut Vec<u8>,

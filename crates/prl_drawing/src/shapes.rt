@@ -11,11 +11,11 @@ pub struct Shape {
     pub release: u64,
     /// The encoded deadline.
     pub deadline: u64,
-    /// Where the window begins: at the encoded release.
+    /// Where the window begins: at the encoded release, or where the scale begins.
     pub left: u64,
-    /// Where the window ends: at the encoded deadline.
+    /// Where the window ends: at the encoded deadline, or where the scale ends.
     pub right: u64,
-    /// Where the bar of the WCET ends that begins at the encoded release.
+    /// Where the outline of the WCET ends that begins at the encoded release.
     pub bar: u64,
     /// Where the job's own release stands.
     pub own_left: u64,
