@@ -35,6 +35,14 @@ fn push_left_out(text: &mut Vec<u8>, left_out: u64) -> Result<(), AllocError> {
     push_all(text, &[("; ", left_out)], tail)
 }
 
+/// Appends that the jobs under way at the first tick are drawn, too, where that is not tick 0.
+fn push_under_way(text: &mut Vec<u8>, from: u64) -> Result<(), AllocError> {
+    if from == 0 {
+        return Ok(());
+    }
+    push_all(text, &[(", and those under way at tick ", from)], "")
+}
+
 /// Appends the line that says what is drawn of plans of this hyperperiod, and how many jobs are not.
 pub fn push_title(
     text: &mut Vec<u8>,
@@ -49,6 +57,7 @@ pub fn push_title(
         (" on and before tick ", scale.until),
     ];
     push_all(text, &attributes, "")?;
+    push_under_way(text, scale.from)?;
     push_left_out(text, left_out)?;
     push_unit(text, unit)?;
     push(text, "</text>\n")

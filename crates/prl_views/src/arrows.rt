@@ -6,7 +6,7 @@ ghost use Rattle.prl_views.specs.Shown.{IsOfPlan};
 ghost use Rattle.prl_views.specs.Views.{IsView};
 
 use crate::look_ups::{edge_of, job_count, operand_of};
-use crate::shapes::{shape_of, shown_count};
+use crate::shapes::{first_shown, shape_of, shown_count};
 use crate::shown::Shown;
 use crate::views::{View, row_in};
 use prl_base::{EdgeNo, Op};
@@ -88,7 +88,7 @@ fn push_reading(
         return Ok(());
     };
     let task = view.task(rows.0);
-    if m < job_count(plan, task, view.scale.from)
+    if m < first_shown(plan, task, view.scale.from)
         || m >= shown_count(plan, shown, task, view.scale.until)
     {
         return Ok(());

@@ -2,18 +2,32 @@
 
 ghost use Rattle.std.specs.Prelude.{◌≡◌, ◌++◌, ◌<◌, ◌≤◌, ◌^◌, IfOk, OnOk, length, slice_index};
 ghost use Rattle.prl_plan.specs.Jobs.{job_count, task_at};
-ghost use Rattle.prl_views.specs.Shapes.{shape_of, shapes_of, shapes_of_row, shown_count};
+ghost use Rattle.prl_views.specs.Shapes.{first_shown, own_x, shape_of, shapes_of, shapes_of_row, shown_count};
 ghost use Rattle.prl_views.specs.Shown.{IsOfPlan};
 ghost use Rattle.prl_views.specs.Views.{IsView};
+ghost use Rattle.prl_drawing.specs.Scales.{IsScale};
 
 use crate::look_ups::{dates_of, job_count, own_release, released, task_of};
 use crate::shown::Shown;
 use crate::views::View;
 use prl_base::TaskNo;
-use prl_drawing::{Shape, x_of};
+use prl_drawing::{Scale, Shape, x_of, x_within};
 use prl_plan::Plan;
 use prl_tables::classes;
 use std::alloc::{AllocError, Global};
+
+/// Where an own date stands: where the encoded one does, if the scale does not reach it.
+fn own_x(scale: Scale, tick: u64, x: u64) -> u64
+    requires scale { IsScale scale }
+    requires tick { tick < 2 ^ 34 }
+    ensures { result ≡ own_x scale tick x }
+{
+    if scale.from <= tick && tick <= scale.from + scale.span {
+        x_of(scale, tick)
+    } else {
+        x
+    }
+}
 
 /// A job of the task of a row.
 pub(crate) fn shape_of(plan: &Plan, shown: &Shown, view: &View, row: u32, n: u64) -> Shape
@@ -29,17 +43,18 @@ pub(crate) fn shape_of(plan: &Plan, shown: &Shown, view: &View, row: u32, n: u64
     let own = own_release(plan, i, n, scale.until);
     let release = released(plan, shown, i, n, scale.until);
     let (_release, deadline) = dates_of(plan, i, n, scale.until);
+    let (left, right) = (x_within(scale, release), x_within(scale, deadline));
     Shape {
         row,
         task: i.0,
         job: n,
         release,
         deadline,
-        left: x_of(scale, release),
-        right: x_of(scale, deadline),
-        bar: x_of(scale, release + u64::from(task.wcet)),
-        own_left: x_of(scale, own),
-        own_right: x_of(scale, own + task.due),
+        left,
+        right,
+        bar: x_within(scale, release + u64::from(task.wcet)),
+        own_left: own_x(scale, own, left),
+        own_right: own_x(scale, own + task.due, right),
     }
 }
 
@@ -59,6 +74,24 @@ pub(crate) fn shown_count(plan: &Plan, shown: &Shown, i: TaskNo, until: u64) -> 
     }
 }
 
+/// The first job of a task that is not over at a tick.
+pub(crate) fn first_shown(plan: &Plan, i: TaskNo, from: u64) -> u64
+    requires task { i.0 < length plan.now.graph.tasks }
+    requires from { from < 2 ^ 32 }
+    ensures { result ≡ first_shown plan.now i.0 from }
+{
+    let released = job_count(plan, i, from);
+    if released == 0 {
+        return 0;
+    }
+    let (_release, deadline) = dates_of(plan, i, released - 1, from);
+    if from < deadline {
+        released - 1
+    } else {
+        released
+    }
+}
+
 /// Appends the jobs of the task of a row that are shown.
 fn push_jobs(
     shapes: &mut Vec<Shape>,
@@ -73,7 +106,7 @@ fn push_jobs(
     ensures { OnOk result (shapes.new.items ≡ shapes.old.items ++ shapes_of_row plan.now shown.now view.now row) }
 {
     let i = view.task(row);
-    let first = job_count(plan, i, view.scale.from);
+    let first = first_shown(plan, i, view.scale.from);
     let last = shown_count(plan, shown, i, view.scale.until);
     for n in first..last {
         shapes.push(shape_of(plan, shown, view, row, n))?;
