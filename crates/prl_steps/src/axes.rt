@@ -16,13 +16,13 @@ const BELOW: u64 = 320;
 
 /// How things look. Colours are those that most eyes tell apart.
 const STYLE: &str = "<style>text{font-family:sans-serif;font-size:120px;fill:#222}\
-    .v{font-size:90px;fill:#555;text-anchor:end}.k{font-size:100px;fill:#888}\
+    .n{font-size:90px;fill:#555;text-anchor:end}.k{font-size:100px;fill:#888}\
     .x{font-size:100px;fill:#444;text-anchor:middle}\
     .u{font-size:100px;fill:#444;text-anchor:end}\
     .g{stroke:#e6e6e6;stroke-width:8;fill:none}.l{stroke:#ccc;stroke-width:8;fill:none}\
     .z{stroke:#888;stroke-width:8;stroke-dasharray:20 40;fill:none}.h{fill-opacity:0}\
     .f{fill:none;stroke-width:14;stroke-linejoin:round}\
-    .q{fill-opacity:.55;stroke:#444;stroke-width:8;stroke-linejoin:round}\
+    .q{fill-opacity:.55;stroke:#444;stroke-width:3;stroke-linejoin:round}\
     .e0{stroke:#9A6A00}.e1{stroke:#1F7FB8}.e2{stroke:#00664B}.e3{stroke:#8C8200}\
     .e4{stroke:#004B7A}.e5{stroke:#A34700}.e6{stroke:#9C4A7B}.e7{stroke:#555}\
     .t0{fill:#E69F00}.t1{fill:#56B4E9}.t2{fill:#009E73}.t3{fill:#F0E442}\

@@ -36,7 +36,7 @@ fn push_name(text: &mut Vec<u8>, name: &[u8], y: u64) -> Result<(), AllocError> 
 
 /// Appends the number of a level, left of where that stands.
 fn push_number(text: &mut Vec<u8>, level: u64, y: u64) -> Result<(), AllocError> {
-    push_all(text, &[("<text class=\"v\" x=\"1560\" y=\"", y)], "\">")?;
+    push_all(text, &[("<text class=\"n\" x=\"1560\" y=\"", y)], "\">")?;
     push_level(text, level)?;
     push(text, "</text>\n")
 }
