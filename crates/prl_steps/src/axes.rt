@@ -14,6 +14,12 @@ const LABELS: u64 = 11;
 /// How much stands below the last pane.
 const BELOW: u64 = 320;
 
+/// From so many microseconds on the axis counts milliseconds.
+const MANY: u64 = 10_000;
+
+/// The most parts of a unit of which a thousandth can be told in full.
+const PARTS: u64 = 1_000_000;
+
 /// How things look. Colours are those that most eyes tell apart.
 const STYLE: &str = "<style>text{font-family:sans-serif;font-size:120px;fill:#222}\
     .n{font-size:90px;fill:#555;text-anchor:end}.k{font-size:100px;fill:#888}\
@@ -45,6 +51,20 @@ pub(crate) fn push_line(
     push_all(text, &[(front, LEFT), (" ", y), ("H", LEFT + WIDTH)], tail)
 }
 
+/// The unit in which times up to a tick are told: milliseconds, where these are many microseconds.
+fn told_unit(unit: &Unit, end: u64) -> Unit {
+    let last = end.saturating_mul(unit.parts) / unit.whole.max(1);
+    if unit.name == "us" && unit.whole <= PARTS && last >= MANY {
+        Unit {
+            parts: unit.parts,
+            whole: unit.whole * 1_000,
+            name: "ms",
+        }
+    } else {
+        *unit
+    }
+}
+
 /// Appends lines at some ticks, and below the last pane when they are, in this unit.
 pub(crate) fn push_axis(
     text: &mut Vec<u8>,
@@ -59,7 +79,8 @@ pub(crate) fn push_axis(
         bottom: bottom.saturating_add(80),
         times: bottom.saturating_add(200),
     };
-    push_times(text, scale, unit, axis, LABELS)?;
+    let unit = told_unit(unit, scale.from + scale.span);
+    push_times(text, scale, &unit, axis, LABELS)?;
     push_line(text, "<path class=\"l\" d=\"M", axis.bottom, "\"/>")?;
-    push_unit_name(text, unit, axis)
+    push_unit_name(text, &unit, axis)
 }
