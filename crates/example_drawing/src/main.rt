@@ -5,7 +5,7 @@
 mod bars;
 
 use bars::{MOST, push_bars};
-use prl_drawing::{push, push_name, push_opening, row_of};
+use prl_drawing::{push, push_name, push_svg, row_of};
 use prl_io::{
     Fault, Files, HostFiles, HostSink, Stop, after_name, end, read_named, unfit_for, words_of,
 };
@@ -16,6 +16,13 @@ use std::process::ExitCode;
 
 /// The most bytes of a plan's text.
 const MOST_BYTES: u64 = 33_554_432;
+
+/// How things look, and what the bars are.
+const STYLE: &str = "<style>text{font-family:sans-serif;font-size:120px;fill:#222}\
+    .k{font-size:100px;fill:#666}.l{stroke:#bbb;stroke-width:10;fill:none}.s{stroke:#222;stroke-width:6}\
+    .t0{fill:#E69F00}.t1{fill:#56B4E9}.t2{fill:#009E73}.t3{fill:#F0E442}\
+    .t4{fill:#0072B2}.t5{fill:#D55E00}.t6{fill:#CC79A7}.t7{fill:#999999}</style>\n\
+    <text x=\"1600\" y=\"600\">the WCET of each task as a part of its period</text>\n";
 
 /// How the program is called.
 const FORM: &str = "example_drawing FILE";
@@ -43,7 +50,8 @@ fn drawing(alloc: Global, plan: &Plan) -> Result<Vec<u8>, AllocError> {
     if graph.tasks.len() > MOST {
         return Ok(text);
     }
-    push_opening(&mut text, graph.tasks.len() as u32)?;
+    push_svg(&mut text, row_of(graph.tasks.len() as u32) + 200)?;
+    push(&mut text, STYLE)?;
     push_names(&mut text, graph)?;
     push_bars(&mut text, graph)?;
     push(&mut text, "</svg>\n")?;
