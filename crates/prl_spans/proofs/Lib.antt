@@ -1,0 +1,4 @@
+mod Gated
+mod Ticks
+mod Runs
+mod Tables
