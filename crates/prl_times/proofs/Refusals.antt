@@ -10,8 +10,8 @@ use Rattle.prl_io.specs.declared.faults.Fault.{Fault}
 use Rattle.prl_io.specs.declared.faults.Fault.TheVariants as faults
 use Rattle.prl_plan.specs.Plans.{PlanView}
 use Rattle.prl_times.specs.Answers.{Answers}
-use Rattle.prl_times.specs.Options.{are_apart, file_of, has, is_command, options, other_words, some_or_none}
-use Rattle.prl_times.specs.Refused.{AskWrongly, IsMisfit, IsRefused, IsRefusedOf, IsUnfitWhere, IsUsageWhere}
+use Rattle.prl_times.specs.Options.{are_apart, file_of, has, is_command, options, pairs_of, some_or_none}
+use Rattle.prl_times.specs.Refused.{AskWrongly, IsEverLong, IsLongWhere, IsMisfit, IsRefused, IsRefusedOf, IsUnfitWhere, IsUsageWhere}
 use Rattle.prl_times.specs.Told.{IsActuatorAsked, IsTold}
 
 -- what holds where there is nothing
@@ -52,7 +52,7 @@ outcome_refused (Err fault) P Q is weaker = weaker fault is
 -- what a call answers, however its text is held
 answers_with : {A : Type 0} (view : A → List ℕ) (r : Result A Fault) (words : List (List ℕ)) (files files' : FolderView) (out out' err err' : SinkView) (code : ℕ) →
     EndsSo view r out out' err err' code → OnFalse (asks_help words) (IfOk r (λ text. IsTold files.folder words (view text))) →
-    OnFalse (asks_help words) (IfErr r (IsRefused files files' (other_words words))) → OnTrue (asks_help words) (IfErr r (λ fault. fault ≡ faults.Stop stops.Memory)) →
+    OnFalse (asks_help words) (IfErr r (IsRefused files files' (pairs_of words))) → OnTrue (asks_help words) (IfErr r (λ fault. fault ≡ faults.Stop stops.Memory)) →
     Answers words files files' out out' err err' code
 answers_with view (Ok text) words files files' out out' err err' code ends told refused helped =
     record { outcome = Ok (view text); ends = ends; told = told; refused = refused; helped = helped }
@@ -64,7 +64,7 @@ answers_with view (Err (faults.Unfit label line)) words files files' out out' er
 -- by the words after the program's own name, however these are written
 pub answers_by : {A : Type 0} (view : A → List ℕ) (r : Result A Fault) (read words : List (List ℕ)) (files files' : FolderView) (out out' err err' : SinkView) (code : ℕ) → read ≡ words →
     EndsSo view r out out' err err' code → OnFalse (asks_help read) (IfOk r (λ text. IsTold files.folder read (view text))) →
-    OnFalse (asks_help read) (IfErr r (IsRefused files files' (other_words read))) → OnTrue (asks_help read) (IfErr r (λ fault. fault ≡ faults.Stop stops.Memory)) →
+    OnFalse (asks_help read) (IfErr r (IsRefused files files' (pairs_of read))) → OnTrue (asks_help read) (IfErr r (λ fault. fault ≡ faults.Stop stops.Memory)) →
     Answers words files files' out out' err err' code
 answers_by view r read words files files' out out' err err' code same ends told refused helped =
     subst (λ (ws : List (List ℕ)). Answers ws files files' out out' err err' code) same (answers_with view r read files files' out out' err err' code ends told refused helped)
@@ -86,3 +86,13 @@ some_of (Some name) is = refl
 
 pub file_named : (words : List (List ℕ)) → is_command words ≡ true → value_of (codes "--plan") words ≡ Some (file_of words)
 file_named words is = some_of (value_of (codes "--plan") words) (and_parts (are_pairs options words && are_apart words) (has (codes "--plan") words) is).1
+
+-- a limit that is told of what the words ask for ever
+pub refused_by_long : (plan : PlanView) (words : List (List ℕ)) (fault : Fault) → has (codes "--for-ever") words ≡ true → IsLongWhere (IsEverLong plan) fault → IsRefusedOf plan words fault
+refused_by_long plan words (faults.Stop stops.Memory) asked is = tt
+refused_by_long plan words (faults.Stop (stops.Words form)) asked is = absurd is
+refused_by_long plan words (faults.Stop (stops.Refused what)) asked is = inr (asked, is)
+refused_by_long plan words (faults.Stop (stops.Absent name)) asked is = absurd is
+refused_by_long plan words (faults.Stop (stops.TooLong name)) asked is = absurd is
+refused_by_long plan words (faults.Stop (stops.Unread name)) asked is = absurd is
+refused_by_long plan words (faults.Unfit label line) asked is = absurd is

@@ -7,7 +7,7 @@ use Rattle.prl_io.specs.Views.{FolderView, SinkView}
 use Rattle.prl_io.specs.declared.endings.Stop.TheVariants as stops
 use Rattle.prl_io.specs.declared.faults.Fault.{Fault}
 use Rattle.prl_io.specs.declared.faults.Fault.TheVariants as faults
-use Rattle.prl_times.specs.Options.{other_words}
+use Rattle.prl_times.specs.Options.{pairs_of}
 use Rattle.prl_times.specs.Refused.{IsRefused}
 use Rattle.prl_times.specs.Told.{IsTold}
 
@@ -17,5 +17,5 @@ pub record Answers (words : List (List ℕ)) (files files' : FolderView) (out ou
   pub outcome : Result (List ℕ) Fault
   pub ends : EndsSo (λ text. text) outcome out out' err err' code
   pub told : OnFalse (asks_help words) (IfOk outcome (IsTold files.folder words))
-  pub refused : OnFalse (asks_help words) (IfErr outcome (IsRefused files files' (other_words words)))
+  pub refused : OnFalse (asks_help words) (IfErr outcome (IsRefused files files' (pairs_of words)))
   pub helped : OnTrue (asks_help words) (IfErr outcome (λ fault. fault ≡ faults.Stop stops.Memory))

@@ -27,6 +27,7 @@ is_above limit (rows.Chain first last verdict) = is_old limit verdict
 is_above limit (rows.Skew first second actuator verdict) = is_far limit verdict
 is_above limit (rows.Task task times) = false
 is_above limit (rows.Overload from to demand) = false
+is_above limit (rows.ForEver row) = false
 
 abbrev pub rows_above : ℕ → List Row → List Row
 rows_above limit list = flat_map (λ row. cond (is_above limit row) (row ∷ []) []) list

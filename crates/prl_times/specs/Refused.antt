@@ -10,12 +10,17 @@ use Rattle.prl_io.specs.Views.{FolderView}
 use Rattle.prl_io.specs.declared.endings.Stop.TheVariants as stops
 use Rattle.prl_io.specs.declared.faults.Fault.{Fault}
 use Rattle.prl_io.specs.declared.faults.Fault.TheVariants as faults
+use Rattle.prl_forever.specs.Answers.{IsAnswerFault}
+use Rattle.prl_forever.specs.Forever.{ServesForEver}
+use Rattle.prl_forever.specs.declared.deciding.ForEverFault.TheVariants as no_answers
 use Rattle.prl_plan.specs.Horizons.{IsPastLimit}
 use Rattle.prl_plan.specs.Plans.{PlanView}
 use Rattle.prl_plan.specs.Vocabulary.{is_actuator, is_sensor, task_at}
 use Rattle.prl_plan.specs.declared.graphs.TaskGraph.{TaskGraph}
 use Rattle.prl_base.specs.declared.limits.Limit.{Limit}
 use Rattle.prl_plantext.specs.ReadTexts.{IsTextOf}
+use Rattle.prl_steady.specs.Times.{IsTimesFault}
+use Rattle.prl_steady.specs.declared.lasting.TimesFault.TheVariants as no_times
 use Rattle.prl_timetext.specs.Texts.{row_words}
 use Rattle.prl_timetext.specs.declared.rows.Row.{Row}
 use Rattle.prl_times.specs.Limits.{rows_above}
@@ -55,6 +60,16 @@ abbrev pub IsRunTooLong : PlanView → List (List ℕ) → Type 0
 IsRunTooLong plan words =
     (word : List ℕ) × (until : ℕ) × (limit : Limit) × (value_of (codes "--until") words ≡ Some word) × (decimal_of word ≡ Some until)
     × IsPastLimit plan until limit
+
+-- what holds for ever is not found within the limits: whether one processor serves, or how soon the jobs end that it serves
+abbrev pub IsEverLong : PlanView → Type 0
+IsEverLong plan =
+    ((limit : Limit) × IsAnswerFault plan (no_answers.Limit limit))
+    ⊎ (ServesForEver plan × (((limit : Limit) × IsTimesFault plan (no_times.Limit limit)) ⊎ IsTimesFault plan no_times.TooFar))
+
+-- and the words ask for it
+abbrev pub IsEverTooLong : PlanView → List (List ℕ) → Type 0
+IsEverTooLong plan words = (has (codes "--for-ever") words ≡ true) × IsEverLong plan
 
 -- no task of the plan has this name; none that is a sensor; none that is an actuator
 abbrev pub IsNoTask : TaskGraph → List ℕ → Type 0
@@ -121,6 +136,16 @@ IsUsageWhere holds (faults.Stop (stops.TooLong name)) = ⊥
 IsUsageWhere holds (faults.Stop (stops.Unread name)) = ⊥
 IsUsageWhere holds (faults.Unfit label line) = ⊥
 
+-- a limit is told where this holds; or memory ran out
+abbrev pub IsLongWhere : Type 0 → Fault → Type 0
+IsLongWhere holds (faults.Stop stops.Memory) = Unit {0}
+IsLongWhere holds (faults.Stop (stops.Words form)) = ⊥
+IsLongWhere holds (faults.Stop (stops.Refused what)) = holds
+IsLongWhere holds (faults.Stop (stops.Absent name)) = ⊥
+IsLongWhere holds (faults.Stop (stops.TooLong name)) = ⊥
+IsLongWhere holds (faults.Stop (stops.Unread name)) = ⊥
+IsLongWhere holds (faults.Unfit label line) = ⊥
+
 -- what this name stands for does not fit, for a reason of which this holds; or memory ran out
 abbrev pub IsUnfitWhere : List ℕ → (List ℕ → Type 0) → Fault → Type 0
 IsUnfitWhere name holds (faults.Stop stop) = stop ≡ stops.Memory
@@ -130,7 +155,7 @@ IsUnfitWhere name holds (faults.Unfit label line) = (why : List ℕ) × IsUnfit 
 abbrev pub IsRefusedOf : PlanView → List (List ℕ) → Fault → Type 0
 IsRefusedOf plan words (faults.Stop stops.Memory) = Unit {0}
 IsRefusedOf plan words (faults.Stop (stops.Words form)) = AskWrongly plan words
-IsRefusedOf plan words (faults.Stop (stops.Refused what)) = IsRunTooLong plan words
+IsRefusedOf plan words (faults.Stop (stops.Refused what)) = IsRunTooLong plan words ⊎ IsEverTooLong plan words
 IsRefusedOf plan words (faults.Stop (stops.Absent name)) = ⊥
 IsRefusedOf plan words (faults.Stop (stops.TooLong name)) = ⊥
 IsRefusedOf plan words (faults.Stop (stops.Unread name)) = ⊥
@@ -160,7 +185,7 @@ abbrev pub IsPlanRefused : Folder → List (List ℕ) → Fault → Type 0
 IsPlanRefused folder words fault =
     (source : List ℕ) × (plan : PlanView) × HasPlanText folder words source × IsTextOf plan source × IsRefusedOf plan words fault
 
--- why nothing is told, where the words without `--json` are these
+-- why nothing is told, where the words as pairs are these
 abbrev pub IsRefused : FolderView → FolderView → List (List ℕ) → Fault → Type 0
 IsRefused old new words fault =
     (fault ≡ faults.Stop stops.Memory) ⊎ (IsNoCommand words fault ⊎ (IsUnread old new words fault ⊎ (IsNoPlan old.folder words fault ⊎ IsPlanRefused old.folder words fault)))

@@ -10,9 +10,9 @@ use Rattle.prl_plantext.specs.ReadTexts.{IsTextOf}
 use Rattle.prl_times.specs.Limits.{rows_above}
 use Rattle.prl_times.specs.Names.{has_twice, AreOfPlan}
 use Rattle.prl_timetext.specs.Names.{names_joined}
-use Rattle.prl_times.specs.Options.{asks_json, other_words}
+use Rattle.prl_times.specs.Options.{asks_json, pairs_of, with_values}
 use Rattle.prl_timetext.specs.Objects.{json_text}
-use Rattle.prl_times.specs.Rows.{Subject, about, ages_at, chain, load, overload, skew, tasks_to, IsRow}
+use Rattle.prl_times.specs.Rows.{Subject, about, ages_at, chain, each_to, heavy, hyper_share, lasting_overload, lasting_task, load, overload, served, skew, tasks_to, withins_to, IsRow}
 use Rattle.prl_timetext.specs.Texts.{rows_text}
 use Rattle.prl_timetext.specs.declared.rows.Row.{Row}
 
@@ -38,12 +38,23 @@ IsRunAsked plan words until run =
     MatchOption (value_of (codes "--until") words) (run ≡ [])
     (λ word. (decimal_of word ≡ Some until) × ((run ≡ tasks_to (length plan.graph.tasks)) ⊎ (run ≡ overload ∷ [])))
 
--- the rows of a plan: its load, the ages at the actuators, and the run
+-- the rows of what is told for ever: that one processor serves and the tasks; or a load that is too much and the tasks; or an overload and
+-- the tasks that have jobs in it
+abbrev pub AreLasting : PlanView → List Subject → Type 0
+AreLasting plan ever =
+    (ever ≡ served ∷ each_to lasting_task (length plan.graph.tasks))
+    ⊎ ((ever ≡ heavy ∷ each_to hyper_share (length plan.graph.tasks))
+    ⊎ ((from : ℕ) × (to : ℕ) × (ever ≡ lasting_overload from to ∷ withins_to plan from to (length plan.graph.tasks))))
+
+abbrev pub IsEverAsked : PlanView → List (List ℕ) → List Subject → Type 0
+IsEverAsked plan words ever = MatchOption (value_of (codes "--for-ever") words) (ever ≡ []) (λ word. AreLasting plan ever)
+
+-- the rows of a plan: its load, what is told for ever, the ages at the actuators, and the run
 abbrev pub AreAllRows : PlanView → List (List ℕ) → List TaskNo → ℕ → List Row → Type 0
 AreAllRows plan words tasks until rows =
-    (tasks ≡ []) × ((sensor : Option TaskNo) × (actuator : Option TaskNo) × (run : List Subject)
-    × IsSensorAsked plan words sensor × IsActuatorAsked plan words actuator × IsRunAsked plan words until run
-    × (map about rows ≡ load ∷ ages_at plan.graph sensor actuator (length plan.graph.tasks) ++ run))
+    (tasks ≡ []) × ((sensor : Option TaskNo) × (actuator : Option TaskNo) × (run : List Subject) × (ever : List Subject)
+    × IsSensorAsked plan words sensor × IsActuatorAsked plan words actuator × IsRunAsked plan words until run × IsEverAsked plan words ever
+    × (map about rows ≡ (load ∷ ever) ++ ages_at plan.graph sensor actuator (length plan.graph.tasks) ++ run))
 
 -- the one row of a chain, from its first task to its last
 abbrev pub IsChainRow : List TaskNo → List Row → Type 0
@@ -84,4 +95,4 @@ IsToldBy json folder words text =
 
 -- what the words ask for, as lines, or as JSON where they ask for it
 abbrev pub IsTold : Folder → List (List ℕ) → List ℕ → Type 0
-IsTold folder words text = IsToldBy (asks_json words) folder (other_words words) text
+IsTold folder words text = IsToldBy (asks_json (with_values false words)) folder (pairs_of words) text

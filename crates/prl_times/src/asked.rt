@@ -12,6 +12,7 @@ ghost use Rattle.prl_io.specs.Faults.{IsUnfit};
 ghost use Rattle.prl_times.specs.Told.{AreAllRows, AreRowsAsked, AreTasksAsked, IsActuatorAsked, IsChainRow, IsRunAsked, IsSensorAsked, IsSkewRow};
 
 use crate::collected::{chain_row, load_row, one_row, push_ages, push_run, skew_row};
+use crate::lasting::push_asked;
 use crate::names::{actuator_named, has_twice, sensor_named, tasks_named};
 use crate::options::{FORM, file_of, number_in};
 use prl_base::TaskNo;
@@ -88,7 +89,7 @@ fn push_until(
     Ok(push_run(alloc, rows, plan, horizon)?)
 }
 
-/// The rows of a plan: the load, the ages, and the run.
+/// The rows of a plan: the load, what holds for ever, the ages, and the run.
 fn all_rows(alloc: Global, words: &[String], plan: &Plan) -> Result<Vec<Row>, Fault>
     ensures told { IfOk result (λ rows. (until : ℕ) × AreAllRows plan.now (map string_bytes words.now) [] until rows.items × All (IsRow plan.now [] until) rows.items) }
     ensures refused { IfErr result (IsRefusedOf plan.now (map string_bytes words.now)) }
@@ -96,6 +97,7 @@ fn all_rows(alloc: Global, words: &[String], plan: &Plan) -> Result<Vec<Row>, Fa
     let sensor = sensor_asked(alloc, words, plan)?;
     let actuator = actuator_asked(alloc, words, plan)?;
     let mut rows = one_row(alloc, load_row(plan))?;
+    push_asked(alloc, &mut rows, words, plan)?;
     push_ages(alloc, &mut rows, plan, sensor, actuator)?;
     push_until(alloc, &mut rows, words, plan)?;
     Ok(rows)

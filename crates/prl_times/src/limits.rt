@@ -40,6 +40,7 @@ fn is_above(limit: u64, row: &Row) -> bool
         Row::Skew { verdict, .. } => is_far(limit, verdict),
         Row::Task { .. } => false,
         Row::Overload { .. } => false,
+        Row::ForEver(_) => false,
     }
 }
 

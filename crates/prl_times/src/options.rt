@@ -1,9 +1,9 @@
 //! The options of the words.
 
-ghost use Rattle.std.specs.Prelude.{◌≡◌, ◌≤◌, ◌++◌, ◌∷◌, [], IfNone, IfOk, IfSome, OnOk, Some, map};
+ghost use Rattle.std.specs.Prelude.{◌≡◌, ◌≤◌, ◌++◌, ◌∷◌, [], IfNone, IfOk, IfSome, OnOk, Some, codes, cond, false, map};
 ghost use Rattle.std.specs.String.{string_bytes};
 ghost use Rattle.prl_base.specs.Decimals.{decimal_of};
-ghost use Rattle.prl_times.specs.Options.{are_apart, asks_json, file_of, has, is_command, is_json, other_words};
+ghost use Rattle.prl_times.specs.Options.{are_apart, asks_json, file_of, has, has_value, is_command, is_for_ever, is_json, other_words, with_values};
 ghost use Rattle.prl_times.specs.Refused.{IsNoNumberUpTo};
 
 use prl_base::decimal_of;
@@ -12,7 +12,7 @@ use std::alloc::{AllocError, Global};
 
 /// The form of the words.
 pub(crate) const FORM: &str =
-    "prelude_times --plan FILE [--sensor NAME] [--actuator NAME] [--until TICK] [--limit AGE] [--json], \
+    "prelude_times --plan FILE [--sensor NAME] [--actuator NAME] [--until TICK or --for-ever] [--limit AGE] [--json], \
     or --plan FILE --chain NAME,NAME,.. [--limit AGE] [--json], \
     or --plan FILE --skew NAME,NAME --actuator NAME [--limit AGE] [--json], or --help";
 
@@ -26,6 +26,8 @@ pub(crate) const HELP: &str = "prelude_times --plan FILE [OPTION VALUE ..] [--js
     --actuator NAME  this actuator alone\n\
     --until TICK     and how soon the jobs before TICK end by earliest deadline first: by task the\n\
     \x20                worst response and the least slack, or an overload\n\
+    --for-ever       and whether one processor has the time for all jobs: by task the worst response\n\
+    \x20                and the least slack, or what an overload or a load that is too much is made of\n\
     --chain NAMES    the age of the first task's values at the last, along these tasks, as a,b,c\n\
     --skew A,B       how far apart in time the values of two sensors are in one job of --actuator\n\
     --limit AGE      status 1 where an age, or a skew, is above AGE, with those that are\n\
@@ -37,6 +39,20 @@ fn is_json(word: &String) -> bool
     ensures { result ≡ is_json (string_bytes word.now) }
 {
     word.as_bytes() == b"--json".as_slice()
+}
+
+/// Whether a word asks for what holds for ever.
+fn is_for_ever(word: &String) -> bool
+    ensures { result ≡ is_for_ever (string_bytes word.now) }
+{
+    word.as_bytes() == b"--for-ever".as_slice()
+}
+
+/// Whether a word that stands where an option may is followed by a value.
+fn has_value(word: &String) -> bool
+    ensures { result ≡ has_value (string_bytes word.now) }
+{
+    !(is_json(word) || is_for_ever(word))
 }
 
 /// Whether the words ask for JSON, where an option may stand.
@@ -69,6 +85,58 @@ fn push_words(words: &mut Vec<String>, alloc: Global, more: &[String]) -> Result
             push_words(words, alloc, rest)
         }
     }
+}
+
+/// Appends the value of a word that asks for ever.
+fn push_yes(words: &mut Vec<String>, alloc: Global) -> Result<(), AllocError>
+    ensures { OnOk result (map string_bytes words.new.items ≡ map string_bytes words.old.items ++ codes "yes" ∷ []) }
+{
+    words.push(String::from_str(alloc, "yes")?)?;
+    Ok(())
+}
+
+/// Appends a copy of a word, and a value behind it if it asks for ever.
+fn push_valued(
+    valued: &mut Vec<String>,
+    alloc: Global,
+    word: &String,
+    asks: bool,
+) -> Result<(), AllocError>
+    ensures { OnOk result (map string_bytes valued.new.items ≡ map string_bytes valued.old.items ++ cond asks (string_bytes word.now ∷ codes "yes" ∷ []) (string_bytes word.now ∷ [])) }
+{
+    push_word(valued, alloc, word)?;
+    if asks {
+        push_yes(valued, alloc)?;
+    }
+    Ok(())
+}
+
+/// Appends copies of some words, with a value behind each that asks for ever where an option may stand. The first of them is a value, or it
+/// is not.
+fn push_values(
+    valued: &mut Vec<String>,
+    alloc: Global,
+    value: bool,
+    words: &[String],
+) -> Result<(), AllocError>
+    ensures { OnOk result (map string_bytes valued.new.items ≡ map string_bytes valued.old.items ++ with_values value (map string_bytes words.now)) }
+{
+    match words {
+        [] => Ok(()),
+        [word, rest @ ..] => {
+            push_valued(valued, alloc, word, !value && is_for_ever(word))?;
+            push_values(valued, alloc, !value && has_value(word), rest)
+        }
+    }
+}
+
+/// The words with a value behind each that asks for ever.
+pub(crate) fn with_values(alloc: Global, words: &[String]) -> Result<Vec<String>, AllocError>
+    ensures { IfOk result (λ valued. map string_bytes valued.items ≡ with_values false (map string_bytes words.now)) }
+{
+    let mut valued = Vec::new(alloc);
+    push_values(&mut valued, alloc, false, words)?;
+    Ok(valued)
 }
 
 /// Appends copies of some words without the first that asks for JSON.
@@ -105,7 +173,7 @@ pub(crate) fn other_words(alloc: Global, words: &[String]) -> Result<Vec<String>
 }
 
 /// Whether the words have an option.
-fn has(option: &[u8], words: &[String]) -> bool
+pub(crate) fn has(option: &[u8], words: &[String]) -> bool
     ensures { result ≡ has option.now (map string_bytes words.now) }
 {
     value_of(option, words).is_some()
@@ -121,7 +189,7 @@ pub(crate) fn file_of(words: &[String]) -> &[u8]
     }
 }
 
-/// Whether the words ask for one thing: for a chain or a skew alone, or for neither.
+/// Whether the words ask for one thing: for a chain or a skew alone, or for neither, and for one run.
 fn are_apart(words: &[String]) -> bool
     ensures { result ≡ are_apart (map string_bytes words.now) }
 {
@@ -130,14 +198,17 @@ fn are_apart(words: &[String]) -> bool
     let sensor = has(b"--sensor", words);
     let actuator = has(b"--actuator", words);
     let until = has(b"--until", words);
-    !(chain && (skew || sensor || actuator || until)) && !(skew && (sensor || until))
+    let ever = has(b"--for-ever", words);
+    !(chain && (skew || sensor || actuator || until))
+        && !(skew && (sensor || until))
+        && !(ever && (chain || skew || until))
 }
 
 /// Whether the words ask for something of a plan.
 pub(crate) fn is_command(words: &[String]) -> bool
     ensures { result ≡ is_command (map string_bytes words.now) }
 {
-    let options: [&[u8]; 7] = [
+    let options: [&[u8]; 8] = [
         b"--plan",
         b"--sensor",
         b"--actuator",
@@ -145,6 +216,7 @@ pub(crate) fn is_command(words: &[String]) -> bool
         b"--chain",
         b"--skew",
         b"--limit",
+        b"--for-ever",
     ];
     are_pairs(&options, words) && are_apart(words) && has(b"--plan", words)
 }

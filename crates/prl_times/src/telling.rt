@@ -10,13 +10,15 @@ ghost use Rattle.prl_io.specs.declared.faults.Fault.TheVariants as faults;
 ghost use Rattle.prl_timetext.specs.Objects.{json_text};
 ghost use Rattle.prl_timetext.specs.Texts.{rows_text};
 ghost use Rattle.prl_times.specs.Answers.{Answers};
-ghost use Rattle.prl_times.specs.Options.{file_of, other_words};
+ghost use Rattle.prl_times.specs.Options.{asks_json, file_of, other_words, pairs_of};
 ghost use Rattle.prl_times.specs.Refused.{above_line, IsRefused, IsRefusedOf};
 ghost use Rattle.prl_times.specs.Told.{AreRowsAsked, AreWithin, IsTold, IsToldBy, IsToldOf};
 
 use crate::asked::{chain_asked, rows_asked};
 use crate::limits::above;
-use crate::options::{FORM, HELP, asks_json, file_of, is_command, number_in, other_words};
+use crate::options::{
+    FORM, HELP, asks_json, file_of, is_command, number_in, other_words, with_values,
+};
 use prl_base::{TaskNo, push_number};
 use prl_io::{
     Fault, Files, Sink, Stop, after_name, asks_help, end, read_named, unfit_for, value_of,
@@ -149,19 +151,28 @@ fn times<F: Files>(
     }
 }
 
-/// What the words ask for, as lines, or as JSON where they ask for it.
-fn answer<F: Files>(alloc: Global, words: &[String], files: &mut F) -> Result<Vec<u8>, Fault>
-    ensures told { IfOk result (λ text. IsTold (F.seen files.old).folder (map string_bytes words.now) text.items) }
+/// What the words ask for, as lines, or as JSON where they ask for it. A word that asks for ever has a value.
+fn valued_answer<F: Files>(alloc: Global, words: &[String], files: &mut F) -> Result<Vec<u8>, Fault>
+    ensures told { IfOk result (λ text. IsToldBy (asks_json (map string_bytes words.now)) (F.seen files.old).folder (other_words (map string_bytes words.now)) text.items) }
     ensures refused { IfErr result (IsRefused (F.seen files.old) (F.seen files.new) (other_words (map string_bytes words.now))) }
 {
     let others = other_words(alloc, words)?;
     times(alloc, &others, asks_json(words), files)
 }
 
+/// What the words ask for.
+fn answer<F: Files>(alloc: Global, words: &[String], files: &mut F) -> Result<Vec<u8>, Fault>
+    ensures told { IfOk result (λ text. IsTold (F.seen files.old).folder (map string_bytes words.now) text.items) }
+    ensures refused { IfErr result (IsRefused (F.seen files.old) (F.seen files.new) (pairs_of (map string_bytes words.now))) }
+{
+    let valued = with_values(alloc, words)?;
+    valued_answer(alloc, &valued, files)
+}
+
 /// What the options mean, or what the words ask for.
 fn outcome<F: Files>(alloc: Global, words: &[String], files: &mut F) -> Result<Vec<u8>, Fault>
     ensures told { OnFalse (asks_help (map string_bytes words.now)) (IfOk result (λ text. IsTold (F.seen files.old).folder (map string_bytes words.now) text.items)) }
-    ensures refused { OnFalse (asks_help (map string_bytes words.now)) (IfErr result (IsRefused (F.seen files.old) (F.seen files.new) (other_words (map string_bytes words.now)))) }
+    ensures refused { OnFalse (asks_help (map string_bytes words.now)) (IfErr result (IsRefused (F.seen files.old) (F.seen files.new) (pairs_of (map string_bytes words.now)))) }
     ensures helped { OnTrue (asks_help (map string_bytes words.now)) (IfErr result (λ fault. fault ≡ faults.Stop Memory)) }
 {
     if asks_help(words) {

@@ -12,6 +12,9 @@ use Rattle.prl_ages.specs.declared.verdicts.Verdict.TheVariants as verdicts
 use Rattle.prl_plan.specs.declared.graphs.TaskGraph.{TaskGraph}
 use Rattle.prl_timetext.specs.Names.{name_at}
 use Rattle.prl_responses.specs.declared.responses.Times.{Times}
+use Rattle.prl_steady.specs.declared.shares.Share.{Share}
+use Rattle.prl_timetext.specs.declared.rows.Lasting.{Lasting}
+use Rattle.prl_timetext.specs.declared.rows.Lasting.TheVariants as lasting
 use Rattle.prl_timetext.specs.declared.rows.Row.{Row}
 use Rattle.prl_timetext.specs.declared.rows.Row.TheVariants as rows
 
@@ -90,6 +93,27 @@ interval_tokens from to = word (codes "row") (codes "overload") ++ count (codes 
 abbrev pub overload_tokens : ℕ → ℕ → ℕ → List Token
 overload_tokens from to demand = interval_tokens from to ++ count (codes "demand") demand
 
+abbrev pub share_tokens : List ℕ → Share → List Token
+share_tokens task share = word (codes "task") task ++ count (codes "jobs") share.jobs ++ count (codes "units") share.units
+
+abbrev pub heavy_tokens : ℕ → ℕ → List Token
+heavy_tokens load hyper = word (codes "row") (codes "heavy") ++ count (codes "load") load ++ count (codes "has") hyper
+
+abbrev pub within_tokens : ℕ → ℕ → List Token
+within_tokens from to = word (codes "row") (codes "within") ++ count (codes "from") from ++ count (codes "to") to
+
+abbrev pub share_within_tokens : ℕ → ℕ → List ℕ → Share → List Token
+share_within_tokens from to task share = within_tokens from to ++ share_tokens task share
+
+-- the members of a row of what is told for ever
+abbrev pub lasting_fields : TaskGraph → Lasting → List Token
+lasting_fields graph lasting.Served = word (codes "row") (codes "serves")
+lasting_fields graph (lasting.Heavy load hyper) = heavy_tokens load hyper
+lasting_fields graph (lasting.Hyper task share) = word (codes "row") (codes "hyperperiod") ++ share_tokens (name_at graph task) share
+lasting_fields graph (lasting.Overload from to demand) = overload_tokens from to demand
+lasting_fields graph (lasting.Within from to task share) = share_within_tokens from to (name_at graph task) share
+lasting_fields graph (lasting.Task task times) = task_tokens (name_at graph task) times
+
 -- the members of a row
 abbrev pub fields : TaskGraph → Row → List Token
 fields graph (rows.Load load hyper) = load_tokens load hyper
@@ -98,6 +122,7 @@ fields graph (rows.Chain first last verdict) = ages_tokens (codes "chain") (name
 fields graph (rows.Skew first second actuator verdict) = apart_tokens (name_at graph first) (name_at graph second) (name_at graph actuator) verdict
 fields graph (rows.Task task times) = task_tokens (name_at graph task) times
 fields graph (rows.Overload from to demand) = overload_tokens from to demand
+fields graph (rows.ForEver row) = lasting_fields graph row
 
 abbrev pub row_tokens : TaskGraph → Row → List Token
 row_tokens graph row = begin_object ∷ (fields graph row ++ end_object ∷ [])

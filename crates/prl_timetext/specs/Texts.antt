@@ -13,6 +13,9 @@ use Rattle.prl_base.specs.declared.numbers.TaskNo.{TaskNo}
 use Rattle.prl_plan.specs.declared.graphs.TaskGraph.{TaskGraph}
 use Rattle.prl_timetext.specs.Names.{name_at, names_joined}
 use Rattle.prl_responses.specs.declared.responses.Times.{Times}
+use Rattle.prl_steady.specs.declared.shares.Share.{Share}
+use Rattle.prl_timetext.specs.declared.rows.Lasting.{Lasting}
+use Rattle.prl_timetext.specs.declared.rows.Lasting.TheVariants as lasting
 use Rattle.prl_timetext.specs.declared.rows.Row.{Row}
 use Rattle.prl_timetext.specs.declared.rows.Row.TheVariants as rows
 
@@ -80,6 +83,26 @@ apart_words graph first second actuator verdict =
 abbrev pub task_words : TaskGraph → TaskNo → Option Times → List ℕ
 task_words graph task times = codes "task" ++ codes " " ++ name_at graph task ++ times_words times
 
+-- some jobs of a task, and what they cost
+abbrev pub share_words : TaskGraph → TaskNo → Share → List ℕ
+share_words graph task share =
+    concat (codes "task" ∷ codes " " ∷ name_at graph task ∷ codes " jobs " ∷ decimal share.jobs ∷ codes " units " ∷ decimal share.units ∷ [])
+
+abbrev pub heavy_words : ℕ → ℕ → List ℕ
+heavy_words load hyper = codes "heavy load " ++ decimal load ++ codes " has " ++ decimal hyper
+
+abbrev pub within_words : ℕ → ℕ → List ℕ
+within_words from to = concat (codes "within " ∷ decimal from ∷ codes " " ∷ decimal to ∷ codes " " ∷ [])
+
+-- a row of what is told for ever
+abbrev pub lasting_words : TaskGraph → Lasting → List ℕ
+lasting_words graph lasting.Served = codes "serves for ever"
+lasting_words graph (lasting.Heavy load hyper) = heavy_words load hyper
+lasting_words graph (lasting.Hyper task share) = codes "hyperperiod " ++ share_words graph task share
+lasting_words graph (lasting.Overload from to demand) = overload_words from to demand
+lasting_words graph (lasting.Within from to task share) = within_words from to ++ share_words graph task share
+lasting_words graph (lasting.Task task times) = task_words graph task times
+
 -- a row of a call with this chain
 abbrev pub row_words : TaskGraph → List TaskNo → Row → List ℕ
 row_words graph chain (rows.Load load hyper) = load_words load hyper
@@ -88,6 +111,7 @@ row_words graph chain (rows.Chain first last verdict) = chain_words graph chain 
 row_words graph chain (rows.Skew first second actuator verdict) = apart_words graph first second actuator verdict
 row_words graph chain (rows.Task task times) = task_words graph task times
 row_words graph chain (rows.Overload from to demand) = overload_words from to demand
+row_words graph chain (rows.ForEver row) = lasting_words graph row
 
 -- the lines of some rows
 abbrev pub rows_text : TaskGraph → List TaskNo → List Row → List ℕ

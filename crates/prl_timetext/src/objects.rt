@@ -6,6 +6,7 @@ ghost use Rattle.prl_timetext.specs.Objects.{ages_tokens, count, fields, json_te
 ghost use Rattle.prl_timetext.specs.Objects.{instances_tokens, interval_tokens, others_tokens, pair_tokens, response_tokens, sensors_tokens};
 ghost use Rattle.prl_timetext.specs.Objects.{row_tokens, rows_tokens, skew_tokens, times_tokens, used_tokens, verdict_tokens, word, apart_tokens, ends_tokens, greatest_tokens, task_tokens};
 
+use crate::lasting_objects::put_lasting;
 use crate::names::name_of;
 use crate::rows::Row;
 use json::Writer;
@@ -16,7 +17,7 @@ use prl_responses::Times;
 use std::alloc::{AllocError, Global};
 
 /// The name of a task as a text, which the plan's names are.
-fn text_of_name(plan: &Plan, i: TaskNo) -> &str
+pub(crate) fn text_of_name(plan: &Plan, i: TaskNo) -> &str
     ensures { result.now ≡ (task_at plan.now.graph i.0).name }
 {
     plan_is_one(plan);
@@ -27,7 +28,7 @@ fn text_of_name(plan: &Plan, i: TaskNo) -> &str
 }
 
 /// Writes a member with a number.
-fn put_count(w: &mut Writer, key: &str, number: u64) -> Result<(), AllocError>
+pub(crate) fn put_count(w: &mut Writer, key: &str, number: u64) -> Result<(), AllocError>
     ensures tokens { OnOk result (w.new.tokens ≡ w.old.tokens ++ count key.now number) }
     ensures before { w.new.before ≡ w.old.before }
 {
@@ -37,7 +38,7 @@ fn put_count(w: &mut Writer, key: &str, number: u64) -> Result<(), AllocError>
 }
 
 /// Writes a member with a text.
-fn put_word(w: &mut Writer, key: &str, text: &str) -> Result<(), AllocError>
+pub(crate) fn put_word(w: &mut Writer, key: &str, text: &str) -> Result<(), AllocError>
     ensures tokens { OnOk result (w.new.tokens ≡ w.old.tokens ++ word key.now text.now) }
     ensures before { w.new.before ≡ w.old.before }
 {
@@ -242,7 +243,7 @@ fn put_times(w: &mut Writer, times: Option<Times>) -> Result<(), AllocError>
 }
 
 /// Writes a task, and how soon its jobs end.
-fn put_task(w: &mut Writer, task: &str, times: Option<Times>) -> Result<(), AllocError>
+pub(crate) fn put_task(w: &mut Writer, task: &str, times: Option<Times>) -> Result<(), AllocError>
     ensures tokens { OnOk result (w.new.tokens ≡ w.old.tokens ++ task_tokens task.now times) }
     ensures before { w.new.before ≡ w.old.before }
 {
@@ -264,7 +265,12 @@ fn put_interval(w: &mut Writer, from: u64, to: u64) -> Result<(), AllocError>
 }
 
 /// Writes an overloaded interval.
-fn put_overload(w: &mut Writer, from: u64, to: u64, demand: u64) -> Result<(), AllocError>
+pub(crate) fn put_overload(
+    w: &mut Writer,
+    from: u64,
+    to: u64,
+    demand: u64,
+) -> Result<(), AllocError>
     ensures tokens { OnOk result (w.new.tokens ≡ w.old.tokens ++ overload_tokens from to demand) }
     ensures before { w.new.before ≡ w.old.before }
 {
@@ -307,6 +313,7 @@ fn put_fields(w: &mut Writer, plan: &Plan, row: &Row) -> Result<(), AllocError>
         }
         Row::Task { task, times } => put_task(w, text_of_name(plan, task), times)?,
         Row::Overload { from, to, demand } => put_overload(w, from, to, demand)?,
+        Row::ForEver(row) => put_lasting(w, plan, &row)?,
     }
     Ok(())
 }

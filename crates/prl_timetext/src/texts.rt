@@ -6,6 +6,7 @@ ghost use Rattle.prl_timetext.specs.Names.{name_at};
 ghost use Rattle.prl_timetext.specs.Texts.{age_words, ages_words, apart_words, chain_words, greatest_words, head_words, instances_words, known_times, known_words, load_words, many_words, overload_words};
 ghost use Rattle.prl_timetext.specs.Texts.{pair_words, row_words, rows_text, skew_words, task_words, times_words, verdict_words};
 
+use crate::lasting_texts::push_lasting;
 use crate::names::{name_of, push_names};
 use crate::rows::Row;
 use prl_ages::{Age, AgeBounds, Skew, SkewVerdict, Verdict};
@@ -15,7 +16,7 @@ use prl_responses::Times;
 use std::alloc::{AllocError, Global};
 
 /// Appends some words and a number.
-fn push_field(text: &mut Vec<u8>, words: &[u8], number: u64) -> Result<(), AllocError>
+pub(crate) fn push_field(text: &mut Vec<u8>, words: &[u8], number: u64) -> Result<(), AllocError>
     ensures { OnOk result (text.new.items ≡ text.old.items ++ words.now ++ decimal number) }
 {
     text.extend_from_slice(words)?;
@@ -123,7 +124,7 @@ fn push_times(text: &mut Vec<u8>, times: Option<Times>) -> Result<(), AllocError
 }
 
 /// Appends the name of a task, after a space.
-fn push_name(text: &mut Vec<u8>, plan: &Plan, task: TaskNo) -> Result<(), AllocError>
+pub(crate) fn push_name(text: &mut Vec<u8>, plan: &Plan, task: TaskNo) -> Result<(), AllocError>
     ensures { OnOk result (text.new.items ≡ text.old.items ++ codes " " ++ name_at plan.now.graph task) }
 {
     text.extend_from_slice(b" ")?;
@@ -148,7 +149,12 @@ fn push_pair(
 }
 
 /// Appends an overloaded interval, its demand, and how many ticks it has.
-fn push_overload(text: &mut Vec<u8>, from: u64, to: u64, demand: u64) -> Result<(), AllocError>
+pub(crate) fn push_overload(
+    text: &mut Vec<u8>,
+    from: u64,
+    to: u64,
+    demand: u64,
+) -> Result<(), AllocError>
     ensures { OnOk result (text.new.items ≡ text.old.items ++ overload_words from to demand) }
 {
     push_field(text, b"overload ", from)?;
@@ -215,7 +221,7 @@ fn push_apart(
 }
 
 /// Appends the row of how soon the jobs of a task end.
-fn push_task(
+pub(crate) fn push_task(
     text: &mut Vec<u8>,
     plan: &Plan,
     task: TaskNo,
@@ -254,6 +260,7 @@ pub fn push_row(
         } => push_apart(text, plan, first, second, actuator, verdict),
         Row::Task { task, times } => push_task(text, plan, task, times),
         Row::Overload { from, to, demand } => push_overload(text, from, to, demand),
+        Row::ForEver(row) => push_lasting(text, plan, &row),
     }
 }
 

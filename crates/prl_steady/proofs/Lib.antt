@@ -1,0 +1,7 @@
+mod Sums
+mod Dates
+mod Over
+mod Endless
+mod Steady
+mod Lasts
+mod Starts
