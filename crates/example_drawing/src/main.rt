@@ -5,7 +5,7 @@
 mod bars;
 
 use bars::{MOST, push_bars};
-use prl_drawing::{push, push_name, push_svg, row_of};
+use prl_drawing::{Unit, push, push_name, push_svg, row_of};
 use prl_io::{
     Fault, Files, HostFiles, HostSink, Stop, after_name, end, read_named, unfit_for, words_of,
 };
@@ -33,6 +33,7 @@ fn push_names(text: &mut Vec<u8>, graph: &TaskGraph) -> Result<(), AllocError> {
     for task in graph.tasks.as_slice() {
         push_name(
             text,
+            &Unit::ticks(),
             task.name.bytes(),
             row_of(row),
             task.clock.period,

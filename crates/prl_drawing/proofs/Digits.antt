@@ -1,5 +1,5 @@
 -- The digits of a part of a whole.
-use Rattle.std.proofs.Common.{◌≡◌, ◌<◌, ◌+◌, ◌-◌, ◌*◌, ◌/◌, ◌%◌, ◌^◌, ◌++◌, ◌==◌, ◌∙◌, ℕ, zero, suc, false, List, [], refl, ap, sym, append-nil, arith}
+use Rattle.std.proofs.Common.{◌≡◌, ◌<◌, ◌-◌, ◌/◌, ◌%◌, ◌++◌, ◌==◌, ℕ, zero, suc, false, List, refl, sym, append-nil, arith}
 use Rattle.std.specs.Prelude.{decimal}
 use Rattle.prl_drawing.specs.Times.{digits_text, product}
 

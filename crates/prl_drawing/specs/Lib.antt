@@ -6,6 +6,8 @@ pub mod Rows
 pub mod Texts
 -- the windows of jobs as text
 pub mod Windows
+-- what is cut off
+pub mod Cuts
 -- rectangles over ticks
 pub mod Boxes
 -- times in a unit

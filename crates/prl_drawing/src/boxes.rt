@@ -1,16 +1,20 @@
-//! Rectangles in the colours of tasks, and over the ticks of an interval.
+//! Rectangles and lines in the colours of tasks, and what stands over the ticks of an interval.
 
 ghost use Rattle.std.specs.Prelude.{◌≡◌, ◌++◌, OnOk};
-ghost use Rattle.prl_drawing.specs.Boxes.{box_text, coloured_text, sides_text};
+ghost use Rattle.prl_drawing.specs.Boxes.{box_text, coloured_text, cut_text, down_text, front_text, mark_text, sides_text};
 ghost use Rattle.prl_drawing.specs.Scales.{IsScale};
 
+use crate::cuts::{Cut, cut_of, push_open};
 use crate::rows::colour_of;
 use crate::scales::{Scale, x_within};
-use crate::texts::{push_all, push_attribute};
+use crate::texts::{push, push_all, push_attribute};
 use std::alloc::AllocError;
 
-/// How wide a rectangle over some ticks is at least, in tenths of a pixel.
-pub const LEAST: u64 = 20;
+/// Less than this, in tenths of a pixel, is too narrow to be seen: a line stands for it.
+pub const LEAST: u64 = 5;
+
+/// From this width on, in tenths of a pixel, a rectangle over ticks has an outline.
+pub const OUTLINED: u64 = 20;
 
 /// What the rest of a rectangle ends with that tells nothing.
 pub(crate) const CLOSED: &str = "\"/>\n";
@@ -61,8 +65,60 @@ pub fn push_coloured(
     push_place(text, left, top, width, height, CLOSED)
 }
 
-/// Appends a rectangle in the colour of a task over the ticks of an interval, at least so wide that it
-/// can be seen.
+/// Appends the rest of a rectangle whose outline is open where it is cut off.
+#[tactic(auto, unfolding(crate::specs::Boxes::cut_text))]
+pub(crate) fn push_cut(
+    text: &mut Vec<u8>,
+    cut: Cut,
+    left: u64,
+    top: u64,
+    width: u64,
+    height: u64,
+) -> Result<(), AllocError>
+    ensures { OnOk result (text.new.items ≡ text.old.items ++ cut_text cut left top width height) }
+{
+    push_place(text, left, top, width, height, "")?;
+    push_open(text, cut, width, height)?;
+    push(text, CLOSED)
+}
+
+/// Appends the rest of a line downwards.
+fn push_down(text: &mut Vec<u8>, x: u64, top: u64, height: u64) -> Result<(), AllocError>
+    ensures { OnOk result (text.new.items ≡ text.old.items ++ down_text x top height) }
+{
+    let attributes = [("\" d=\"M", x), (" ", top), ("v", height)];
+    push_all(text, &attributes, CLOSED)
+}
+
+/// Appends the mark of a task at an instant.
+pub fn push_mark(
+    text: &mut Vec<u8>,
+    task: u32,
+    x: u64,
+    top: u64,
+    height: u64,
+) -> Result<(), AllocError>
+    ensures { OnOk result (text.new.items ≡ text.old.items ++ mark_text task x top height) }
+{
+    push_attribute(text, "<path class=\"m e", colour_of(task))?;
+    push_down(text, x, top, height)
+}
+
+/// How what stands over ticks begins, by how wide it is.
+fn front_of(width: u64) -> &'static str
+    ensures { result.now ≡ front_text width }
+{
+    if width < LEAST {
+        "<path class=\"i e"
+    } else if width < OUTLINED {
+        "<rect class=\"r t"
+    } else {
+        "<rect class=\"s t"
+    }
+}
+
+/// Appends what stands over the ticks of an interval, in the colour of a task: a rectangle, open where
+/// it is cut off; where it is too narrow to be seen, a line where the ticks begin.
 pub fn push_box(
     text: &mut Vec<u8>,
     scale: Scale,
@@ -76,7 +132,11 @@ pub fn push_box(
     ensures { OnOk result (text.new.items ≡ text.old.items ++ box_text scale task from to top height) }
 {
     let left = x_within(scale, from);
-    let right = x_within(scale, to);
-    let width = right.saturating_sub(left).max(LEAST);
-    push_coloured(text, task, left, top, width, height)
+    let width = x_within(scale, to).saturating_sub(left);
+    push_attribute(text, front_of(width), colour_of(task))?;
+    if width < LEAST {
+        push_down(text, left, top, height)
+    } else {
+        push_cut(text, cut_of(scale, from, to), left, top, width, height)
+    }
 }

@@ -4,6 +4,7 @@
 
 mod axes;
 mod boxes;
+mod cuts;
 mod frames;
 mod labels;
 mod loads;
@@ -17,11 +18,14 @@ mod units;
 mod window_texts;
 
 pub use axes::{Axis, push_svg, push_times, push_unit_name};
-pub use boxes::{LEAST, push_box, push_coloured, push_telling};
-pub use frames::{push_arrow_legend, push_name, push_opening, push_processor, push_ticks};
-pub use labels::{push_part_name, push_sign, push_title};
+pub use boxes::{LEAST, OUTLINED, push_box, push_coloured, push_mark, push_telling};
+pub use cuts::{Cut, cut_of};
+pub use frames::{
+    push_arrow_legend, push_name, push_opening, push_processor, push_short_legend, push_ticks,
+};
+pub use labels::{SIGN, Slice, push_part_name, push_sign, push_slice_name, push_title};
 pub use loads::{Load, Overload, push_all_counted, push_load, push_overload, second_line};
-pub use marks::{is_followed, push_arrow, push_bar, push_own_dates};
+pub use marks::{TRUNKS, Way, is_followed, push_arrow, push_bar, push_own_dates};
 pub use numbers::push_numbers;
 pub use rows::{COLOURS, GAP, ROW, TOP, colour_of, row_of};
 pub use scales::{LEFT, Scale, WIDTH, is_seen, x_of, x_within};

@@ -3,13 +3,15 @@
 
 ghost use Rattle.prl_drawing.specs.Scales.{IsScale};
 
-use crate::boxes::{CLOSED, push_place};
+use crate::boxes::push_cut;
+use crate::cuts::cut_of;
 use crate::frames::push_processor;
 use crate::marks::push_frame;
 use crate::rows::{TOP, row_of};
 use crate::scales::{Scale, is_seen, x_within};
 use crate::shapes::Shape;
 use crate::texts::{push, push_all};
+use crate::units::{Unit, push_time};
 use std::alloc::AllocError;
 
 /// How wide an overloaded interval is that has its demand written in it.
@@ -38,18 +40,24 @@ pub struct Overload {
     pub demand: u64,
 }
 
-/// Appends the load of the processor.
-pub fn push_load(text: &mut Vec<u8>, row: u32, load: Load) -> Result<(), AllocError> {
+/// Appends the load of the processor, in this unit.
+pub fn push_load(text: &mut Vec<u8>, unit: &Unit, row: u32, load: Load) -> Result<(), AllocError> {
     push(text, load.legend)?;
     push_processor(text, row)?;
     let share = load.busy.saturating_mul(100) / load.ticks.max(1);
     push_all(text, &[(load.name, share)], " %")?;
-    let attributes = [
-        second_line(row),
-        ("\">busy ", load.busy),
-        (" of ", load.ticks),
-    ];
-    push_all(text, &attributes, " ticks</text>\n")
+    push_all(text, &[second_line(row)], "\">busy ")?;
+    push_time(text, unit, load.busy)?;
+    push(text, " of ")?;
+    push_units(text, unit, load.ticks)?;
+    push(text, "</text>\n")
+}
+
+/// Appends a time and its unit.
+fn push_units(text: &mut Vec<u8>, unit: &Unit, ticks: u64) -> Result<(), AllocError> {
+    push_time(text, unit, ticks)?;
+    push(text, " ")?;
+    push(text, unit.name)
 }
 
 /// The attribute that the second line of the processor's row begins with.
@@ -58,23 +66,30 @@ pub fn second_line(row: u32) -> (&'static str, u64) {
     (front, row_of(row) + 320)
 }
 
-/// Appends the demand of an overloaded interval, and its length.
-fn push_demand(text: &mut Vec<u8>, row: u32, overload: Overload) -> Result<(), AllocError> {
+/// Appends the demand of an overloaded interval, and its length, in this unit.
+fn push_demand(
+    text: &mut Vec<u8>,
+    unit: &Unit,
+    row: u32,
+    overload: Overload,
+) -> Result<(), AllocError> {
     push_processor(text, row)?;
     push(text, ": overload")?;
-    let attributes = [
-        second_line(row),
-        ("\">", overload.from),
-        (" to ", overload.to),
-        (": demand ", overload.demand),
-        (", has ", overload.to.saturating_sub(overload.from)),
-    ];
-    push_all(text, &attributes, "</text>\n")
+    push_all(text, &[second_line(row)], "\">")?;
+    push_time(text, unit, overload.from)?;
+    push(text, " to ")?;
+    push_time(text, unit, overload.to)?;
+    push(text, ": demand ")?;
+    push_time(text, unit, overload.demand)?;
+    push(text, ", has ")?;
+    push_time(text, unit, overload.to.saturating_sub(overload.from))?;
+    push(text, "</text>\n")
 }
 
-/// Appends the demand of an overloaded interval in its mark.
+/// Appends the demand of an overloaded interval in its mark, in this unit.
 fn push_inside(
     text: &mut Vec<u8>,
+    unit: &Unit,
     row: u32,
     left: u64,
     overload: Overload,
@@ -82,10 +97,12 @@ fn push_inside(
     let attributes = [
         ("<text class=\"k\" x=\"", left.saturating_add(40)),
         ("\" y=\"", row_of(row) + 190),
-        ("\">demand ", overload.demand),
-        (" in ", overload.to.saturating_sub(overload.from)),
     ];
-    push_all(text, &attributes, " ticks</text>\n")
+    push_all(text, &attributes, "\">demand ")?;
+    push_time(text, unit, overload.demand)?;
+    push(text, " in ")?;
+    push_units(text, unit, overload.to.saturating_sub(overload.from))?;
+    push(text, "</text>\n")
 }
 
 /// Appends the mark of an overloaded interval, over the rows of all tasks and that of the processor,
@@ -93,24 +110,26 @@ fn push_inside(
 pub fn push_overload(
     text: &mut Vec<u8>,
     scale: Scale,
+    unit: &Unit,
     row: u32,
     overload: Overload,
 ) -> Result<(), AllocError>
     requires range { IsScale scale }
 {
     push(text, LEGEND)?;
-    push_demand(text, row, overload)?;
+    push_demand(text, unit, row, overload)?;
     if !is_seen(scale, overload.from, overload.to) {
         return Ok(());
     }
     let left = x_within(scale, overload.from);
     let width = x_within(scale, overload.to).saturating_sub(left);
     push(text, "<rect class=\"b")?;
-    push_place(text, left, TOP, width, row_of(row) + 400 - TOP, CLOSED)?;
+    let cut = cut_of(scale, overload.from, overload.to);
+    push_cut(text, cut, left, TOP, width, row_of(row) + 400 - TOP)?;
     if width < WIDE {
         return Ok(());
     }
-    push_inside(text, row, left, overload)
+    push_inside(text, unit, row, left, overload)
 }
 
 /// Appends a frame round the window of a job that lies within an overloaded interval.

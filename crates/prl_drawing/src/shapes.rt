@@ -1,5 +1,7 @@
 //! A job as a picture shows it.
 
+use crate::cuts::Cut;
+
 /// A job, its dates in ticks, and where they stand.
 #[derive(Clone, Copy)]
 pub struct Shape {
@@ -15,8 +17,12 @@ pub struct Shape {
     pub left: u64,
     /// Where the window ends: at the encoded deadline, or where the scale ends.
     pub right: u64,
+    /// Which ends of the window are not drawn.
+    pub cut: Cut,
     /// Where the outline of the WCET ends that begins at the encoded release.
     pub bar: u64,
+    /// Which ends of that outline are not drawn.
+    pub bar_cut: Cut,
     /// Where the job's own release stands.
     pub own_left: u64,
     /// Where the job's own deadline stands.

@@ -5,7 +5,7 @@ ghost use Rattle.std.specs.List.{flat_map};
 ghost use Rattle.prl_drawing.specs.Rows.{row_of};
 ghost use Rattle.prl_drawing.specs.Windows.{window_text};
 
-use crate::boxes::{CLOSED, push_place};
+use crate::boxes::push_cut;
 use crate::rows::{GAP, colour_of, row_of};
 use crate::shapes::Shape;
 use crate::texts::push_attribute;
@@ -35,7 +35,7 @@ fn push_window(text: &mut Vec<u8>, shape: &Shape) -> Result<(), AllocError>
 {
     push_attribute(text, "<rect class=\"w t", colour_of(shape.task))?;
     let top = window_top(shape.row);
-    push_place(text, shape.left, top, width_of(shape), HIGH, CLOSED)
+    push_cut(text, shape.cut, shape.left, top, width_of(shape), HIGH)
 }
 
 /// The windows of jobs, each once, in order.

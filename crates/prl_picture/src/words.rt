@@ -24,12 +24,12 @@ pub const HELP: &str = "prelude_picture --plan FILE [OPTION VALUE ..] > PICTURE.
     --cores FILE     on the processors of a text of `TASK PROCESSOR` lines, a row for each;\n\
     \x20                the run of --schedule there, or else the dispatched one\n\
     --edf TICK       the run by earliest deadline first of the jobs before TICK\n\
-    --table FILE     a static cyclic table, over its first hyperperiod\n\
+    --table FILE     a static cyclic table, in each hyperperiod of the range\n\
     --task NAME      this task alone, and those that it reads or writes for\n\
     --from TICK      from this tick on; 0 where nothing is said\n\
     --until TICK     jobs that are released before this tick; where nothing is said, those of a\n\
     \x20                hyperperiod, and more until each precedence has an arrow\n\
-    --tick TIME      times on the axis: how long a tick is, as 0.1ms, 250us or 1s\n\
+    --tick TIME      times in this unit: how long a tick is, as 0.1ms, 250us or 1s\n\
     --help           this text\n\n\
     --edf, --table, and --schedule or --cores are not asked for together.\n";
 

@@ -22,7 +22,7 @@ const PARTS: u64 = 1_000_000;
 
 /// How things look. Colours are those that most eyes tell apart.
 const STYLE: &str = "<style>text{font-family:sans-serif;font-size:120px;fill:#222}\
-    .n{font-size:90px;fill:#555;text-anchor:end}.k{font-size:100px;fill:#888}\
+    .n{font-size:90px;fill:#555;text-anchor:end}.p{text-anchor:start}.k{font-size:100px;fill:#888}\
     .x{font-size:100px;fill:#444;text-anchor:middle}\
     .u{font-size:100px;fill:#444;text-anchor:end}\
     .g{stroke:#e6e6e6;stroke-width:8;fill:none}.l{stroke:#ccc;stroke-width:8;fill:none}\

@@ -15,7 +15,7 @@ const LETTERS: u64 = 20;
 /// How high the letters of a name are, in tenths of a pixel.
 const LETTER: u64 = 120;
 
-/// How near to the end of a pane the level 0 has no number of its own.
+/// How near to the end of a pane the level 0 has its number on the right.
 const NEAR: u64 = 110;
 
 /// What a line ends with.
@@ -41,7 +41,19 @@ fn push_number(text: &mut Vec<u8>, level: u64, y: u64) -> Result<(), AllocError>
     push(text, "</text>\n")
 }
 
-/// Appends the line of the level 0 where it is between others, and its number where there is room.
+/// Appends the number of the level 0 right of its line, where another number stands left of it.
+fn push_right_zero(text: &mut Vec<u8>, y: u64) -> Result<(), AllocError> {
+    let place = [
+        ("<text class=\"n p\" x=\"", LEFT + WIDTH + 40),
+        ("\" y=\"", y),
+    ];
+    push_all(text, &place, "\">")?;
+    push_level(text, ZERO)?;
+    push(text, "</text>\n")
+}
+
+/// Appends the line of the level 0 where it is between others, and its number: left of the line where
+/// there is room, else right of it.
 fn push_zero(text: &mut Vec<u8>, pane: Pane) -> Result<(), AllocError> {
     if ZERO <= pane.low || pane.high <= ZERO {
         return Ok(());
@@ -51,9 +63,10 @@ fn push_zero(text: &mut Vec<u8>, pane: Pane) -> Result<(), AllocError> {
     if y_of(pane, pane.high).saturating_add(NEAR) > y
         || y.saturating_add(NEAR) > y_of(pane, pane.low)
     {
-        return Ok(());
+        push_right_zero(text, y.saturating_add(30))
+    } else {
+        push_number(text, ZERO, y.saturating_add(30))
     }
-    push_number(text, ZERO, y.saturating_add(30))
 }
 
 /// Appends the levels that a pane shows: the least and the greatest, each once, and 0 between them.

@@ -1,5 +1,6 @@
 -- The dates of the jobs of a range are small.
-use Rattle.prl_base.proofs.Standard.{pos, ◌<◌, ◌^◌, ◌↔◌, ℕ, length, arith, ints}
+use Rattle.std.proofs.Math.Nat.{div-lt_iff_lt-mul}
+use Rattle.prl_base.proofs.Standard.{pos, ◌+◌, ◌-◌, ◌/◌, ◌<◌, ◌^◌, ◌↔◌, ℕ, length, arith, ints}
 use Rattle.prl_plan.specs.Vocabulary.{IsTask, IsHorizonJob, job_count, task_at, Placement, IsPlan, PlanView, deadline_at, release_at, IsSpread}
 use Rattle.prl_plan.specs.declared.graphs.TaskGraph.{TaskGraph}
 use Rattle.prl_cores.specs.Spreads.{LeavesRoom}
@@ -30,3 +31,7 @@ pub placed_small : (plan : PlanView) (placement : Placement) (i n : ℕ) → i <
 placed_small plan placement i n inside spread leaves due =
     let fit = placed_fit plan placement i n inside spread leaves due in
     omega (arith, fit)
+
+-- of a task no more jobs are released before a tick than there are ticks
+pub few_jobs : (ticks period : ℕ) → ticks < 2 ^ 32 → 0 < period → (ticks + (period - 1)) / period < 2 ^ 32
+few_jobs ticks period small some = (div-lt_iff_lt-mul some).1 (omega (arith, small, some))

@@ -1,3 +1,2 @@
 mod Fits
 pub mod Counts
-mod Two

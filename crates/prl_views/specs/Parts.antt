@@ -1,10 +1,9 @@
--- The parts of ticks that tasks are drawn in, in the rows of processors.
-use Rattle.std.specs.Prelude.{◌≡◌, ◌+◌, ◌-◌, ◌==◌, ◌≤◌, ℕ, Bool, List, [], ◌∷◌, All, map, max, slice_index, if◌then◌else◌}
+-- The parts of ticks at which tasks that act are drawn, in the rows of processors.
+use Rattle.std.specs.Prelude.{◌≡◌, ◌+◌, ◌-◌, ◌==◌, ◌≤◌, ℕ, Bool, List, [], ◌∷◌, All, map, slice_index, if◌then◌else◌}
 use Rattle.std.specs.List.{flat_map, position_or_len, range_with_len}
-use Rattle.prl_drawing.specs.declared.boxes.TheConstants.{LEAST}
 use Rattle.prl_drawing.specs.declared.rows.TheConstants.{GAP}
 use Rattle.prl_drawing.specs.declared.scales.Scale.{Scale}
-use Rattle.prl_drawing.specs.Boxes.{coloured_text}
+use Rattle.prl_drawing.specs.Boxes.{mark_text}
 use Rattle.prl_drawing.specs.Rows.{row_of}
 use Rattle.prl_drawing.specs.Scales.{is_seen, x_within}
 use Rattle.prl_views.specs.declared.acts.Act.{Act}
@@ -26,9 +25,9 @@ abbrev pub processor_row : ℕ → List ℕ → ℕ → ℕ
 processor_row rows processors task =
     rows + position_or_len (λ p. p == slice_index processors task) (used_of processors)
 
--- how wide a tick is drawn there, at least so wide that it can be seen
+-- how wide a tick is drawn there
 abbrev pub tick_width : Scale → ℕ → ℕ
-tick_width scale tick = max (x_within scale (tick + 1) - x_within scale tick) LEAST
+tick_width scale tick = x_within scale (tick + 1) - x_within scale tick
 
 -- the tick of an act is drawn
 abbrev pub is_act_seen : Scale → Act → Bool
@@ -48,7 +47,7 @@ pub record ArePartsOf (scale : Scale) (acts : List Act) (parts : List Part) : Ty
   pub each : map (λ (part : Part). part.act) parts ≡ flat_map (seen_one scale) acts
   pub within : All (IsWithin scale) parts
 
--- in the row of its processor
+-- a mark where it begins, in the row of its processor
 abbrev pub part_text : ℕ → List ℕ → Part → List ℕ
 part_text rows processors part =
-    coloured_text part.act.task.0 part.left (row_of (processor_row rows processors part.act.task.0) + GAP) part.width HIGH
+    mark_text part.act.task.0 part.left (row_of (processor_row rows processors part.act.task.0) + GAP) HIGH

@@ -5,14 +5,15 @@ ghost use Rattle.prl_plan.specs.Vocabulary.{job_count, task_at, edge_at};
 ghost use Rattle.prl_views.specs.Shown.{IsOfPlan};
 ghost use Rattle.prl_views.specs.Views.{IsView};
 
+use crate::courses::{Course, course_of};
 use crate::look_ups::{edge_of, job_count, operand_of};
-use crate::shapes::{first_shown, shape_of, shown_count};
+use crate::shapes::{first_shown, shape_of};
 use crate::shown::Shown;
 use crate::views::{View, row_in};
 use prl_base::{EdgeNo, Op};
-use prl_drawing::{is_followed, push_all, push_arrow, push_arrow_legend};
+use prl_drawing::{Way, is_followed, push_all, push_arrow, push_arrow_legend};
 use prl_plan::{Edge, Operand, Plan, Producer, plan_is_one};
-use std::alloc::AllocError;
+use std::alloc::{AllocError, Global};
 
 /// Whether a delay lies on an edge: an operator that puts initial values before a flow.
 fn is_delayed(edge: &Edge) -> bool {
@@ -65,6 +66,14 @@ fn rows_of(plan: &Plan, view: &View, edge: &Edge) -> Option<(u32, u32)>
     }
 }
 
+/// The way of the arrow from job `m`: jobs one after another have lanes of their own.
+fn way_from(course: Course, m: u64) -> Way {
+    Way {
+        lane: course.way.lane.saturating_add(m % 2 * 2),
+        ..course.way
+    }
+}
+
 /// Appends an arrow from the job of a row that gives what job `n` of another row reads on an edge, where both are drawn.
 fn push_reading(
     text: &mut Vec<u8>,
@@ -72,33 +81,33 @@ fn push_reading(
     shown: &Shown,
     view: &View,
     e: EdgeNo,
-    rows: (u32, u32),
+    course: Course,
     n: u64,
     arrows: &mut Arrows,
 ) -> Result<(), AllocError>
     requires view { IsView plan.now view.now }
     requires shown { IsOfPlan plan.now shown.now }
     requires edge { e.0 < length plan.now.graph.edges }
-    requires rows { (rows.0 < length view.now.rows) × (rows.1 < length view.now.rows) }
-    requires to { slice_index view.now.rows rows.1 ≡ (edge_at plan.now.graph e.0).to.0 }
+    requires rows { (course.before < length view.now.rows) × (course.after < length view.now.rows) }
+    requires to { slice_index view.now.rows course.after ≡ (edge_at plan.now.graph e.0).to.0 }
     requires job { n < job_count (task_at plan.now.graph (edge_at plan.now.graph e.0).to.0) view.now.scale.until }
 {
     let edge = edge_of(plan, e);
     let Operand::From(m) = operand_of(plan, e, n, view.scale.until) else {
         return Ok(());
     };
-    let task = view.task(rows.0);
+    let task = view.task(course.before);
     if m < first_shown(plan, task, view.scale.from)
-        || m >= shown_count(plan, shown, task, view.scale.until)
+        || m >= job_count(plan, task, view.scale.until)
     {
         return Ok(());
     }
-    let before = shape_of(plan, shown, view, rows.0, m);
-    let after = shape_of(plan, shown, view, rows.1, n);
+    let before = shape_of(plan, shown, view, course.before, m);
+    let after = shape_of(plan, shown, view, course.after, n);
     let followed = is_followed(&before, &after);
     count(arrows, followed, is_delayed(edge));
     if followed {
-        push_arrow(text, is_delayed(edge), &before, &after)?;
+        push_arrow(text, way_from(course, m), is_delayed(edge), &before, &after)?;
     }
     Ok(())
 }
@@ -110,6 +119,7 @@ fn push_edge(
     shown: &Shown,
     view: &View,
     e: EdgeNo,
+    courses: &mut Vec<Course>,
     arrows: &mut Arrows,
 ) -> Result<(), AllocError>
     requires view { IsView plan.now view.now }
@@ -120,10 +130,12 @@ fn push_edge(
     let Some(rows) = rows_of(plan, view, edge) else {
         return Ok(());
     };
+    let course = course_of(courses, rows.0, rows.1);
+    courses.push(course)?;
     let first = job_count(plan, edge.to, view.scale.from);
-    let last = shown_count(plan, shown, edge.to, view.scale.until);
+    let last = job_count(plan, edge.to, view.scale.until);
     for n in first..last {
-        push_reading(text, plan, shown, view, e, rows, n, arrows)?;
+        push_reading(text, plan, shown, view, e, course, n, arrows)?;
     }
     Ok(())
 }
@@ -133,13 +145,14 @@ fn push_left_out(text: &mut Vec<u8>, left_out: u64) -> Result<(), AllocError> {
     if left_out == 0 {
         return Ok(());
     }
-    let front = "<text x=\"4900\" y=\"670\">not drawn: ";
+    let front = "<text x=\"6300\" y=\"670\">not drawn: ";
     let tail = " arrows at windows that are too narrow for them</text>\n";
     push_all(text, &[(front, left_out)], tail)
 }
 
 /// Appends the arrows of all edges whose windows are wide enough, what they mean, and how many are left out.
 pub(crate) fn push_arrows(
+    alloc: Global,
     text: &mut Vec<u8>,
     plan: &Plan,
     shown: &Shown,
@@ -154,8 +167,10 @@ pub(crate) fn push_arrows(
         delayed: 0,
         left_out: 0,
     };
+    let mut courses = Vec::new(alloc);
     for e in 0..plan.graph().edges.len() {
-        push_edge(text, plan, shown, view, EdgeNo(e as u32), &mut arrows)?;
+        let e = EdgeNo(e as u32);
+        push_edge(text, plan, shown, view, e, &mut courses, &mut arrows)?;
     }
     push_arrow_legend(text, arrows.plain > 0, arrows.delayed > 0)?;
     push_left_out(text, arrows.left_out)

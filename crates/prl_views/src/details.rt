@@ -4,7 +4,9 @@ ghost use Rattle.std.specs.Prelude.{◌<◌, ◌^◌, length};
 
 use crate::look_ups::{edge_of, job_count, operand_of, task_of};
 use prl_base::{EdgeNo, TaskNo};
-use prl_drawing::{Scale, Shape, push, push_all, push_bar, push_own_dates, push_telling, row_of};
+use prl_drawing::{
+    Scale, Shape, Unit, push, push_all, push_bar, push_own_dates, push_telling, push_time, row_of,
+};
 use prl_plan::{Operand, Plan, Producer, plan_is_one};
 use std::alloc::AllocError;
 
@@ -80,30 +82,35 @@ fn push_edges(
     Ok(())
 }
 
-/// Appends the dates of a job.
-fn push_dates(text: &mut Vec<u8>, plan: &Plan, shape: &Shape) -> Result<(), AllocError>
+/// Appends the dates of a job, in this unit.
+fn push_dates(text: &mut Vec<u8>, plan: &Plan, unit: &Unit, shape: &Shape) -> Result<(), AllocError>
     requires { shape.now.task < length plan.now.graph.tasks }
 {
     let task = task_of(plan, TaskNo(shape.task));
     text.extend_from_slice(task.name.bytes())?;
-    let attributes = [
-        (" job ", shape.job),
-        (": from ", shape.release),
-        (" to ", shape.deadline),
-        (", wcet ", u64::from(task.wcet)),
-    ];
-    push_all(text, &attributes, "")
+    push_all(text, &[(" job ", shape.job)], ": from ")?;
+    push_time(text, unit, shape.release)?;
+    push(text, " to ")?;
+    push_time(text, unit, shape.deadline)?;
+    push(text, ", wcet ")?;
+    push_time(text, unit, u64::from(task.wcet))
 }
 
 /// Appends what is told of a job where the mouse rests on its window.
-fn push_told(text: &mut Vec<u8>, plan: &Plan, scale: Scale, shape: &Shape) -> Result<(), AllocError>
+fn push_told(
+    text: &mut Vec<u8>,
+    plan: &Plan,
+    scale: Scale,
+    unit: &Unit,
+    shape: &Shape,
+) -> Result<(), AllocError>
     requires task { shape.now.task < length plan.now.graph.tasks }
     requires until { scale.until < 2 ^ 32 }
 {
     let width = shape.right.saturating_sub(shape.left);
     push(text, "<rect class=\"h")?;
     push_telling(text, shape.left, row_of(shape.row) + 60, width, 200)?;
-    push_dates(text, plan, shape)?;
+    push_dates(text, plan, unit, shape)?;
     push_edges(text, plan, scale, shape)?;
     push(text, "</title></rect>\n")
 }
@@ -113,6 +120,7 @@ pub(crate) fn push_details(
     text: &mut Vec<u8>,
     plan: &Plan,
     scale: Scale,
+    unit: &Unit,
     shapes: &[Shape],
 ) -> Result<(), AllocError>
     requires { scale.until < 2 ^ 32 }
@@ -121,7 +129,7 @@ pub(crate) fn push_details(
         if (shape.task as usize) < plan.graph().tasks.len() {
             push_bar(text, shape)?;
             push_own_dates(text, shape)?;
-            push_told(text, plan, scale, shape)?;
+            push_told(text, plan, scale, unit, shape)?;
         }
     }
     Ok(())

@@ -4,7 +4,8 @@ ghost use Rattle.std.specs.Prelude.{◌≡◌, ◌++◌, IfOk};
 ghost use Rattle.std.specs.List.{flat_map};
 ghost use Rattle.prl_drawing.specs.Windows.{window_text};
 ghost use Rattle.prl_views.specs.Drawn.{IsPictureOf};
-ghost use Rattle.prl_views.specs.Shown.{IsOfPlan, IsPiecesText};
+ghost use Rattle.prl_views.specs.Pieces.{IsPiecesText};
+ghost use Rattle.prl_views.specs.Shown.{IsOfPlan};
 ghost use Rattle.prl_views.specs.Views.{IsView};
 
 use crate::arrows::push_arrows;
@@ -23,15 +24,16 @@ fn above(
     plan: &Plan,
     shown: &Shown,
     view: &View,
+    unit: &Unit,
     shapes: &[Shape],
 ) -> Result<Vec<u8>, AllocError>
     requires view { IsView plan.now view.now }
     requires shown { IsOfPlan plan.now shown.now }
 {
     let mut text = Vec::new(alloc);
-    push_shown(alloc, &mut text, plan, view, shapes, shown)?;
-    push_details(&mut text, plan, view.scale, shapes)?;
-    push_arrows(&mut text, plan, shown, view)?;
+    push_shown(alloc, &mut text, plan, view, unit, shapes, shown)?;
+    push_details(&mut text, plan, view.scale, unit, shapes)?;
+    push_arrows(alloc, &mut text, plan, shown, view)?;
     push_numbers(&mut text, shapes)?;
     push(&mut text, "</svg>\n")?;
     Ok(text)
@@ -64,7 +66,7 @@ fn inside(
     requires view { IsView plan.now view.now }
     requires shown { IsOfPlan plan.now shown.now }
     ensures windows { IfOk result (λ made. made.0.items ≡ flat_map window_text shapes.now) }
-    ensures pieces { IfOk result (λ made. IsPiecesText view.now shown.now made.1.items) }
+    ensures pieces { IfOk result (λ made. IsPiecesText plan.now view.now shown.now made.1.items) }
 {
     let windows = windows(alloc, shapes)?;
     Ok((windows, pieces(alloc, plan, view, shown)?))
@@ -96,7 +98,7 @@ pub fn picture_of(
 {
     let shapes = shapes_of(alloc, plan, shown, view)?;
     let inside = inside(alloc, plan, shown, view, &shapes)?;
-    let above = above(alloc, plan, shown, view, &shapes)?;
+    let above = above(alloc, plan, shown, view, unit, &shapes)?;
     let rows = rows_of(alloc, view, shown)?;
     let below = below(alloc, plan, view, rows, unit, left_out)?;
     joined(below, &inside, &above)

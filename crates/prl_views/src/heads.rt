@@ -9,13 +9,14 @@ use prl_plan::Plan;
 use std::alloc::AllocError;
 
 /// Appends the names of the tasks of the rows.
-fn push_names(text: &mut Vec<u8>, plan: &Plan, view: &View) -> Result<(), AllocError>
+fn push_names(text: &mut Vec<u8>, plan: &Plan, view: &View, unit: &Unit) -> Result<(), AllocError>
     requires { IsView plan.now view.now }
 {
     for row in 0..view.count() {
         let task = task_of(plan, view.task(row));
         let y = row_of(row);
-        push_name(text, task.name.bytes(), y, task.clock.period, task.wcet)?;
+        let period = task.clock.period;
+        push_name(text, unit, task.name.bytes(), y, period, task.wcet)?;
     }
     Ok(())
 }
@@ -34,5 +35,5 @@ pub(crate) fn push_head(
     push_opening(text, rows)?;
     push_title(text, plan.graph().hyper, view.scale, unit, left_out)?;
     push_ticks(text, view.scale, unit, row_of(rows))?;
-    push_names(text, plan, view)
+    push_names(text, plan, view, unit)
 }

@@ -5,6 +5,7 @@
 
 mod acts;
 mod arrows;
+mod courses;
 mod details;
 mod drawn;
 mod heads;

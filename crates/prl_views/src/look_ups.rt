@@ -25,7 +25,8 @@ pub fn task_of(plan: &Plan, i: TaskNo) -> &Task
 pub fn job_count(plan: &Plan, i: TaskNo, until: u64) -> u64
     requires task { i.0 < length plan.now.graph.tasks }
     requires until { until < 2 ^ 32 }
-    ensures { result ≡ job_count (task_at plan.now.graph i.0) until }
+    ensures exact { result ≡ job_count (task_at plan.now.graph i.0) until }
+    ensures few { result < 2 ^ 32 }
 {
     let clock = task_of(plan, i).clock;
     (until.saturating_sub(clock.start) + (clock.period - 1)) / clock.period

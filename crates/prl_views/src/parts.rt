@@ -1,5 +1,5 @@
-//! The rows of processors: which processors have tasks, and the parts of ticks that tasks are drawn in
-//! there. Where several tasks of a processor act at one tick, they share it.
+//! The rows of processors: which processors have tasks, and the parts of ticks where the marks of tasks
+//! that act stand there. Where several tasks of a processor act at one tick, they share it.
 
 ghost use Rattle.std.specs.Prelude.{◌≡◌, ◌+◌, ◌≤◌, ◌<◌, ◌==◌, ◌^◌, ◌++◌, All, IfOk, OnOk, length, map, slice_index};
 ghost use Rattle.std.specs.Bool.{OnTrue};
@@ -12,7 +12,7 @@ ghost use Rattle.prl_drawing.specs.Scales.{IsScale};
 use crate::acts::{Act, is_in};
 use crate::verdicts::HIGH;
 use prl_base::TaskNo;
-use prl_drawing::{GAP, LEAST, Scale, push_coloured, row_of, x_within};
+use prl_drawing::{GAP, Scale, push_mark, row_of, x_within};
 use std::alloc::{AllocError, Global};
 
 /// How many processors there are at most.
@@ -141,7 +141,7 @@ fn tick_width(scale: Scale, tick: u64) -> u64
 {
     let left = x_within(scale, tick);
     let right = x_within(scale, tick + 1);
-    right.saturating_sub(left).max(LEAST)
+    right.saturating_sub(left)
 }
 
 /// The part of its tick that act number `j` is drawn in.
@@ -202,7 +202,7 @@ pub(crate) fn parts_of(
     Ok(parts)
 }
 
-/// Appends a part, in the row of its processor.
+/// Appends a mark where a part begins, in the row of its processor.
 fn push_part(
     text: &mut Vec<u8>,
     rows: u32,
@@ -217,10 +217,10 @@ fn push_part(
 {
     let row = processor_row(rows, processors, used, part.act.task);
     let top = row_of(row) + GAP;
-    push_coloured(text, part.act.task.0, part.left, top, part.width, HIGH)
+    push_mark(text, part.act.task.0, part.left, top, HIGH)
 }
 
-/// The parts, each once, in the rows of their processors.
+/// The marks of the parts, each once, in the rows of their processors.
 pub(crate) fn part_texts(
     alloc: Global,
     rows: u32,

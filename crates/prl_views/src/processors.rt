@@ -6,7 +6,7 @@ ghost use Rattle.prl_views.specs.Parts.{used_of};
 
 use crate::look_ups::task_of;
 use crate::parts::{MOST_PROCESSORS, Part, processor_row};
-use prl_drawing::{push_all, push_part_name, push_processor, second_line};
+use prl_drawing::{Unit, push_all, push_part_name, push_processor, second_line};
 use prl_plan::Plan;
 use std::alloc::AllocError;
 
@@ -47,6 +47,7 @@ pub(crate) fn push_rows(
 pub(crate) fn push_labels(
     text: &mut Vec<u8>,
     plan: &Plan,
+    unit: &Unit,
     rows: u32,
     processors: &[u32],
     used: &[u32],
@@ -60,7 +61,7 @@ pub(crate) fn push_labels(
         if (part.act.task.0 as usize) < plan.graph().tasks.len() {
             let name = task_of(plan, part.act.task).name.bytes();
             let row = processor_row(rows, processors, used, part.act.task);
-            push_part_name(text, row, part.left, part.width, name, part.act.tick)?;
+            push_part_name(text, unit, row, part.left, part.width, name, part.act.tick)?;
         }
     }
     Ok(())

@@ -2,7 +2,8 @@
 
 ghost use Rattle.std.specs.Prelude.{◌≡◌, ◌++◌, ◌<◌, ◌≤◌, ◌^◌, IfOk, OnOk, length, slice_index};
 ghost use Rattle.prl_plan.specs.Jobs.{job_count, task_at};
-ghost use Rattle.prl_views.specs.Shapes.{first_shown, own_x, shape_of, shapes_of, shapes_of_row, shown_count};
+ghost use Rattle.prl_views.specs.JobsShown.{first_shown};
+ghost use Rattle.prl_views.specs.Shapes.{own_x, shape_of, shapes_of, shapes_of_row};
 ghost use Rattle.prl_views.specs.Shown.{IsOfPlan};
 ghost use Rattle.prl_views.specs.Views.{IsView};
 ghost use Rattle.prl_drawing.specs.Scales.{IsScale};
@@ -11,9 +12,8 @@ use crate::look_ups::{dates_of, job_count, own_release, released, task_of};
 use crate::shown::Shown;
 use crate::views::View;
 use prl_base::TaskNo;
-use prl_drawing::{Scale, Shape, x_of, x_within};
+use prl_drawing::{Scale, Shape, cut_of, x_of, x_within};
 use prl_plan::Plan;
-use prl_tables::classes;
 use std::alloc::{AllocError, Global};
 
 /// Where an own date stands: where the encoded one does, if the scale does not reach it.
@@ -44,6 +44,7 @@ pub(crate) fn shape_of(plan: &Plan, shown: &Shown, view: &View, row: u32, n: u64
     let release = released(plan, shown, i, n, scale.until);
     let (_release, deadline) = dates_of(plan, i, n, scale.until);
     let (left, right) = (x_within(scale, release), x_within(scale, deadline));
+    let done = release + u64::from(task.wcet);
     Shape {
         row,
         task: i.0,
@@ -52,25 +53,11 @@ pub(crate) fn shape_of(plan: &Plan, shown: &Shown, view: &View, row: u32, n: u64
         deadline,
         left,
         right,
-        bar: x_within(scale, release + u64::from(task.wcet)),
+        cut: cut_of(scale, release, deadline),
+        bar: x_within(scale, done),
+        bar_cut: cut_of(scale, release, done),
         own_left: own_x(scale, own, left),
         own_right: own_x(scale, own + task.due, right),
-    }
-}
-
-/// How many jobs of a task are shown that are released before a tick.
-pub(crate) fn shown_count(plan: &Plan, shown: &Shown, i: TaskNo, until: u64) -> u64
-    requires task { i.0 < length plan.now.graph.tasks }
-    requires until { until < 2 ^ 32 }
-    ensures exact { result ≡ shown_count plan.now shown.now i.0 until }
-    ensures jobs { result ≤ job_count (task_at plan.now.graph i.0) until }
-{
-    let jobs = job_count(plan, i, until);
-    match shown {
-        Shown::Table(_) => jobs.min(classes(plan, i)),
-        Shown::Events(_) => jobs,
-        Shown::Verdict(..) => jobs,
-        Shown::Cores(..) => jobs,
     }
 }
 
@@ -107,7 +94,7 @@ fn push_jobs(
 {
     let i = view.task(row);
     let first = first_shown(plan, i, view.scale.from);
-    let last = shown_count(plan, shown, i, view.scale.until);
+    let last = job_count(plan, i, view.scale.until);
     for n in first..last {
         shapes.push(shape_of(plan, shown, view, row, n))?;
     }

@@ -5,16 +5,22 @@ ghost use Rattle.prl_views.specs.Views.{IsView};
 use crate::acts::Act;
 use crate::look_ups::task_of;
 use crate::views::{View, row_in};
-use prl_drawing::{push, push_sign};
+use prl_drawing::{Unit, push, push_sign};
 use prl_plan::Plan;
 use std::alloc::AllocError;
 
 /// What the sign of an act means.
-const LEGEND: &str = "<rect class=\"s t7\" x=\"1600\" y=\"590\" width=\"60\" height=\"80\"/>\
-    <text x=\"1960\" y=\"670\">the task acts at this tick</text>\n";
+const LEGEND: &str = "<path class=\"m e7\" d=\"M1612 590v80\"/>\
+    <text x=\"1680\" y=\"670\">the task acts at this instant, which is no time that it takes</text>\n";
 
 /// Appends the sign of a task that acts at a tick, where the tick is drawn and the task has a row.
-fn push_seen(text: &mut Vec<u8>, plan: &Plan, view: &View, act: Act) -> Result<(), AllocError>
+fn push_seen(
+    text: &mut Vec<u8>,
+    plan: &Plan,
+    view: &View,
+    unit: &Unit,
+    act: Act,
+) -> Result<(), AllocError>
     requires { IsView plan.now view.now }
 {
     let scale = view.scale;
@@ -26,7 +32,7 @@ fn push_seen(text: &mut Vec<u8>, plan: &Plan, view: &View, act: Act) -> Result<(
         return Ok(());
     }
     let name = task_of(plan, act.task).name.bytes();
-    push_sign(text, scale, row, act.task.0, name, act.tick)
+    push_sign(text, scale, unit, row, act.task.0, name, act.tick)
 }
 
 /// Appends the signs of acts that fall into the ticks that are drawn.
@@ -34,12 +40,13 @@ pub(crate) fn push_signs(
     text: &mut Vec<u8>,
     plan: &Plan,
     view: &View,
+    unit: &Unit,
     acts: &[Act],
 ) -> Result<(), AllocError>
     requires { IsView plan.now view.now }
 {
     for act in acts {
-        push_seen(text, plan, view, *act)?;
+        push_seen(text, plan, view, unit, *act)?;
     }
     if !acts.is_empty() {
         push(text, LEGEND)?;

@@ -1,14 +1,21 @@
 //! The pieces of a run of one processor, below the windows of their tasks and in the row of the
-//! processor.
+//! processor, with the names of the tasks there, and for how many ticks the processor is busy.
 
-ghost use Rattle.std.specs.Prelude.{◌≡◌, ◌++◌, ◌≤◌, OnOk, length};
+ghost use Rattle.std.specs.Prelude.{◌≡◌, ◌-◌, ◌++◌, ◌≤◌, ◌^◌, OnOk, length, min};
 ghost use Rattle.prl_plan.specs.declared.limits.TheConstants.{MAX_TASKS};
-ghost use Rattle.prl_views.specs.Shown.{high_text, low_text, piece_text};
+ghost use Rattle.prl_views.specs.Loads.{busy_before};
+ghost use Rattle.prl_views.specs.Pieces.{high_text, low_text, piece_text};
 ghost use Rattle.prl_drawing.specs.Scales.{IsScale};
+ghost use Rattle.prl_views.specs.Views.{IsView};
 
+use crate::look_ups::task_of;
 use crate::views::{View, row_in};
-use prl_drawing::{GAP, is_seen, push_box, row_of};
+use prl_drawing::{
+    GAP, LEAST, Scale, Slice, Unit, is_seen, push_box, push_short_legend, push_slice_name, row_of,
+    x_within,
+};
 use prl_edf::Piece;
+use prl_plan::Plan;
 use std::alloc::AllocError;
 
 /// How high a piece is in the row of the processor.
@@ -57,4 +64,68 @@ pub(crate) fn push_piece(text: &mut Vec<u8>, view: &View, piece: &Piece) -> Resu
     } else {
         Ok(())
     }
+}
+
+/// For how many ticks before an end the processor is busy in a run, as far as 64 bits go.
+pub(crate) fn busy_before(pieces: &[Piece], end: u64) -> u64
+    ensures { result ≡ min (busy_before end pieces.now) (2 ^ 64 - 1) }
+{
+    let mut busy: u64 = 0;
+    for piece in pieces {
+        busy = busy.saturating_add(piece.to.min(end).saturating_sub(piece.from));
+    }
+    busy
+}
+
+/// Appends the name of the task of a piece in the row of the processor, and what is told of it.
+fn push_piece_name(
+    text: &mut Vec<u8>,
+    plan: &Plan,
+    view: &View,
+    unit: &Unit,
+    piece: &Piece,
+) -> Result<(), AllocError>
+    requires { IsView plan.now view.now }
+{
+    if piece.task.0 as usize >= plan.graph().tasks.len() {
+        return Ok(());
+    }
+    let slice = Slice {
+        job: piece.job,
+        from: piece.from,
+        to: piece.to,
+    };
+    let name = task_of(plan, piece.task).name.bytes();
+    push_slice_name(text, view.scale, unit, view.count(), name, slice)
+}
+
+/// Whether a piece is too narrow for a rectangle.
+fn is_short(scale: Scale, piece: &Piece) -> bool
+    requires { IsScale scale }
+{
+    x_within(scale, piece.to).saturating_sub(x_within(scale, piece.from)) < LEAST
+}
+
+/// Appends the names of the tasks of the pieces that are drawn, and what a line means that stands for a
+/// piece, where there is one.
+pub(crate) fn push_names(
+    text: &mut Vec<u8>,
+    plan: &Plan,
+    view: &View,
+    unit: &Unit,
+    pieces: &[Piece],
+) -> Result<(), AllocError>
+    requires { IsView plan.now view.now }
+{
+    let mut short = false;
+    for piece in pieces {
+        if is_seen(view.scale, piece.from, piece.to) {
+            short = short || is_short(view.scale, piece);
+            push_piece_name(text, plan, view, unit, piece)?;
+        }
+    }
+    if short {
+        return push_short_legend(text);
+    }
+    Ok(())
 }

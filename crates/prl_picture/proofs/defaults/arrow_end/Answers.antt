@@ -13,7 +13,7 @@ returns-in-Some c =
     let ends = c.in-Some.ensures in
     let now = ends.1 c.in-Some.tick (search rules) in
     let first : c.job_count-first.result ≡ job_count (task_at plan.graph edge.to.0) c.args.from =
-    c.job_count-first.ensures ∙ ap (λ (e : Edge). job_count (task_at plan.graph e.to.0) c.args.from) c.edge_of-edge.ensures.edge in (
+    c.job_count-first.ensures.exact ∙ ap (λ (e : Edge). job_count (task_at plan.graph e.to.0) c.args.from) c.edge_of-edge.ensures.edge in (
       (λ until late.
           (let found = ends.1 until late in
           record {
@@ -54,9 +54,9 @@ returns c has =
     let comes : ComesFrom edge.from c.in_ok-task.task.0 = subst (λ (e : Edge). ComesFrom e.from c.in_ok-task.task.0) c.edge_of-edge.ensures.edge c.in_ok-task.ensures.some.1 in
     let same : has.i ≡ c.in_ok-task.task.0 = one_producer edge.from has.i c.in_ok-task.task.0 has.arrow.producer comes in
     let first : c.job_count-first.result ≡ job_count (task_at plan.graph edge.to.0) c.args.from =
-    c.job_count-first.ensures ∙ ap (λ (e : Edge). job_count (task_at plan.graph e.to.0) c.args.from) c.edge_of-edge.ensures.edge in
+    c.job_count-first.ensures.exact ∙ ap (λ (e : Edge). job_count (task_at plan.graph e.to.0) c.args.from) c.edge_of-edge.ensures.edge in
     let last : c.job_count-last.result ≡ job_count (task_at plan.graph edge.to.0) c.args.limit =
-    c.job_count-last.ensures ∙ ap (λ (e : Edge). job_count (task_at plan.graph e.to.0) c.args.limit) c.edge_of-edge.ensures.edge in
+    c.job_count-last.ensures.exact ∙ ap (λ (e : Edge). job_count (task_at plan.graph e.to.0) c.args.limit) c.edge_of-edge.ensures.edge in
     let over : c.job_count-last.result ≤ c.loop-n.n = search rules in
     let begins = has.arrow.after.first in
     let ends = has.arrow.after.last in

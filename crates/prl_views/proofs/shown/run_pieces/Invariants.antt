@@ -1,5 +1,5 @@
 use Rattle.prl_base.proofs.Standard.{◌≡◌, take, flat_map}
-use Rattle.prl_views.specs.Shown.{piece_text}
+use Rattle.prl_views.specs.Pieces.{piece_text}
 use Rattle.prl_views.proofs.shown.run_pieces.Given as goal
 
 -- the pieces that were passed

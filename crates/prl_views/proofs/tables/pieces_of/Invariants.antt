@@ -1,7 +1,7 @@
-use Rattle.std.proofs.Common.{◌≡◌, map, take}
-use Rattle.prl_views.specs.Shown.{piece_of}
+use Rattle.prl_base.proofs.Standard.{◌≡◌, flat_map, take}
+use Rattle.prl_views.specs.Pieces.{entry_pieces}
 use Rattle.prl_views.proofs.tables.pieces_of.Given as goal
 
--- the entries that were passed
+-- the pieces of the entries that were passed
 abbrev pub invariant-loop-entry : goal.invariant-loop-entry
-invariant-loop-entry l = l.pieces.items ≡ map piece_of (take l.entry-index l.entries)
+invariant-loop-entry l = l.pieces.items ≡ flat_map (entry_pieces l.plan l.view) (take l.entry-index l.entries)

@@ -3,8 +3,8 @@ use Rattle.prl_drawing.specs.declared.rows.TheConstants.{GAP}
 use Rattle.prl_drawing.specs.Boxes.{box_text}
 use Rattle.prl_drawing.specs.Rows.{row_of}
 use Rattle.prl_views.specs.declared.verdicts.TheConstants.{HIGH}
-use Rattle.prl_views.specs.Shown.{high_text, low_text}
-use Rattle.prl_views.proofs.Two.{two}
+use Rattle.prl_views.specs.Pieces.{high_text, low_text}
+use Rattle.prl_drawing.proofs.Two.{two}
 use Rattle.prl_views.proofs.verdicts.push_both.Goals as goal
 
 pub returns : goal.returns
