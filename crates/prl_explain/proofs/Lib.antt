@@ -1,5 +1,6 @@
 mod Lefts
 mod Lines
+mod Loads
 mod Named
 mod Plans
 mod Readings

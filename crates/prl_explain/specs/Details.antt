@@ -16,6 +16,9 @@ use Rattle.prl_schedules.specs.declared.schedules.ScheduleFault.{ScheduleFault}
 use Rattle.prl_schedules.specs.Schedules.{schedule_of, task_of, without_return}
 use Rattle.prl_schedules.specs.ScheduleTexts.{task_names}
 use Rattle.prl_stages.specs.PlansAlone.{IsPlanOrNone, program_alone}
+use Rattle.prl_overloads.specs.declared.overloads.Overload.{Overload}
+use Rattle.prl_tablefaults.specs.FaultTexts.{IsTableTold}
+use Rattle.prl_tablefaults.specs.LoadTexts.{IsOverloadTold}
 use Rattle.prl_explain.specs.Placings.{placing_text}
 use Rattle.prl_spots.specs.Places.{IsLineStart, line_rest}
 
@@ -85,3 +88,19 @@ IsPlacingTold plan cores (Some number) text =
 abbrev pub IsPlacingIn : PlanView → Option (List ℕ) → List ℕ → List ℕ → Type 0
 IsPlacingIn plan None argument text = text ≡ []
 IsPlacingIn plan (Some cores) argument text = IsPlacingTold plan cores (decimal_of argument) text
+
+-- the overload that three words tell: from when on, up to when, and what is asked
+pub record IsOverloadOf (from to asked : List ℕ) (told : Overload) : Type 0 where
+  pub from_is : decimal_of from ≡ Some told.from
+  pub to_is : decimal_of to ≡ Some told.to
+  pub asked_is : decimal_of asked ≡ Some told.demand
+
+-- what is told of it: nothing, or the jobs that it is about
+abbrev pub IsOverloadIn : PlanView → List ℕ → List ℕ → List ℕ → List ℕ → Type 0
+IsOverloadIn plan from to asked text =
+    (text ≡ []) ⊎ ((told : Overload) × IsOverloadOf from to asked told × IsOverloadTold plan told.from told.to told.demand text)
+
+-- of a table, where one is named
+abbrev pub IsTableIn : PlanView → Option (List ℕ) → List ℕ → Type 0
+IsTableIn plan None text = text ≡ []
+IsTableIn plan (Some table) text = IsTableTold plan table text

@@ -23,7 +23,9 @@ use Rattle.prl_sentences.specs.Kinds.{IsLineOf, argument_of, rest_of}
 use Rattle.prl_sentences.specs.Sentences.{sentence_text, word_at}
 use Rattle.prl_explain.specs.declared.explanations.TheConstants.{HELP, VERSION}
 use Rattle.prl_explain.specs.declared.texts.Texts.{Texts}
-use Rattle.prl_explain.specs.Details.{IsLeftIn, IsOfSchedule, IsPlacingIn, IsPlanFrom}
+use Rattle.prl_explain.specs.Details.{IsLeftIn, IsOfSchedule, IsOverloadIn, IsPlacingIn, IsPlanFrom, IsTableIn}
+use Rattle.prl_nearest.specs.Nearest.{IsNearTold, IsNodesTold}
+use Rattle.prl_tablefaults.specs.LoadTexts.{IsUnsteadyTold}
 use Rattle.prl_spots.specs.Places.{lead, line_front, line_rest, place_of}
 use Rattle.prl_shown.specs.Shown.{shown}
 use Rattle.prl_explain.specs.Placings.{tasks_text}
@@ -123,6 +125,16 @@ abbrev pub IsCountedIn : Option (List ℕ) → List ℕ → List ℕ → Type 0
 IsCountedIn None number text = text ≡ []
 IsCountedIn (Some source) number text = IsCountedAt source (decimal_of number) text
 
+-- what is told of a name that the program does not know
+abbrev pub IsNearIn : Option (List ℕ) → List ℕ → List ℕ → Type 0
+IsNearIn None name text = text ≡ []
+IsNearIn (Some source) name text = IsNearTold source name text
+
+-- what is told where no node is main
+abbrev pub AreNodesIn : Option (List ℕ) → List ℕ → Type 0
+AreNodesIn None text = text ≡ []
+AreNodesIn (Some source) text = IsNodesTold source text
+
 -- how to ask which word of a command is wrong
 unfoldable pub ask_text : List ℕ
 ask_text =
@@ -152,6 +164,12 @@ IsDetail texts command details.Clocks rest text = IsClashTold (program_in texts)
 IsDetail texts command details.Chain rest text =
     IsChainTold (program_in texts) texts.node (word_at 0 rest) (word_at 1 rest) (word_at 3 rest) text
 IsDetail texts command details.Circle rest text = IsCircleTold (program_in texts) texts.node text
+IsDetail texts command details.Overload rest text =
+    IsByPlan texts (λ plan told. IsOverloadIn plan (word_at 0 rest) (word_at 1 rest) (word_at 3 rest) told) text
+IsDetail texts command details.Load rest text = IsByPlan texts (λ plan told. IsUnsteadyTold plan told) text
+IsDetail texts command details.Table rest text = IsByPlan texts (λ plan told. IsTableIn plan (text_in texts parts.Table) told) text
+IsDetail texts command details.Near rest text = IsNearIn (program_in texts) (word_at 0 rest) text
+IsDetail texts command details.Nodes rest text = AreNodesIn (program_in texts) text
 
 -- the explanation of a line of a kind, by the files that were read
 abbrev pub IsOfKind : List (List ℕ) → Option (List (List ℕ)) → Texts → Kind → List ℕ → List ℕ → Type 0

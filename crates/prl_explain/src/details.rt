@@ -6,20 +6,24 @@ ghost use Rattle.prl_stages.specs.declared.sizes.TheConstants.{MAX_PROGRAM};
 ghost use Rattle.prl_track.specs.Machine.{IsOfPlan as IsEventOf};
 ghost use Rattle.prl_base.specs.Decimals.{decimal_of};
 ghost use Rattle.prl_schedules.specs.Vocabulary.{task_names};
-ghost use Rattle.prl_explain.specs.Details.{IsLeftIn, IsLeftTold, IsOfLine, IsOfSchedule, IsPlacingIn, IsPlacingTold, IsPlanFrom, IsPlanOf};
+ghost use Rattle.prl_sentences.specs.Sentences.{word_at};
+ghost use Rattle.prl_explain.specs.Details.{IsLeftIn, IsLeftTold, IsOfLine, IsOfSchedule, IsOverloadIn, IsOverloadOf, IsPlacingIn, IsPlacingTold, IsPlanFrom, IsPlanOf, IsTableIn};
 ghost use Rattle.prl_explain.specs.Placings.{tasks_text};
 
 use crate::placings::{placing_told, push_tasks};
 use prl_base::{Label, decimal_of};
 use prl_calls::plan_of;
 use prl_cores::{CoresFault, read_cores};
+use prl_overloads::Overload;
 use prl_plan::{Event, Plan, Rule, plan_is_one};
 use prl_plantext::{PlanFault, read_plan};
 use prl_schedules::{
     ScheduleFault, TaskNames, finding_at, left_after, push_finding, push_left, read_schedule,
     without_return,
 };
+use prl_sentences::word_at;
 use prl_spots::{line_rest, line_start};
+use prl_tablefaults::{overload_told, table_told};
 use std::alloc::{AllocError, Global};
 
 /// The same name once more, where there is one.
@@ -207,5 +211,44 @@ pub(crate) fn placing_in(
     match decimal_of(argument) {
         None => Ok(Vec::new(alloc)),
         Some(number) => placing_of(alloc, plan, cores, number),
+    }
+}
+
+/// The overload that the words after the front of a line tell; None where they tell no numbers.
+fn overload_of(rest: &[u8]) -> Option<Overload>
+    ensures { IfSome result (λ told. IsOverloadOf (word_at 0 rest.now) (word_at 1 rest.now) (word_at 3 rest.now) told) }
+{
+    let from = decimal_of(word_at(rest, 0))?;
+    let to = decimal_of(word_at(rest, 1))?;
+    let demand = decimal_of(word_at(rest, 3))?;
+    Some(Overload { from, to, demand })
+}
+
+/// What is told of the overload that the words after the front of a line tell.
+#[tactic(auto, using(crate::proofs::Loads::overload_is, crate::proofs::Loads::no_overload))]
+pub(crate) fn overload_in_plan(
+    alloc: Global,
+    plan: &Plan,
+    rest: &[u8],
+) -> Result<Vec<u8>, AllocError>
+    ensures { IfOk result (λ text. IsOverloadIn plan.now (word_at 0 rest.now) (word_at 1 rest.now) (word_at 3 rest.now) text.items) }
+{
+    match overload_of(rest) {
+        None => Ok(Vec::new(alloc)),
+        Some(told) => overload_told(alloc, plan, told),
+    }
+}
+
+/// What is told of a table of the plan that is not good; nothing where none is named.
+pub(crate) fn table_in_plan(
+    alloc: Global,
+    plan: &Plan,
+    table: Option<&[u8]>,
+) -> Result<Vec<u8>, AllocError>
+    ensures { IfOk result (λ text. IsTableIn plan.now (option_map (λ text. text.now) table.entry) text.items) }
+{
+    match table {
+        None => Ok(Vec::new(alloc)),
+        Some(table) => table_told(alloc, plan, table),
     }
 }

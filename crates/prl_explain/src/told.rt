@@ -6,18 +6,23 @@ ghost use Rattle.std.specs.String.{string_bytes};
 ghost use Rattle.prl_base.specs.Decimals.{decimal_of};
 ghost use Rattle.prl_schedules.specs.ScheduleTexts.{task_names};
 ghost use Rattle.prl_sentences.specs.Sentences.{word_at};
-ghost use Rattle.prl_explain.specs.Details.{IsLeftIn, IsOfSchedule, IsPlacingIn, IsPlanFrom};
-ghost use Rattle.prl_explain.specs.Explanations.{IsByPlan, IsCountedAt, IsCountedIn, IsDetail, IsTwiceIn, IsUnexpectedIn, ask_text, program_in, words_told};
+ghost use Rattle.prl_explain.specs.Details.{IsLeftIn, IsOfSchedule, IsOverloadIn, IsPlacingIn, IsPlanFrom, IsTableIn};
+ghost use Rattle.prl_tablefaults.specs.LoadTexts.{IsUnsteadyTold};
+ghost use Rattle.prl_explain.specs.Explanations.{AreNodesIn, IsByPlan, IsCountedAt, IsCountedIn, IsDetail, IsNearIn, IsTwiceIn, IsUnexpectedIn, ask_text, program_in, words_told};
 ghost use Rattle.prl_explain.specs.Placings.{tasks_text};
 ghost use Rattle.prl_explain.specs.Texts.{AreFew, text_in};
 ghost use Rattle.prl_waytext.specs.Ways.{IsChainTold, IsCircleTold, IsClashTold, IsCycleTold};
 
-use crate::details::{broken_told, left_told, placing_in, plan_from, tasks_told};
+use crate::details::{
+    broken_told, left_told, overload_in_plan, placing_in, plan_from, table_in_plan, tasks_told,
+};
 use crate::texts::{Texts, text_in};
 use prl_arguments::words_told;
+use prl_nearest::{near_told, nodes_told};
 use prl_plan::{Plan, Rule};
 use prl_sentences::{Detail, Part, word_at};
 use prl_spots::{counts_told, here_of, twice_told, unexpected_told};
+use prl_tablefaults::unsteady_told;
 use prl_waytext::{byte_of, chain_told, circle_told, clash_told, cycle_told};
 use std::alloc::{AllocError, Global};
 
@@ -198,6 +203,64 @@ fn circle_in(alloc: Global, texts: &Texts, rest: &[u8]) -> Result<Vec<u8>, Alloc
     circle_told(alloc, program, texts.node.as_ref(), rest)
 }
 
+/// What is told of an interval that is asked for more than it has.
+#[tactic(auto, using(crate::proofs::Sayings::by_plan, crate::proofs::Sayings::without_plan))]
+fn overload_in(alloc: Global, texts: &Texts, rest: &[u8]) -> Result<Vec<u8>, AllocError>
+    requires { AreFew texts.now }
+    ensures { IfOk result (λ text. IsByPlan texts.now (λ plan told. IsOverloadIn plan (word_at 0 rest.now) (word_at 1 rest.now) (word_at 3 rest.now) told) text.items) }
+{
+    match plan_in(alloc, texts)? {
+        None => Ok(Vec::new(alloc)),
+        Some(plan) => overload_in_plan(alloc, &plan, rest),
+    }
+}
+
+/// What is told of a hyperperiod that asks for more than it has.
+#[tactic(auto, using(crate::proofs::Sayings::by_plan, crate::proofs::Sayings::without_plan))]
+fn load_in(alloc: Global, texts: &Texts) -> Result<Vec<u8>, AllocError>
+    requires { AreFew texts.now }
+    ensures { IfOk result (λ text. IsByPlan texts.now (λ plan told. IsUnsteadyTold plan told) text.items) }
+{
+    match plan_in(alloc, texts)? {
+        None => Ok(Vec::new(alloc)),
+        Some(plan) => unsteady_told(alloc, &plan),
+    }
+}
+
+/// What is told of a table that is not good.
+#[tactic(auto, using(crate::proofs::Sayings::by_plan, crate::proofs::Sayings::without_plan))]
+fn table_in(alloc: Global, texts: &Texts) -> Result<Vec<u8>, AllocError>
+    requires { AreFew texts.now }
+    ensures { IfOk result (λ text. IsByPlan texts.now (λ plan told. IsTableIn plan (text_in texts.now Part.Table) told) text.items) }
+{
+    match plan_in(alloc, texts)? {
+        None => Ok(Vec::new(alloc)),
+        Some(plan) => table_in_plan(alloc, &plan, text_in(texts, Part::Table)),
+    }
+}
+
+/// What is told of a name that the program does not know.
+fn near_in(alloc: Global, texts: &Texts, name: &[u8]) -> Result<Vec<u8>, AllocError>
+    requires { AreFew texts.now }
+    ensures { IfOk result (λ text. IsNearIn (program_in texts.now) name.now text.items) }
+{
+    match text_in(texts, Part::Program) {
+        None => Ok(Vec::new(alloc)),
+        Some(source) => near_told(alloc, source, name),
+    }
+}
+
+/// What is told where no node is main.
+fn nodes_in(alloc: Global, texts: &Texts) -> Result<Vec<u8>, AllocError>
+    requires { AreFew texts.now }
+    ensures { IfOk result (λ text. AreNodesIn (program_in texts.now) text.items) }
+{
+    match text_in(texts, Part::Program) {
+        None => Ok(Vec::new(alloc)),
+        Some(source) => nodes_told(alloc, source),
+    }
+}
+
 /// What is told beside the place and the sentence, where this stands after the front of the line.
 pub(crate) fn detail_of(
     alloc: Global,
@@ -224,5 +287,10 @@ pub(crate) fn detail_of(
         Detail::Clocks => clash_in(alloc, texts, word),
         Detail::Chain => chain_in(alloc, texts, rest),
         Detail::Circle => circle_in(alloc, texts, rest),
+        Detail::Overload => overload_in(alloc, texts, rest),
+        Detail::Load => load_in(alloc, texts),
+        Detail::Table => table_in(alloc, texts),
+        Detail::Near => near_in(alloc, texts, word),
+        Detail::Nodes => nodes_in(alloc, texts),
     }
 }

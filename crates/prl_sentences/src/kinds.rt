@@ -66,6 +66,16 @@ pub enum Detail {
     Chain,
     /// The jobs round a loop.
     Circle,
+    /// The jobs of an interval that is asked for more than it has.
+    Overload,
+    /// The jobs of a hyperperiod that asks for more than it has.
+    Load,
+    /// The entries and the jobs that a table's first fault is about.
+    Table,
+    /// A name that the program declares and that is spelt nearly so.
+    Near,
+    /// The names of the nodes.
+    Nodes,
 }
 
 /// What lines of a kind begin and end with, how they tell the place, what is wrong there, and what is told beside.

@@ -39,8 +39,10 @@ fn rule_of(tail: &str) -> Rule {
 fn detail_of(number: u64, tail: &str) -> Detail {
     match number {
         2 => Detail::Unexpected(Part::Program),
+        10 => Detail::Near,
         11 => Detail::Twice,
         12 => Detail::Numbers,
+        14 => Detail::Nodes,
         23 => Detail::Unexpected(Part::Bodies),
         30 => Detail::Cycle,
         40 => Detail::Clocks,
@@ -49,6 +51,9 @@ fn detail_of(number: u64, tail: &str) -> Detail {
         70 => Detail::Tasks,
         71 => Detail::Broken(rule_of(tail)),
         72 => Detail::Left,
+        90 => Detail::Overload,
+        91 => Detail::Load,
+        93 | 94 | 95 | 96 | 97 => Detail::Table,
         98 => Detail::Placing,
         _ => Detail::Nothing,
     }
@@ -58,6 +63,7 @@ fn detail_of(number: u64, tail: &str) -> Detail {
 fn unnumbered(front: &str) -> (Target, Detail) {
     match front {
         "overrun " => (Target::Task, Detail::Nothing),
+        "overload " => (Target::Nowhere, Detail::Overload),
         "usage: prelude MODE --OPTION VALUE .." => (Target::Nowhere, Detail::Words),
         _ => (Target::Nowhere, Detail::Nothing),
     }

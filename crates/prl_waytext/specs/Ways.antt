@@ -13,6 +13,7 @@ use Rattle.prl_ways.specs.Chains.{IsChainTo, IsCircle}
 use Rattle.prl_ways.specs.ChainTexts.{chain_text, circle_text}
 use Rattle.prl_ways.specs.Rounds.{IsRound}
 use Rattle.prl_ways.specs.RoundTexts.{flow_label, round_text}
+use Rattle.prl_waytext.specs.Longs.{IsTooLong, long_text}
 use Rattle.prl_waytext.specs.ProgramTexts.{IsFlatOf, IsGraphIn}
 
 -- the flows round a cycle of the program through the flow of this label
@@ -58,19 +59,29 @@ pub record IsChainNamed (program : List ℕ) (asked : Option (List ℕ)) (name n
   pub dated : IsDated needs date
   pub is_chain : IsChainTo graph job date chain
 
--- what is told of a job that has too little time: nothing, or the chain
+-- a task of the program whose jobs need more than they have, each alone
+pub record IsLongTold (program : List ℕ) (asked : Option (List ℕ)) (text : List ℕ) : Type 0 where
+  pub graph : TaskGraph
+  pub is_graph : IsGraphIn program asked graph
+  pub task : ℕ
+  pub long : IsTooLong graph task
+  pub is : text ≡ long_text (task_at graph task)
+
+-- what is told of a job that has too little time: a task that needs more than it has; else nothing, or the chain
 abbrev pub IsChainTold : Option (List ℕ) → Option (List ℕ) → List ℕ → List ℕ → List ℕ → List ℕ → Type 0
 IsChainTold None asked name number needs text = text ≡ []
 IsChainTold (Some program) asked name number needs text =
-    (text ≡ []) ⊎ ((graph : TaskGraph) × (chain : Chain) × IsChainNamed program asked name number needs graph chain × (text ≡ chain_text graph chain))
+    IsLongTold program asked text
+    ⊎ ((text ≡ []) ⊎ ((graph : TaskGraph) × (chain : Chain) × IsChainNamed program asked name number needs graph chain × (text ≡ chain_text graph chain)))
 
 -- a circle of jobs of the program
 pub record IsCircleOf (program : List ℕ) (asked : Option (List ℕ)) (graph : TaskGraph) (chain : Chain) : Type 0 where
   pub is_graph : IsGraphIn program asked graph
   pub is_circle : IsCircle graph chain
 
--- what is told of a job that waits for a loop: nothing, or the circle
+-- what is told of a job that waits for a loop: a task that needs more than it has; else nothing, or the circle
 abbrev pub IsCircleTold : Option (List ℕ) → Option (List ℕ) → List ℕ → Type 0
 IsCircleTold None asked text = text ≡ []
 IsCircleTold (Some program) asked text =
-    (text ≡ []) ⊎ ((graph : TaskGraph) × (chain : Chain) × IsCircleOf program asked graph chain × (text ≡ circle_text graph chain))
+    IsLongTold program asked text
+    ⊎ ((text ≡ []) ⊎ ((graph : TaskGraph) × (chain : Chain) × IsCircleOf program asked graph chain × (text ≡ circle_text graph chain)))

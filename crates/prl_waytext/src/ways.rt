@@ -9,6 +9,7 @@ ghost use Rattle.prl_sentences.specs.Sentences.{word_at};
 ghost use Rattle.prl_ways.specs.Chains.{job_of};
 ghost use Rattle.prl_base.specs.Decimals.{decimal_of};
 
+use crate::longs::{long_task, long_told};
 use crate::program_texts::{flat_of_text, graph_of_text};
 use prl_base::{Label, TaskNo, decimal_of};
 use prl_clashes::{clash_at, push_clash};
@@ -185,8 +186,9 @@ fn chain_in(
     }
 }
 
-/// What is told of a job that has too little time: the chain of jobs that it waits for, by the words of the line.
-#[tactic(auto, using(crate::proofs::Told::no_chain))]
+/// What is told of a job that has too little time: a task of the program that needs more than it has, or else the chain of jobs that
+/// the job waits for, by the words of the line.
+#[tactic(auto, using(crate::proofs::Told::chain_long, crate::proofs::Told::no_chain))]
 pub fn chain_told(
     alloc: Global,
     program: Option<&[u8]>,
@@ -200,9 +202,12 @@ pub fn chain_told(
     let Some(program) = program else {
         return Ok(Vec::new(alloc));
     };
-    match graph_of_text(alloc, program, node)? {
-        None => Ok(Vec::new(alloc)),
-        Some(graph) => chain_in(alloc, program, node, &graph, rest),
+    let Some(graph) = graph_of_text(alloc, program, node)? else {
+        return Ok(Vec::new(alloc));
+    };
+    match long_task(&graph) {
+        Some(task) => long_told(alloc, &graph, task),
+        None => chain_in(alloc, program, node, &graph, rest),
     }
 }
 
@@ -231,8 +236,8 @@ fn circle_in(
     }
 }
 
-/// What is told of a job that waits for a loop of jobs: the jobs round it.
-#[tactic(auto, using(crate::proofs::Told::no_circle))]
+/// What is told of a job that waits for a loop of jobs: a task that needs more than it has, or else the jobs round the loop.
+#[tactic(auto, using(crate::proofs::Told::circle_long, crate::proofs::Told::no_circle))]
 pub fn circle_told(
     alloc: Global,
     program: Option<&[u8]>,
@@ -245,8 +250,11 @@ pub fn circle_told(
     let Some(program) = program else {
         return Ok(Vec::new(alloc));
     };
-    match graph_of_text(alloc, program, node)? {
-        None => Ok(Vec::new(alloc)),
-        Some(graph) => circle_in(alloc, program, node, &graph, rest),
+    let Some(graph) = graph_of_text(alloc, program, node)? else {
+        return Ok(Vec::new(alloc));
+    };
+    match long_task(&graph) {
+        Some(task) => long_told(alloc, &graph, task),
+        None => circle_in(alloc, program, node, &graph, rest),
     }
 }

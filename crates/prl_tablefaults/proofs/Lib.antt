@@ -1,0 +1,4 @@
+mod Faults
+mod Joins
+mod LoadParts
+mod UnitSums
