@@ -2,7 +2,7 @@
 use Rattle.prl_base.proofs.Standard.{◌≡◌, ◌+◌, ◌<◌, ◌≤◌, ◌++◌, ◌∷◌, ◌∙◌, ℕ, List, [], length, ap, sym, arith, range_with_len, map-id, map-range_with_len_more, All, All-get_or}
 use Rattle.prl_plan.specs.Plans.{PlanView}
 use Rattle.prl_plan.specs.declared.limits.TheConstants.{MAX_TASKS}
-use Rattle.prl_views.specs.Views.{AreTasks}
+use Rattle.prl_shapes.specs.Views.{AreTasks}
 
 pub are_tasks : (plan : PlanView) (rows : List ℕ) → All (λ k. k < length plan.graph.tasks) rows → length rows ≤ MAX_TASKS → AreTasks plan rows
 are_tasks plan rows inside few = record {

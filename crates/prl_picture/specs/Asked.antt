@@ -13,8 +13,8 @@ use Rattle.prl_schedules.specs.Schedules.{schedule_of}
 use Rattle.prl_schedules.specs.ScheduleTexts.{task_names}
 use Rattle.prl_cores.specs.Processors.{processors_of}
 use Rattle.prl_tables.specs.TableTexts.{entries_of}
-use Rattle.prl_views.specs.declared.shown.Shown.{Shown}
-use Rattle.prl_views.specs.declared.shown.Shown.TheVariants as kinds
+use Rattle.prl_shapes.specs.declared.kinds.Shown.{Shown}
+use Rattle.prl_shapes.specs.declared.kinds.Shown.TheVariants as kinds
 
 -- the file of this name has a text of which this holds
 abbrev pub HasText : Folder → List ℕ → (List ℕ → Type 0) → Type 0

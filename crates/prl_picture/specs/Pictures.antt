@@ -7,12 +7,12 @@ use Rattle.prl_base.specs.Decimals.{decimal_of}
 use Rattle.prl_plan.specs.Jobs.{task_at}
 use Rattle.prl_plan.specs.Plans.{PlanView}
 use Rattle.prl_plantext.specs.ReadTexts.{IsTextOf}
-use Rattle.prl_views.specs.declared.shown.Shown.{Shown}
-use Rattle.prl_views.specs.declared.views.View.{View}
+use Rattle.prl_shapes.specs.declared.kinds.Shown.{Shown}
+use Rattle.prl_shapes.specs.declared.views.View.{View}
 use Rattle.prl_picture.specs.Asked.{IsAsked}
 use Rattle.prl_picture.specs.Ranges.{IsDefaultEnd, IsRange}
 use Rattle.prl_views.specs.Drawn.{IsPictureOf}
-use Rattle.prl_views.specs.Shown.{IsOfPlan}
+use Rattle.prl_shapes.specs.Shown.{IsOfPlan}
 use Rattle.prl_picture.specs.Chosen.{all_rows, near_rows}
 
 -- the first tick that the words ask for: 0 where they do not say it

@@ -7,7 +7,7 @@ use Rattle.prl_plan.specs.Operands.{operand_of}
 use Rattle.prl_plan.specs.Plans.{PlanView, edge_at}
 use Rattle.prl_plan.specs.Precedence.{ComesFrom}
 use Rattle.prl_drawing.specs.declared.scales.Scale.{Scale}
-use Rattle.prl_views.specs.Acts.{is_in}
+use Rattle.prl_shapes.specs.Acts.{is_in}
 use Rattle.prl_picture.specs.declared.defaults.TheConstants.{REACH}
 use Rattle.prl_picture.specs.declared.ranges.TheConstants.{MAX_UNTIL}
 

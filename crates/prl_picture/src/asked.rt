@@ -6,7 +6,7 @@ ghost use Rattle.prl_cores.specs.Spreads.{IsSpreadOf, LeavesRoom};
 ghost use Rattle.prl_cores.specs.Processors.{IsOfTasks};
 ghost use Rattle.prl_picture.specs.Asked.{IsAsked, IsDispatchedList, IsListed, IsPlacedEvents, IsPlacedRun, IsSchedule, IsTableOf, IsUpTo, TellsProcessors};
 ghost use Rattle.prl_tables.specs.Vocabulary.{entries_of, IsGood};
-ghost use Rattle.prl_views.specs.Shown.{IsOfPlan};
+ghost use Rattle.prl_shapes.specs.Shown.{IsOfPlan};
 
 use crate::ranges::MAX_UNTIL;
 use crate::words::FORM;

@@ -3,7 +3,7 @@
 ghost use Rattle.std.specs.Prelude.{◌≡◌, ◌+◌, ◌<◌, ◌≤◌, ◌++◌, ◌∷◌, [], All, IfOk, IfSome, OnOk, length};
 ghost use Rattle.prl_plan.specs.Jobs.{task_at};
 ghost use Rattle.prl_picture.specs.Chosen.{all_rows, connect_any, connects, is_near, is_task, near_one, near_rows};
-ghost use Rattle.prl_views.specs.Views.{AreTasks};
+ghost use Rattle.prl_shapes.specs.Views.{AreTasks};
 
 use prl_base::TaskNo;
 use prl_plan::{Edge, Plan, Producer, plan_is_one};

@@ -4,8 +4,8 @@
 ghost use Rattle.std.specs.Prelude.{◌≡◌, ◌<◌, ◌≤◌, ◌^◌, ◌⊎◌, ℕ, IfNone, IfSome, MatchOption, length, min, slice_index, true};
 ghost use Rattle.prl_plan.specs.Vocabulary.{task_at, edge_at, ComesFrom};
 ghost use Rattle.prl_picture.specs.Ranges.{EndsFirst, HasArrow, IsArrow, IsDefaultEnd, IsEndOf, IsEndOfReading, IsReleasedIn};
-ghost use Rattle.prl_views.specs.Acts.{is_in};
-ghost use Rattle.prl_views.specs.Views.{AreTasks};
+ghost use Rattle.prl_shapes.specs.Acts.{is_in};
+ghost use Rattle.prl_shapes.specs.Views.{AreTasks};
 
 use crate::ranges::MAX_UNTIL;
 use prl_base::{EdgeNo, TaskNo};

@@ -6,7 +6,7 @@ ghost use Rattle.std.specs.String.{string_bytes};
 ghost use Rattle.prl_io.specs.Pairs.{asks_help};
 ghost use Rattle.prl_picture.specs.Pictures.{Answers, AreAsked, AreRows, IsDrawn, IsNearRows, IsPicture};
 ghost use Rattle.prl_picture.specs.Ranges.{IsRange};
-ghost use Rattle.prl_views.specs.Views.{AreTasks, IsView};
+ghost use Rattle.prl_shapes.specs.Views.{AreTasks, IsView};
 
 use crate::asked::shown;
 use crate::chosen::{all_rows, near_rows, task_named};

@@ -2,7 +2,7 @@
 
 ghost use Rattle.std.specs.Prelude.{◌≡◌, ◌<◌, ◌≤◌, ◌^◌, length};
 ghost use Rattle.prl_picture.specs.Ranges.{IsRange};
-ghost use Rattle.prl_views.specs.Views.{AreTasks};
+ghost use Rattle.prl_shapes.specs.Views.{AreTasks};
 
 use prl_base::TaskNo;
 use prl_drawing::Scale;

@@ -3,7 +3,7 @@
 ghost use Rattle.std.specs.Prelude.{◌<◌, ◌≤◌, IfSome, map};
 ghost use Rattle.std.specs.String.{string_bytes};
 ghost use Rattle.prl_picture.specs.Pictures.{AreAsked, IsFirst, IsLast};
-ghost use Rattle.prl_views.specs.Views.{AreTasks};
+ghost use Rattle.prl_shapes.specs.Views.{AreTasks};
 
 use crate::defaults::default_end;
 use crate::ranges::MAX_UNTIL;

@@ -6,11 +6,11 @@ use Rattle.prl_drawing.specs.declared.scales.Scale.{Scale}
 use Rattle.prl_drawing.specs.Boxes.{mark_text}
 use Rattle.prl_drawing.specs.Rows.{row_of}
 use Rattle.prl_drawing.specs.Scales.{is_seen, x_within}
-use Rattle.prl_views.specs.declared.acts.Act.{Act}
+use Rattle.prl_shapes.specs.declared.acts.Act.{Act}
 use Rattle.prl_views.specs.declared.parts.Part.{Part}
 use Rattle.prl_views.specs.declared.parts.TheConstants.{MOST_PROCESSORS}
 use Rattle.prl_views.specs.declared.verdicts.TheConstants.{HIGH}
-use Rattle.prl_views.specs.Acts.{is_in}
+use Rattle.prl_shapes.specs.Acts.{is_in}
 
 -- the processor, where it has tasks
 abbrev pub used_one : List ℕ → ℕ → List ℕ

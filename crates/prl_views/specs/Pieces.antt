@@ -15,14 +15,14 @@ use Rattle.prl_drawing.specs.Boxes.{box_text, mark_text}
 use Rattle.prl_drawing.specs.Rows.{row_of}
 use Rattle.prl_drawing.specs.Scales.{is_seen, x_within}
 use Rattle.prl_views.specs.declared.parts.Part.{Part}
-use Rattle.prl_views.specs.declared.shown.Shown.{Shown}
-use Rattle.prl_views.specs.declared.shown.Shown.TheVariants as kinds
-use Rattle.prl_views.specs.declared.views.View.{View}
+use Rattle.prl_shapes.specs.declared.kinds.Shown.{Shown}
+use Rattle.prl_shapes.specs.declared.kinds.Shown.TheVariants as kinds
+use Rattle.prl_shapes.specs.declared.views.View.{View}
 use Rattle.prl_views.specs.declared.verdicts.TheConstants.{BELOW, HIGH, LOW}
-use Rattle.prl_views.specs.Acts.{acts_of}
-use Rattle.prl_views.specs.JobsShown.{drawn_jobs}
+use Rattle.prl_shapes.specs.Acts.{acts_of}
+use Rattle.prl_shapes.specs.JobsShown.{drawn_jobs}
 use Rattle.prl_views.specs.Parts.{ArePartsOf, part_text}
-use Rattle.prl_views.specs.Views.{row_in}
+use Rattle.prl_shapes.specs.Views.{row_in}
 
 -- what stands over the ticks of a piece, in the colour of its task
 abbrev pub box_of : Scale → Piece → ℕ → ℕ → List ℕ

@@ -2,17 +2,14 @@
 
 ghost use Rattle.std.specs.Prelude.{◌≡◌, ◌<◌, IfSome, length, slice_index};
 ghost use Rattle.prl_plan.specs.Vocabulary.{job_count, task_at, edge_at};
-ghost use Rattle.prl_views.specs.Shown.{IsOfPlan};
-ghost use Rattle.prl_views.specs.Views.{IsView};
+ghost use Rattle.prl_shapes.specs.Shown.{IsOfPlan};
+ghost use Rattle.prl_shapes.specs.Views.{IsView};
 
 use crate::courses::{Course, course_of};
-use crate::look_ups::{edge_of, job_count, operand_of};
-use crate::shapes::{first_shown, shape_of};
-use crate::shown::Shown;
-use crate::views::{View, row_in};
 use prl_base::{EdgeNo, Op};
 use prl_drawing::{Way, is_followed, push_all, push_arrow, push_arrow_legend};
 use prl_plan::{Edge, Operand, Plan, Producer, plan_is_one};
+use prl_shapes::{Shown, View, edge_of, first_shown, job_count, operand_of, row_in, shape_of};
 use std::alloc::{AllocError, Global};
 
 /// Whether a delay lies on an edge: an operator that puts initial values before a flow.

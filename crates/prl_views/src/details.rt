@@ -2,12 +2,12 @@
 
 ghost use Rattle.std.specs.Prelude.{◌<◌, ◌^◌, length};
 
-use crate::look_ups::{edge_of, job_count, operand_of, task_of};
 use prl_base::{EdgeNo, TaskNo};
 use prl_drawing::{
     Scale, Shape, Unit, push, push_all, push_bar, push_own_dates, push_telling, push_time, row_of,
 };
 use prl_plan::{Operand, Plan, Producer, plan_is_one};
+use prl_shapes::{edge_of, job_count, operand_of, task_of};
 use std::alloc::AllocError;
 
 /// Appends the name of a task.

@@ -5,17 +5,16 @@ ghost use Rattle.std.specs.List.{flat_map};
 ghost use Rattle.prl_drawing.specs.Windows.{window_text};
 ghost use Rattle.prl_views.specs.Drawn.{IsPictureOf};
 ghost use Rattle.prl_views.specs.Pieces.{IsPiecesText};
-ghost use Rattle.prl_views.specs.Shown.{IsOfPlan};
-ghost use Rattle.prl_views.specs.Views.{IsView};
+ghost use Rattle.prl_shapes.specs.Shown.{IsOfPlan};
+ghost use Rattle.prl_shapes.specs.Views.{IsView};
 
 use crate::arrows::push_arrows;
 use crate::details::push_details;
 use crate::heads::push_head;
-use crate::shapes::shapes_of;
-use crate::shown::{Shown, pieces, push_shown, rows_of};
-use crate::views::View;
+use crate::shown::{pieces, push_shown, rows_of};
 use prl_drawing::{Shape, Unit, push, push_numbers, windows};
 use prl_plan::Plan;
+use prl_shapes::{Shown, View, shapes_of};
 use std::alloc::{AllocError, Global};
 
 /// What is drawn over the windows.

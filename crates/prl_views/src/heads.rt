@@ -1,11 +1,10 @@
 //! The head of a picture: what is drawn, the ticks, and the names of the tasks.
 
-ghost use Rattle.prl_views.specs.Views.{IsView};
+ghost use Rattle.prl_shapes.specs.Views.{IsView};
 
-use crate::look_ups::task_of;
-use crate::views::View;
 use prl_drawing::{Unit, push_name, push_opening, push_ticks, push_title, row_of};
 use prl_plan::Plan;
+use prl_shapes::{View, task_of};
 use std::alloc::AllocError;
 
 /// Appends the names of the tasks of the rows.

@@ -9,10 +9,10 @@ ghost use Rattle.prl_views.specs.declared.parts.Part.{Part as AnyPart};
 ghost use Rattle.prl_views.specs.Parts.{ArePartsOf, IsWithin, is_act_seen, part_text, processor_row, seen_one, tick_width, used_of, used_one};
 ghost use Rattle.prl_drawing.specs.Scales.{IsScale};
 
-use crate::acts::{Act, is_in};
 use crate::verdicts::HIGH;
 use prl_base::TaskNo;
 use prl_drawing::{GAP, Scale, push_mark, row_of, x_within};
+use prl_shapes::{Act, is_in};
 use std::alloc::{AllocError, Global};
 
 /// How many processors there are at most.

@@ -4,10 +4,10 @@ ghost use Rattle.std.specs.Prelude.{◌≡◌, ◌≤◌, length};
 ghost use Rattle.prl_plan.specs.declared.limits.TheConstants.{MAX_TASKS};
 ghost use Rattle.prl_views.specs.Parts.{used_of};
 
-use crate::look_ups::task_of;
 use crate::parts::{MOST_PROCESSORS, Part, processor_row};
 use prl_drawing::{Unit, push_all, push_part_name, push_processor, second_line};
 use prl_plan::Plan;
+use prl_shapes::task_of;
 use std::alloc::AllocError;
 
 /// How many tasks run on a processor.

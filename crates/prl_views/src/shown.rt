@@ -6,40 +6,27 @@ ghost use Rattle.std.specs.List.{flat_map};
 ghost use Rattle.prl_plan.specs.declared.limits.TheConstants.{MAX_TASKS};
 ghost use Rattle.prl_views.specs.Loads.{busy_before};
 ghost use Rattle.prl_views.specs.Pieces.{IsPartsText, IsPiecesText, piece_text, marks_text, table_pieces};
-ghost use Rattle.prl_views.specs.Shown.{IsOfPlan};
-ghost use Rattle.prl_views.specs.Views.{IsView};
+ghost use Rattle.prl_shapes.specs.Shown.{IsOfPlan};
+ghost use Rattle.prl_shapes.specs.Views.{IsView};
 ghost use Rattle.prl_drawing.specs.Scales.{IsScale};
 ghost use Rattle.prl_tables.specs.Tables.{IsGood};
 
-use crate::acts::acts_of;
 use crate::parts::{part_texts, parts_of, used_of};
 use crate::processors::{push_labels, push_rows};
 use crate::signs::push_signs;
 use crate::tables::{load_of, marks_of, pieces_of};
 use crate::verdicts::{busy_before, push_names, push_piece};
-use crate::views::View;
 use prl_cores::Spread;
 use prl_drawing::{Load, Overload, Shape, Unit, push_all_counted, push_load, push_overload};
 use prl_edf::{Piece, Verdict};
 use prl_plan::{Event, Horizon, Plan};
+use prl_shapes::{Shown, View, acts_of};
 use prl_tables::Table;
 use std::alloc::{AllocError, Global};
 
 /// What the pieces of a run mean.
 const LEGEND: &str = "<rect class=\"s t7\" x=\"1600\" y=\"590\" width=\"300\" height=\"80\"/>\
     <text x=\"1960\" y=\"670\">processor's time, earliest deadline first</text>\n";
-
-/// What is drawn beside the windows.
-pub enum Shown {
-    /// What a schedule does; nothing where it has no event.
-    Events(Vec<Event>),
-    /// What the analysis has found of the jobs of a horizon, for one processor.
-    Verdict(Horizon, Verdict),
-    /// The tasks on several processors, and what a run does there.
-    Cores(Spread, Vec<Event>),
-    /// A static cyclic table.
-    Table(Table),
-}
 
 /// How many rows are drawn: one for each task of the view, and one for each processor where these are
 /// shown.
@@ -213,19 +200,5 @@ pub(crate) fn push_shown(
         }
         Shown::Cores(spread, events) => push_run(alloc, text, plan, view, unit, spread, events),
         Shown::Table(table) => push_table(alloc, text, plan, view, unit, table),
-    }
-}
-
-impl Drop for Shown {
-    fn drop(self) {
-        match self {
-            Shown::Events(part) => drop(part),
-            Shown::Verdict(_, part1) => drop(part1),
-            Shown::Cores(part0, part1) => {
-                drop(part0);
-                drop(part1);
-            }
-            Shown::Table(part) => drop(part),
-        }
     }
 }

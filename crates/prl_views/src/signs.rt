@@ -1,12 +1,10 @@
 //! What a schedule does, below the windows: which task acts at which tick.
 
-ghost use Rattle.prl_views.specs.Views.{IsView};
+ghost use Rattle.prl_shapes.specs.Views.{IsView};
 
-use crate::acts::Act;
-use crate::look_ups::task_of;
-use crate::views::{View, row_in};
 use prl_drawing::{Unit, push, push_sign};
 use prl_plan::Plan;
+use prl_shapes::{Act, View, row_in, task_of};
 use std::alloc::AllocError;
 
 /// What the sign of an act means.

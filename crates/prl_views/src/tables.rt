@@ -4,16 +4,14 @@
 ghost use Rattle.std.specs.Prelude.{◌≡◌, ◌+◌, ◌*◌, ◌/◌, ◌%◌, ◌==◌, ◌<◌, ◌++◌, ◌^◌, IfOk, OnOk, length};
 ghost use Rattle.prl_tables.specs.Tables.{IsGood, classes};
 ghost use Rattle.prl_views.specs.Pieces.{done_text, entry_pieces, marks_text, piece_if, piece_of, row_marks, table_pieces};
-ghost use Rattle.prl_views.specs.Views.{IsView};
+ghost use Rattle.prl_shapes.specs.Views.{IsView};
 
-use crate::look_ups::job_count;
-use crate::shapes::first_shown;
 use crate::verdicts::{BELOW, LOW};
-use crate::views::View;
 use prl_base::TaskNo;
 use prl_drawing::{Load, push_mark, row_of, x_within};
 use prl_edf::Piece;
 use prl_plan::{Plan, plan_is_one};
+use prl_shapes::{View, first_shown, job_count};
 use prl_tables::{
     Checked, Entry, Table, check_table, classes, classes_are_early, pieces_are_short,
 };

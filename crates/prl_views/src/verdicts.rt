@@ -6,16 +6,15 @@ ghost use Rattle.prl_plan.specs.declared.limits.TheConstants.{MAX_TASKS};
 ghost use Rattle.prl_views.specs.Loads.{busy_before};
 ghost use Rattle.prl_views.specs.Pieces.{high_text, low_text, piece_text};
 ghost use Rattle.prl_drawing.specs.Scales.{IsScale};
-ghost use Rattle.prl_views.specs.Views.{IsView};
+ghost use Rattle.prl_shapes.specs.Views.{IsView};
 
-use crate::look_ups::task_of;
-use crate::views::{View, row_in};
 use prl_drawing::{
     GAP, LEAST, Scale, Slice, Unit, is_seen, push_box, push_short_legend, push_slice_name, row_of,
     x_within,
 };
 use prl_edf::Piece;
 use prl_plan::Plan;
+use prl_shapes::{View, row_in, task_of};
 use std::alloc::AllocError;
 
 /// How high a piece is in the row of the processor.

@@ -1,5 +1,5 @@
 use Rattle.std.proofs.Common.{length, rules}
-use Rattle.prl_views.proofs.Counts.{flattened}
+use Rattle.prl_shapes.proofs.Counts.{flattened}
 use Rattle.example_drawing.specs.Bars.{bar_text}
 use Rattle.example_drawing.proofs.bars.push_bars.Goals as goal
 

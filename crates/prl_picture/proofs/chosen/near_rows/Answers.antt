@@ -1,6 +1,6 @@
 use Rattle.std.proofs.Common.{length, arith, rules}
 use Rattle.prl_picture.specs.Chosen.{near_one}
-use Rattle.prl_views.proofs.Counts.{flattened}
+use Rattle.prl_shapes.proofs.Counts.{flattened}
 use Rattle.prl_picture.proofs.chosen.near_rows.Goals as goal
 
 pub loop-j-preserved : goal.loop-j-preserved

@@ -1,7 +1,7 @@
 use Rattle.prl_base.proofs.Standard.{◌≡◌, ◌≤◌, ◌∙◌, ℕ, inl, inr, true, ap, subst, arith, rules, cases_lt}
 use Rattle.prl_plan.specs.Vocabulary.{job_count, task_at, edge_at, ComesFrom}
 use Rattle.prl_plan.specs.declared.graphs.Edge.{Edge}
-use Rattle.prl_views.specs.Acts.{is_in}
+use Rattle.prl_shapes.specs.Acts.{is_in}
 use Rattle.prl_picture.specs.Ranges.{IsArrow}
 use Rattle.prl_picture.proofs.Arrows.{one_producer}
 use Rattle.prl_picture.proofs.defaults.arrow_end.Goals as goal

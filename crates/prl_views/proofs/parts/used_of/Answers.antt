@@ -1,7 +1,7 @@
 use Rattle.std.proofs.Common.{arith, rules}
 use Rattle.prl_views.specs.declared.parts.TheConstants.{MOST_PROCESSORS}
 use Rattle.prl_views.specs.Parts.{used_one}
-use Rattle.prl_views.proofs.Counts.{flattened}
+use Rattle.prl_shapes.proofs.Counts.{flattened}
 use Rattle.prl_views.proofs.parts.used_of.Goals as goal
 
 pub loop-processor-preserved : goal.loop-processor-preserved

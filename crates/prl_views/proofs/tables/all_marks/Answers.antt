@@ -1,6 +1,6 @@
 use Rattle.std.proofs.Common.{length, rules}
 use Rattle.prl_views.specs.Pieces.{row_marks}
-use Rattle.prl_views.proofs.Counts.{flattened}
+use Rattle.prl_shapes.proofs.Counts.{flattened}
 use Rattle.prl_views.proofs.tables.all_marks.Goals as goal
 
 pub loop-row-preserved : goal.loop-row-preserved

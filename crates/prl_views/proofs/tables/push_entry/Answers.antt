@@ -1,5 +1,5 @@
 use Rattle.prl_views.specs.Pieces.{piece_if}
-use Rattle.prl_views.proofs.Counts.{flattened}
+use Rattle.prl_shapes.proofs.Counts.{flattened}
 use Rattle.prl_views.proofs.tables.push_entry.Goals as goal
 
 pub loop-n-preserved : goal.loop-n-preserved
