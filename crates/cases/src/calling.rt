@@ -4,6 +4,7 @@ use crate::calls::{Call, limits_of};
 use crate::report::Report;
 use prl_app::prelude_alone;
 use prl_explain::explain;
+use prl_frame::tell_frame;
 use prl_io::{MemFiles, MemSink};
 use prl_page::page;
 use prl_picture::draw;
@@ -63,6 +64,7 @@ fn status_on(
     match program(words) {
         "prelude" => prelude_status(report, words, files, sinks),
         "prelude_explain" => explain(alloc, words, line, files, &mut sinks.out, &mut sinks.err),
+        "prelude_frame" => tell_frame(alloc, words, files, &mut sinks.out, &mut sinks.err),
         "prelude_page" => page(alloc, words, files, &mut sinks.out, &mut sinks.err),
         "prelude_picture" => draw(alloc, words, files, &mut sinks.out, &mut sinks.err),
         "prelude_plot" => plot(alloc, words, files, &mut sinks.out, &mut sinks.err),
